@@ -1,0 +1,4 @@
+pub mod Names
+pub mod Demand
+pub mod Subscribers
+pub mod Faults

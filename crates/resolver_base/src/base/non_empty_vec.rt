@@ -1,0 +1,117 @@
+//! A list that is never empty.
+
+ghost use Rattle.std.specs.Prelude.{◌≡◌, ◌<◌, ◌≤◌, ◌-◌, insert, [], ◌∷◌, ◌++◌, length, IfOk, IfErr, OnOk, OnErr, slice_get, Some, IsOk};
+ghost use Rattle.std.specs.List.{list_any};
+
+use std::alloc::{AllocError, AllocFailed, Global};
+use std::marker::Model;
+
+/// A list with at least one item. Contracts see it as that list.
+#[derive(Debug, Drop)]
+pub struct NonEmptyVec<T> {
+    items: Vec<T>,
+}
+
+impl<T> Model for NonEmptyVec<T> {
+    ghost use Rattle.std.specs.Prelude.{List, ◌<◌, length};
+
+    ghost Value = { List T };
+
+    ghost view = { λ a. a.items.items };
+
+    ghost invariant = { λ a. 0 < length a.items.items };
+}
+
+impl<T: Drop> NonEmptyVec<T> {
+    /// A list of one item. Where memory is wanting, the item comes back in the error.
+    pub fn new(alloc: Global, item: T) -> Result<Self, AllocFailed<T>>
+        ensures ok { IfOk result (λ list. list ≡ item ∷ []) }
+        ensures value_returned { IfErr result (λ failed. failed.value ≡ item) }
+    {
+        let mut items = Vec::new(alloc);
+        items.push(item)?;
+        Ok(NonEmptyVec { items })
+    }
+
+    /// The list of these items, in the memory that they have. An empty list is handed back.
+    pub fn try_from(items: Vec<T>) -> Result<Self, Vec<T>>
+        ensures ok { IfOk result (λ list. list ≡ items.items) }
+        ensures empty { IfErr result (λ back. (back ≡ items) × (items.items ≡ [])) }
+    {
+        if items.is_empty() {
+            Err(items)
+        } else {
+            Ok(NonEmptyVec { items })
+        }
+    }
+
+    /// The first item.
+    pub fn first(&self) -> &T
+        ensures { slice_get self.now 0 ≡ Some result.now }
+    {
+        &self.items[0]
+    }
+
+    /// How many items there are: at least one.
+    pub fn len(&self) -> usize
+        ensures count { result ≡ length self.now }
+        ensures positive { 0 < result }
+    {
+        self.items.len()
+    }
+
+    /// Whether an item equals this one. It takes linear time.
+    pub fn contains(&self, item: &T) -> bool
+    where
+        T: PartialEq,
+        ensures { result ≡ list_any (λ other. T.eq other item.now) self.now }
+    {
+        self.items.iter().any(|other| other == item)
+    }
+
+    /// The items in their order.
+    pub fn as_slice(&self) -> &[T]
+        ensures value { result.now ≡ self.now }
+        ensures positive { 0 < length result.now }
+    {
+        self.items.as_slice()
+    }
+
+    /// Puts an item last. Where memory is wanting, the item comes back in the error.
+    pub fn push(&mut self, item: T) -> Result<(), AllocFailed<T>>
+        ensures ok { OnOk result (self.new ≡ self.old ++ item ∷ []) }
+        ensures err { OnErr result (self.new ≡ self.old) }
+        ensures value_returned { IfErr result (λ failed. failed.value ≡ item) }
+    {
+        self.items.push(item)
+    }
+
+    /// Puts an item at this place, with those from there on behind it. It takes linear time.
+    pub fn insert(&mut self, index: usize, item: T) -> Result<(), AllocFailed<T>>
+        requires within { index ≤ length self.old }
+        ensures ok { OnOk result (self.new ≡ insert self.old index item) }
+        ensures err { OnErr result (self.new ≡ self.old) }
+        ensures value_returned { IfErr result (λ failed. failed.value ≡ item) }
+    {
+        self.items.insert(index, item)
+    }
+
+    /// The items as a plain list, in the memory that they have.
+    pub fn into_vec(self) -> Vec<T>
+        ensures items { result.items ≡ self }
+        ensures positive { 0 < length result.items }
+    {
+        self.items
+    }
+}
+
+impl<T: Clone> NonEmptyVec<T> {
+    /// A list of clones, which are to equal their sources.
+    pub fn clone(&self) -> Result<Self, AllocError>
+        requires clones { (x y : T) → T.is_clone x y → y ≡ x }
+        ensures same { IfOk result (λ list. list ≡ self.now) }
+    {
+        let items = self.items.clone()?;
+        Ok(NonEmptyVec { items })
+    }
+}
