@@ -1,0 +1,10 @@
+pub mod Mapped
+pub mod Going
+pub mod Running
+pub mod Dues
+pub mod Joined
+pub mod Deliveries
+pub mod Rows
+pub mod Tallies
+pub mod OpaqueDemand
+pub mod Marks

@@ -1,0 +1,14 @@
+//! Fetching data by key for many subscribers: a fetch persists until it is retired, a key has one
+//! request at a time, and a response serves late subscribers too.
+//!
+//! The machines here take one input at a time and answer with effects; they hold no clock, no
+//! socket and no thread. `opaque::Actor` fetches from one opaque source.
+#![tactic(auto)]
+
+pub use resolver_base::base;
+pub use resolver_base::root::{Delivery, Fetch, Outcome, Resolution};
+pub use resolver_demand::ingress;
+
+pub mod laws;
+pub mod opaque;
+mod ruling;
