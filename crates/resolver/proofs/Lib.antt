@@ -8,3 +8,6 @@ pub mod Rows
 pub mod Tallies
 pub mod OpaqueDemand
 pub mod Marks
+pub mod Pairs
+pub mod Bridge
+pub mod OpaqueKept

@@ -26,8 +26,10 @@ use Rattle.resolver_base.specs.declared.base.fault.Fault.{Fault}
 use Rattle.resolver_base.specs.declared.base.fault.Fault.TheVariants as faults
 use Rattle.resolver.specs.Opaque.{Status, Running, Ended, Failed, step_in, step_done}
 use Rattle.resolver.specs.OpaqueSteps.{Input, Runs}
-use Rattle.resolver.specs.OpaqueLaws.{taken, demanded, KeepsDemand}
+use Rattle.resolver.specs.OpaqueLaws.{taken, demanded}
 use Rattle.resolver.specs.Account.{nothing_asked}
+use Rattle.resolver.specs.Table.{table}
+use Rattle.resolver.specs.Opaque.{opening}
 use Rattle.resolver.proofs.Tallies.{opening-tallies}
 use Rattle.resolver.proofs.Mapped.{seen, set_value-seen, insert_entry-seen, remove_entry-seen}
 use Rattle.resolver.proofs.Deliveries.{Each, Each-find, Each-lookup}
@@ -175,18 +177,18 @@ module _ {K V S : Type 0} (n : Names K S) where
   asked_idle attempt (Judged j) is = cc
 
   -- The account after an input is what the machine stands at then.
-  abbrev Tells : Account K S → Change K S → Option (Done K V S) → Type 0
-  Tells a change o = IfSome o (λ d. Tallies n (standing_of d.machine) (account_after n a change (handed_out d.effects)))
+  abbrev Tells : Account K S (List (K × List (S × ℕ))) → Change K S → Option (Done K V S) → Type 0
+  Tells a change o = IfSome o (λ d. Tallies n (standing_of d.machine) (account_after (table n) a change (handed_out d.effects)))
 
   -- what follows for the account
-  comes-tallies : (a : Account K S) (change : Change K S) (t : Standing K S) (handed : List (ℕ × Handed K S)) (o : Option (Done K V S)) → Tallies n t (account_after n a change handed) → IfSome o (Comes t handed)
+  comes-tallies : (a : Account K S (List (K × List (S × ℕ)))) (change : Change K S) (t : Standing K S) (handed : List (ℕ × Handed K S)) (o : Option (Done K V S)) → Tallies n t (account_after (table n) a change handed) → IfSome o (Comes t handed)
       → Tells a change o
   comes-tallies a change t handed None tallies comes = tt
   comes-tallies a change t handed (Some d) tallies comes =
-      subst (λ t. Tallies n t (account_after n a change (handed_out d.effects))) (sym comes.0) (subst (λ hs. Tallies n t (account_after n a change hs)) (sym comes.1) tallies)
+      subst (λ t. Tallies n t (account_after (table n) a change (handed_out d.effects))) (sym comes.0) (subst (λ hs. Tallies n t (account_after (table n) a change hs)) (sym comes.1) tallies)
 
-  fetched-tallies : IsEquivalence (same_key n) → (m : Machine K V S) (a : Account K S) (now attempt : ℕ) (value : Option V) → Tallies n (standing_of m) a
-      → IfSome (fetched n m now attempt value) (λ d. Tallies n (standing_of d.machine) (account_after n a Leaves (handed_out d.effects)))
+  fetched-tallies : IsEquivalence (same_key n) → (m : Machine K V S) (a : Account K S (List (K × List (S × ℕ)))) (now attempt : ℕ) (value : Option V) → Tallies n (standing_of m) a
+      → IfSome (fetched n m now attempt value) (λ d. Tallies n (standing_of d.machine) (account_after (table n) a Leaves (handed_out d.effects)))
   fetched-tallies laws m a now attempt value tallies = at value (find (λ r. is_asked_by attempt r.1.phase) m.rows) refl
     where
       with_rows : List (K × Held S) → Standing K S
@@ -200,10 +202,10 @@ module _ {K V S : Type 0} (n : Names K S) where
       with_judging r judging = Some (record { subscribers = r.1.subscribers; judging = judging })
 
       at : (value : Option V) (o : Option (K × Row V S)) → find (λ r. is_asked_by attempt r.1.phase) m.rows ≡ o
-          → IfSome (fetched_for n m now value o) (λ d. Tallies n (standing_of d.machine) (account_after n a Leaves (handed_out d.effects)))
+          → IfSome (fetched_for n m now value o) (λ d. Tallies n (standing_of d.machine) (account_after (table n) a Leaves (handed_out d.effects)))
       at value None is = stays n (standing_of m) a tallies
       at None (Some r) is =
-          subst (λ t. Tallies n t (account_after n a Leaves []))
+          subst (λ t. Tallies n t (account_after (table n) a Leaves []))
           (ap with_rows (sym (idle_row m r.0 r.1.subscribers (Waiting (now + m.delay)) laws refl ((row r is).0 ∙ ap (with_judging r) (asked_idle attempt r.1.phase (row r is).1)))))
           (stays n (standing_of m) a tallies)
       at (Some value) (Some r) is =
@@ -234,10 +236,10 @@ module _ {K V S : Type 0} (n : Names K S) where
           subst (λ r. IfSome (hand_out n m h.key (s ∷ rest) j.response j.value accepted) (Comes (hands n (standing_of m) h.key (s ∷ rest) r accepted) ((m.next_number, record { response = r; key = h.key; subscribers = s ∷ rest }) ∷ []))) same
           (hand_out-comes m h.key (s ∷ rest) j.response j.value accepted)
 
-  verdict-tallies : IsEquivalence (same_key n) → (m : Machine K V S) (a : Account K S) (now number : ℕ) (outcome : Option Outcome) → Tallies n (standing_of m) a
-      → IfSome (verdict n m now number outcome) (λ d. Tallies n (standing_of d.machine) (account_after n a (Judges number outcome) (handed_out d.effects)))
+  verdict-tallies : IsEquivalence (same_key n) → (m : Machine K V S) (a : Account K S (List (K × List (S × ℕ)))) (now number : ℕ) (outcome : Option Outcome) → Tallies n (standing_of m) a
+      → IfSome (verdict n m now number outcome) (λ d. Tallies n (standing_of d.machine) (account_after (table n) a (Judges number outcome) (handed_out d.effects)))
   verdict-tallies laws m a now number outcome tallies =
-      subst (λ o. IfSome (verdict_on n m now number outcome o) (λ d. Tallies n (standing_of d.machine) (account_after n a (Judges number outcome) (handed_out d.effects)))) (sym tied)
+      subst (λ o. IfSome (verdict_on n m now number outcome o) (λ d. Tallies n (standing_of d.machine) (account_after (table n) a (Judges number outcome) (handed_out d.effects)))) (sym tied)
       (at (lookup (is_at (nat_cmp number)) a.deliveries) refl)
     where
       tied : lookup (is_at (nat_cmp number)) m.deliveries ≡ option_map (λ w. w.handed) (lookup (is_at (nat_cmp number)) a.deliveries)
@@ -312,14 +314,14 @@ module _ {K V S : Type 0} (n : Names K S) where
       dead h it (Some row) other = not_ruled_on h it row row.phase other
 
       by_live : (h : Handed K S) (live : Bool) → lookup (is_at (nat_cmp number)) a.deliveries ≡ Some (record { handed = h; live = live })
-          → IfSome (verdict_at n (closed m number) now number h outcome (row_of n m h.key)) (λ d. Tallies n (standing_of d.machine) (account_after n a (Judges number outcome) (handed_out d.effects)))
+          → IfSome (verdict_at n (closed m number) now number h outcome (row_of n m h.key)) (λ d. Tallies n (standing_of d.machine) (account_after (table n) a (Judges number outcome) (handed_out d.effects)))
       by_live h true it = alive h it (row_of n m h.key) refl (sym (here h) ∙ judged_at n laws (standing_of m) a number h tallies it)
       by_live h false it = dead h it (row_of n m h.key) (λ j is. Each-lookup (Fits n (standing_of m).rows a.completed) number a.deliveries (record { handed = h; live = false }) tallies.fits it j (here h ∙ is))
 
       at : (w : Option (Watched K S)) → lookup (is_at (nat_cmp number)) a.deliveries ≡ w
-          → IfSome (verdict_on n m now number outcome (option_map (λ w. w.handed) w)) (λ d. Tallies n (standing_of d.machine) (account_after n a (Judges number outcome) (handed_out d.effects)))
+          → IfSome (verdict_on n m now number outcome (option_map (λ w. w.handed) w)) (λ d. Tallies n (standing_of d.machine) (account_after (table n) a (Judges number outcome) (handed_out d.effects)))
       at None it =
-          subst (λ t. Tallies n t (account_after n a (Judges number outcome) []))
+          subst (λ t. Tallies n t (account_after (table n) a (Judges number outcome) []))
           (ap with_deliveries (remove_entry-absent (is_at (nat_cmp number)) m.deliveries (tied ∙ ap (option_map (λ w. w.handed)) it)))
           (closes-tallies n laws (standing_of m) a number outcome (λ w is. cc) tallies)
       at (Some w) it = by_live w.handed w.live it
@@ -376,8 +378,8 @@ module _ {K V S : Type 0} (n : Names K S) where
       go d comes (Some e) holds = (holds.0, none-append d.effects e.effects comes.1 holds.1)
 
   -- what a running machine does
-  pub does-tallies : IsEquivalence (same_key n) → (m : Machine K V S) (a : Account K S) (now : ℕ) (event : Event K V S) → Tallies n (standing_of m) a
-      → IfSome (does n m now event) (λ d. Tallies n (standing_of d.machine) (account_after n a (change_of event) (handed_out d.effects)))
+  pub does-tallies : IsEquivalence (same_key n) → (m : Machine K V S) (a : Account K S (List (K × List (S × ℕ)))) (now : ℕ) (event : Event K V S) → Tallies n (standing_of m) a
+      → IfSome (does n m now event) (λ d. Tallies n (standing_of d.machine) (account_after (table n) a (change_of event) (handed_out d.effects)))
   does-tallies laws m a now (Fetch items) tallies =
       comes-tallies a (Adds (map (λ item. (item.key, item.subscribers)) items)) (asking (map (λ item. (item.key, item.subscribers)) items)) [] (fetch n m items)
       (asks-tallies n laws (standing_of m) a (map (λ item. (item.key, item.subscribers)) items) tallies) (fetch-comes m items)
@@ -406,15 +408,15 @@ module _ {K V S : Type 0} (n : Names K S) where
   not_taken answer fault effects is_not is = cc
 
   -- a step that is taken
-  taken-tallies : IsEquivalence (same_key n) → (m mid : Machine K V S) (a : Account K S) (now : ℕ) (event : Event K V S) (effects : List (Effect K V S)) → Tallies n (standing_of m) a
-      → (status : Status) → step_in n status m now event ≡ (Ok effects, mid) → Tallies n (standing_of mid) (account_after n a (change_of event) (handed_out effects))
+  taken-tallies : IsEquivalence (same_key n) → (m mid : Machine K V S) (a : Account K S (List (K × List (S × ℕ)))) (now : ℕ) (event : Event K V S) (effects : List (Effect K V S)) → Tallies n (standing_of m) a
+      → (status : Status) → step_in n status m now event ≡ (Ok effects, mid) → Tallies n (standing_of mid) (account_after (table n) a (change_of event) (handed_out effects))
   taken-tallies laws m mid a now event effects tallies Running is = at (does n m now event) (does-tallies laws m a now event tallies) is
     where
-      at : (o : Option (Done K V S)) → Tells a (change_of event) o → step_done m o ≡ (Ok effects, mid) → Tallies n (standing_of mid) (account_after n a (change_of event) (handed_out effects))
+      at : (o : Option (Done K V S)) → Tells a (change_of event) o → step_done m o ≡ (Ok effects, mid) → Tallies n (standing_of mid) (account_after (table n) a (change_of event) (handed_out effects))
       at None tells is = absurd (not_taken (Err faults.Exhausted) faults.Exhausted effects refl (ap (λ p. p.0) is))
       at (Some d) tells is =
-          subst (λ m. Tallies n (standing_of m) (account_after n a (change_of event) (handed_out effects))) (ap (λ p. p.1) is)
-          (subst (λ es. Tallies n (standing_of d.machine) (account_after n a (change_of event) (handed_out es))) (ap (λ p. effects_in p.0) is) tells)
+          subst (λ m. Tallies n (standing_of m) (account_after (table n) a (change_of event) (handed_out effects))) (ap (λ p. p.1) is)
+          (subst (λ es. Tallies n (standing_of d.machine) (account_after (table n) a (change_of event) (handed_out es))) (ap (λ p. effects_in p.0) is) tells)
   taken-tallies laws m mid a now event effects tallies Ended is = absurd (not_taken (Err faults.Ended) faults.Ended effects refl (ap (λ p. p.0) is))
   taken-tallies laws m mid a now event effects tallies Failed is = absurd (not_taken (Err faults.Failed) faults.Failed effects refl (ap (λ p. p.0) is))
 
@@ -433,13 +435,13 @@ module _ {K V S : Type 0} (n : Names K S) where
   refused-same m mid now event fault other Failed is = sym (ap (λ p. p.1) is)
 
   -- In each run that did not fail, the account of the inputs taken is what the machine stands at.
-  pub runs-tallies : IsEquivalence (same_key n) → (inputs : List (Input K V S)) (answers : List (Result (List (Effect K V S)) Fault)) (old m : Machine K V S) (a : Account K S)
-      → Tallies n (standing_of old) a → Runs n old inputs answers m → m.status ≢ Failed → Tallies n (standing_of m) (account_of n a (taken inputs answers))
+  pub runs-tallies : IsEquivalence (same_key n) → (inputs : List (Input K V S)) (answers : List (Result (List (Effect K V S)) Fault)) (old m : Machine K V S) (a : Account K S (List (K × List (S × ℕ))))
+      → Tallies n (standing_of old) a → Runs n old inputs answers m → m.status ≢ Failed → Tallies n (standing_of m) (account_of (table n) a (taken inputs answers))
   runs-tallies laws [] [] old m a tallies runs sound = subst (λ m. Tallies n (standing_of m) a) (sym runs) tallies
   runs-tallies laws [] (answer ∷ answers) old m a tallies runs sound = absurd runs
   runs-tallies laws (input ∷ inputs) [] old m a tallies runs sound = absurd runs
   runs-tallies laws (input ∷ inputs) (Ok effects ∷ answers) old m a tallies runs sound =
-      runs-tallies laws inputs answers runs.0 m (account_after n a (change_of input.event) (handed_out effects)) (taken-tallies laws old runs.0 a input.now input.event effects tallies old.status runs.1) runs.2 sound
+      runs-tallies laws inputs answers runs.0 m (account_after (table n) a (change_of input.event) (handed_out effects)) (taken-tallies laws old runs.0 a input.now input.event effects tallies old.status runs.1) runs.2 sound
   runs-tallies laws (input ∷ inputs) (Err faults.OutOfMemory ∷ answers) old m a tallies runs sound = absurd (sound (ap (λ m. m.status) runs.2.1 ∙ runs.1.1))
   runs-tallies laws (input ∷ inputs) (Err faults.Exhausted ∷ answers) old m a tallies runs sound = absurd (sound (ap (λ m. m.status) runs.2.1 ∙ runs.1.1))
   runs-tallies laws (input ∷ inputs) (Err fault ∷ answers) old m a tallies runs sound =
@@ -449,9 +451,8 @@ module _ {K V S : Type 0} (n : Names K S) where
   demanded-seen [] = refl
   demanded-seen (r ∷ rs) = ap (λ d. (r.0, r.1.subscribers) ∷ d) (demanded-seen rs)
 
-  -- the demand is kept in every run
-  pub demand_is_kept : IsEquivalence (same_key n) → (old : Machine K V S) (inputs : List (Input K V S)) (answers : List (Result (List (Effect K V S)) Fault)) (new : Machine K V S)
-      → Runs n old inputs answers new → KeepsDemand n old inputs answers new
-  demand_is_kept laws old inputs answers new runs delay opens sound =
-      sym (demanded-seen new.rows)
-      ∙ (runs-tallies laws inputs answers old new nothing_asked (subst (λ m. Tallies n (standing_of m) nothing_asked) (sym opens) (opening-tallies n)) runs sound).demand
+  -- the table of who is asked for is kept in every run
+  pub table_is_kept : IsEquivalence (same_key n) → (delay : ℕ) (inputs : List (Input K V S)) (answers : List (Result (List (Effect K V S)) Fault)) (new : Machine K V S)
+      → Runs n (opening delay) inputs answers new → new.status ≢ Failed → demanded new.rows ≡ (account_of (table n) (nothing_asked (table n)) (taken inputs answers)).demand
+  table_is_kept laws delay inputs answers new runs sound =
+      sym (demanded-seen new.rows) ∙ (runs-tallies laws inputs answers (opening delay) new (nothing_asked (table n)) (opening-tallies n) runs sound).demand

@@ -1,5 +1,4 @@
 -- A run, one step after another.
-use Rattle.std.proofs.Common.{sym, subst, Bool}
 use Rattle.std.proofs.Common.{◌≡◌, refl, ap, true, false, List, [], ◌∷◌, ◌++◌, Result, Ok, Err, map}
 use Rattle.std.specs.declared.vec.Vec.{Vec}
 use Rattle.std.specs.declared.alloc.Global.{Global}
@@ -31,3 +30,8 @@ module _ {M I E : Type 0} (step : M → I → Result (List E) Fault × M) (MayWa
 pub map-more : {A B : Type 0} (f : A → B) (xs : List A) (a : A) (more : List B) → map f (xs ++ a ∷ []) ++ more ≡ map f xs ++ f a ∷ more
 map-more f [] a more = refl
 map-more f (x ∷ xs) a more = ap (λ rest. f x ∷ rest) (map-more f xs a more)
+
+-- one more answer, behind all others
+pub map-last : {A B : Type 0} (f : A → B) (xs : List A) (a : A) → map f xs ++ f a ∷ [] ≡ map f (xs ++ a ∷ [])
+map-last f [] a = refl
+map-last f (x ∷ xs) a = ap (λ rest. f x ∷ rest) (map-last f xs a)

@@ -2,9 +2,10 @@
 use Rattle.std.specs.Prelude.{◌≡◌, ◌≢◌, ℕ, List, [], ◌∷◌, map, Result, Ok, Err}
 use Rattle.resolver_base.specs.declared.base.fault.Fault.{Fault}
 use Rattle.resolver_base.specs.Names.{Names}
+use Rattle.resolver_base.specs.Demand.{all_pairs_of, IsSameDemand}
 use Rattle.resolver.specs.declared.opaque.actor.Effect.{Effect}
 use Rattle.resolver.specs.declared.opaque.actor.Effect.TheVariants.{Deliver}
-use Rattle.resolver.specs.Account.{Change, Adds, Keeps, Judges, Empties, Leaves, Handed, nothing_asked, account_of}
+use Rattle.resolver.specs.Account.{Change, Adds, Keeps, Judges, Empties, Leaves, Handed, pairs, nothing_asked, account_of}
 use Rattle.resolver.specs.Opaque.{Machine, Row, Event, Fetch, Retain, Verdict, End, Failed, opening}
 use Rattle.resolver.specs.OpaqueSteps.{Input}
 
@@ -35,8 +36,8 @@ module _ {K V S : Type 0} where
   demanded rows = map (λ r. (r.0, r.1.subscribers)) rows
 
 module _ {K V S : Type 0} (n : Names K S) where
-  -- Of a run from the opening state that did not fail, the rows have who was asked for and not since retired, by the inputs taken alone.
+  -- Of a run from the opening state that did not fail, the rows have the pairs that were fetched and not since retired, by the inputs taken alone.
   abbrev pub KeepsDemand : (old : Machine K V S) → List (Input K V S) → List (Result (List (Effect K V S)) Fault) → (new : Machine K V S) → Type 0
   KeepsDemand old inputs answers new =
       (delay : ℕ) → old ≡ opening delay → new.status ≢ Failed
-      → demanded new.rows ≡ (account_of n nothing_asked (taken inputs answers)).demand
+      → IsSameDemand n (all_pairs_of (demanded new.rows)) (account_of (pairs n) (nothing_asked (pairs n)) (taken inputs answers)).demand

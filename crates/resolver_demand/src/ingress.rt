@@ -1,5 +1,7 @@
 //! What a resolver is asked, as its machine takes it.
 
+ghost use Rattle.std.specs.Prelude.{◌<◌, length};
+
 use resolver_base::base::NonEmptyVec;
 
 /// A key to fetch and who wants it, with what else is said of the fetch.
@@ -13,4 +15,5 @@ pub struct FetchKey<K, S, M> {
     pub subscribers: NonEmptyVec<(S, u64)>,
     /// What else is said of the fetch.
     pub metadata: M,
+    pub ghost wanted: { 0 < length subscribers },
 }

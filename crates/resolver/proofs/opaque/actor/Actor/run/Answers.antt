@@ -1,4 +1,4 @@
-use Rattle.std.proofs.Common.{◌≡◌, refl, ap, sym, ◌∙◌, subst, rules, arith, [], ◌∷◌, map, append-nil}
+use Rattle.std.proofs.Common.{◌≡◌, refl, sym, ◌∙◌, subst, rules, arith, [], ◌∷◌, map, append-nil}
 use Rattle.std.proofs.lemmas.List.{nil_from_length}
 use Rattle.std.specs.Vec.Iter.{into_iter_items}
 use Rattle.resolver_base.specs.Names.{names}
@@ -6,8 +6,8 @@ use Rattle.resolver.specs.OpaqueInputs.{input_of}
 use Rattle.resolver.specs.OpaqueSteps.{Runs, answer_of, step_on, MayWant}
 use Rattle.resolver.specs.Opaque.{Failed}
 use Rattle.std.proofs.lemmas.Cmp.{eq_by_cmp_equiv}
-use Rattle.resolver.proofs.OpaqueDemand.{demand_is_kept}
-use Rattle.resolver.proofs.Running.{Runs-step, Runs-last, stops-answer_of, map-more}
+use Rattle.resolver.proofs.OpaqueKept.{inputs-lawful, demand_is_kept}
+use Rattle.resolver.proofs.Running.{Runs-step, Runs-last, stops-answer_of, map-more, map-last}
 use Rattle.resolver.proofs.opaque.actor.Actor.run.Goals as goal
 
 -- the last answer, behind those so far
@@ -15,12 +15,12 @@ pub returns-then-stops-clause-runs : goal.returns-then-stops-clause-runs
 returns-then-stops-clause-runs g c =
     let n = names g.K.Ord.cmp g.S.Ord.cmp in
     let answer = answer_of c.step-answer.result in
-    let told = sym (map-more answer_of c.loop-input.answers.items c.step-answer.result []) ∙ (append-nil _ ∙ ap (map answer_of) (sym c.in_ok-push.ensures.items)) in
-    subst (λ answers. Runs n c.args.self.now (map input_of c.args.inputs.items) answers c.step-answer.new.self) told
+    subst (λ answers. Runs n c.args.self.now (map input_of c.args.inputs.items) (map answer_of answers) c.step-answer.new.self) (sym c.in_ok-push.ensures.items)
+    (subst (λ answers. Runs n c.args.self.now (map input_of c.args.inputs.items) answers c.step-answer.new.self) (map-last answer_of c.loop-input.answers.items c.step-answer.result)
     (c.loop-input.invariant.rest (answer ∷ []) c.step-answer.new.self
     (subst (λ xs. Runs n c.loop-input.self (map input_of xs) (answer ∷ []) c.step-answer.new.self) (sym c.in-Some.ensures.steps.0)
     (Runs-last (step_on n) MayWant (λ m. m.status ≡ Failed) c.loop-input.self c.step-answer.new.self (input_of c.in-Some.input) (map input_of (into_iter_items c.next.new.self)) answer c.step-answer.ensures
-    (stops-answer_of c.step-answer.result ∙ sym c.if-stops.ensures))))
+    (stops-answer_of c.step-answer.result ∙ sym c.if-stops.ensures)))))
 
 pub loop-input-preserved : goal.loop-input-preserved
 loop-input-preserved g c =
@@ -45,10 +45,14 @@ returns-clause-runs g c =
 
 pub returns-then-stops-clause-demand : goal.returns-then-stops-clause-demand
 returns-then-stops-clause-demand g c =
-    demand_is_kept (names g.K.Ord.cmp g.S.Ord.cmp) (eq_by_cmp_equiv g.met.K.Ord.total) c.args.self.now (map input_of c.args.inputs.items) _ c.step-answer.new.self
-    (returns-then-stops-clause-runs g c)
+    let keys = eq_by_cmp_equiv g.met.K.Ord.total in
+    let subscribers = eq_by_cmp_equiv g.met.S.Ord.total in
+    demand_is_kept (names g.K.Ord.cmp g.S.Ord.cmp) keys g.met.S.Ord.total subscribers c.args.self.now (map input_of c.args.inputs.items) _ c.step-answer.new.self
+    (inputs-lawful (names g.K.Ord.cmp g.S.Ord.cmp) keys g.met.S.Ord.total subscribers c.args.inputs.items) (returns-then-stops-clause-runs g c)
 
 pub returns-clause-demand : goal.returns-clause-demand
 returns-clause-demand g c =
-    demand_is_kept (names g.K.Ord.cmp g.S.Ord.cmp) (eq_by_cmp_equiv g.met.K.Ord.total) c.args.self.now (map input_of c.args.inputs.items) (map answer_of c.loop-input.answers.items) c.loop-input.self
-    (returns-clause-runs g c)
+    let keys = eq_by_cmp_equiv g.met.K.Ord.total in
+    let subscribers = eq_by_cmp_equiv g.met.S.Ord.total in
+    demand_is_kept (names g.K.Ord.cmp g.S.Ord.cmp) keys g.met.S.Ord.total subscribers c.args.self.now (map input_of c.args.inputs.items) (map answer_of c.loop-input.answers.items) c.loop-input.self
+    (inputs-lawful (names g.K.Ord.cmp g.S.Ord.cmp) keys g.met.S.Ord.total subscribers c.args.inputs.items) (returns-clause-runs g c)
