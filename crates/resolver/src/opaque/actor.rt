@@ -469,3 +469,6 @@ fn stops<T>(answer: &Result<T, Fault>) -> bool
 {
     matches!(answer, Err(Fault::OutOfMemory | Fault::Exhausted))
 }
+
+#[cfg(test)]
+mod tests;

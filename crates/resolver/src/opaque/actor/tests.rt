@@ -1,0 +1,105 @@
+use super::*;
+use crate::opaque::Phase;
+use resolver_base::root::Resolution;
+use std::test::Fail;
+
+type Effects = Vec<Effect<u8, u32, u16>>;
+
+fn fetch(alloc: Global, key: u8, subscriber: u16, mark: u64) -> Result<Event<u8, u32, u16>, Fault> {
+    let subscribers = NonEmptyVec::new(alloc, (subscriber, mark))?;
+    let item = FetchKey {
+        key,
+        subscribers,
+        metadata: (),
+    };
+    let mut items = Vec::new(alloc);
+    items.push(item)?;
+    Ok(Event::Fetch(items))
+}
+
+fn at<V>(now: u64, event: Event<u8, V, u16>) -> Input<u8, V, u16> {
+    Input {
+        now: u128::from(now),
+        event,
+    }
+}
+
+fn started(effects: &Effects) -> Option<(u64, u8)> {
+    match effects.as_slice() {
+        [Effect::Start { attempt, key }] => Some((*attempt, *key)),
+        _ => None,
+    }
+}
+
+fn delivered(effects: &Effects) -> Option<(u64, u64, u8, (u16, u64), u32)> {
+    match effects.as_slice() {
+        [
+            Effect::Deliver {
+                number,
+                response,
+                delivery,
+                value,
+            },
+        ] => {
+            let first = *delivery.subscribers.first();
+            Some((*number, *response, delivery.key, first, *value))
+        }
+        _ => None,
+    }
+}
+
+// The row opaque_first_run, one step after another.
+#[test]
+fn opaque_first_run(rt: HostRuntime) -> Result<(), Fail> {
+    let alloc = rt.alloc();
+    let mut actor: Actor<u8, u32, u16> = Actor::new(alloc, 100);
+    let effects = actor.step(at(0, fetch(alloc, 1, 10, 7)?))?;
+    assert_eq!(rt; started(&effects), Some((0, 1)));
+    let value = Event::Fetched {
+        attempt: 0,
+        value: Some(0x6869),
+    };
+    let effects = actor.step(at(0, value))?;
+    assert_eq!(rt; delivered(&effects), Some((0, 0, 1, (10, 7), 0x6869)));
+    let rows = actor.rows()?;
+    assert_eq!(rt; rows.len(), 1);
+    assert_eq!(rt; rows[0].key, 1);
+    assert_eq!(rt; *rows[0].subscribers.first(), (10, 7));
+    assert_eq!(rt; rows[0].phase, Phase::Judged { number: 0 });
+    let verdict = Event::Verdict {
+        number: 0,
+        outcome: Some(Outcome::Resolved(Resolution::Complete)),
+    };
+    let effects = actor.step(at(0, verdict))?;
+    assert_eq!(rt; effects.len(), 0);
+    assert_eq!(rt; actor.rows()?.len(), 0);
+    assert_eq!(rt; actor.next_retry(), None);
+    Ok(())
+}
+
+// A list of inputs gets one answer each.
+#[test]
+fn a_run_waits_for_the_delay(rt: HostRuntime) -> Result<(), Fail> {
+    let alloc = rt.alloc();
+    let mut actor: Actor<u8, u32, u16> = Actor::new(alloc, 100);
+    let mut inputs = Vec::new(alloc);
+    inputs.push(at(0, fetch(alloc, 1, 10, 7)?))?;
+    inputs.push(at(
+        5,
+        Event::Fetched {
+            attempt: 0,
+            value: None,
+        },
+    ))?;
+    let mut answers = actor.run(inputs)?;
+    assert_eq!(rt; answers.len(), 2);
+    let first = answers.remove(0)?;
+    assert_eq!(rt; started(&first), Some((0, 1)));
+    let second = answers.remove(0)?;
+    assert_eq!(rt; second.len(), 0);
+    assert_eq!(rt; actor.next_retry(), Some(105));
+    let rows = actor.rows()?;
+    assert_eq!(rt; rows.len(), 1);
+    assert_eq!(rt; rows[0].phase, Phase::Waiting { due: 105 });
+    Ok(())
+}

@@ -1,0 +1,238 @@
+use super::*;
+use std::io::Read;
+use std::test::Fail;
+
+/// What a script prints, and how it ended.
+fn replayed(alloc: Global, script: &[u8]) -> Result<(Vec<u8>, Result<Ending, Fault>), AllocError> {
+    let mut output = Vec::new(alloc);
+    let mut input = script;
+    let ended = run(alloc, &mut input, &mut output);
+    Ok((output, ended))
+}
+
+// Worked rows, and what they leave out.
+#[test]
+fn scripts(rt: HostRuntime) -> Result<(), Fail> {
+    let cases: [(&str, &[u8], &[u8]); 14] = [
+        (
+            "opaque_first_run",
+            b"opaque 100\nfetch 1 10 7\nfetched 0 x6869\nverdict 0 complete\nshow\n",
+            b"start 0 1\ndeliver 0 1 10 x6869\nwake none\n",
+        ),
+        (
+            "a wait, before, at and past its due",
+            b"opaque 100\nat 5\nfetch 1 10 7\nfetched 0 none\nshow\nat 105\nshow\nat 106\nshow\n",
+            b"start 0 1\nkey 1 subs 10:7 phase waiting 105\nwake 105\nkey 1 subs 10:7 phase waiting 105\nwake 105\nkey 1 subs 10:7 phase waiting 105\nwake 105\n",
+        ),
+        (
+            "a second value of one attempt",
+            b"opaque 0\nfetch 1 10 7\nfetched 0 xAB\nfetched 0 xcd\nshow\n",
+            b"start 0 1\ndeliver 0 1 10 xab\nkey 1 subs 10:7 phase judged 0\nwake none\n",
+        ),
+        (
+            "a verdict twice, and one of a number never handed out",
+            b"opaque 7\nfetch 1 10 7\nfetched 0 x\nverdict 5 complete\nverdict 0 partial\nverdict 0 complete\nshow\n",
+            b"start 0 1\ndeliver 0 1 10 x\nkey 1 subs 10:7 phase waiting 7\nwake 7\n",
+        ),
+        (
+            "late_subscriber",
+            b"opaque 100\nfetch 1 10 7\nfetched 0 x6869\nfetch 1 11 8\nverdict 0 complete\nverdict 1 invalid\nshow\n",
+            b"start 0 1\ndeliver 0 1 10 x6869\ndeliver 1 1 11 x6869 again 0\nwake none\n",
+        ),
+        (
+            "a late subscriber of a dropped delivery",
+            b"opaque 100\nfetch 1 10 7\nfetched 0 x6869\nfetch 1 11 8\nverdict 0 dropped\nverdict 1 invalid\nshow\n",
+            b"start 0 1\ndeliver 0 1 10 x6869\ndeliver 1 1 11 x6869 again 0\nkey 1 subs 11:8 phase waiting 100\nwake 100\n",
+        ),
+        (
+            "a dropped delivery",
+            b"opaque 100\nfetch 1 10 7\nfetched 0 x6869\nverdict 0 dropped\nshow\n",
+            b"start 0 1\ndeliver 0 1 10 x6869\nwake none\n",
+        ),
+        (
+            "the mark of a subscriber that is there stays, and keys are in order",
+            b"opaque 1\nfetch 2 10 7\nfetch 1 20 0\nfetch 2 9 1\nfetch 2 10 8\nshow\n",
+            b"start 0 2\nstart 1 1\nkey 1 subs 20:0 phase asked 1\nkey 2 subs 9:1,10:7 phase asked 0\nwake none\n",
+        ),
+        (
+            "the greatest numbers",
+            b"opaque 19807040628566084398385987583\nat 19807040628566084398385987583\nfetch 255 65535 18446744073709551615\nfetched 18446744073709551615 none\nverdict 18446744073709551615 ignored\nfetched 0 none\nshow\n",
+            b"start 0 255\nkey 255 subs 65535:18446744073709551615 phase waiting 39614081257132168796771975166\nwake 39614081257132168796771975166\n",
+        ),
+        (
+            "the earliest of several",
+            b"opaque 10\nfetch 1 1 0\nfetch 2 2 0\nat 5\nfetched 0 none\nat 2\nfetched 1 none\nshow\n",
+            b"start 0 1\nstart 1 2\nkey 1 subs 1:0 phase waiting 15\nkey 2 subs 2:0 phase waiting 12\nwake 12\n",
+        ),
+        (
+            "ignored and unresolved",
+            b"opaque 10\nfetch 1 1 0\nfetch 2 2 0\nfetched 0 xaa\nfetched 1 xbb\nverdict 0 ignored\nverdict 1 unresolved\nshow\n",
+            b"start 0 1\nstart 1 2\ndeliver 0 1 1 xaa\ndeliver 1 2 2 xbb\nkey 2 subs 2:0 phase waiting 10\nwake 10\n",
+        ),
+        (
+            "empty lines and comments, with any bytes",
+            b"\n# first\n\nopaque 100\n#\xff\n\nshow\n#",
+            b"wake none\n",
+        ),
+        (
+            "a last line without its LF",
+            b"opaque 1\nshow",
+            b"wake none\n",
+        ),
+        ("nothing at all", b"", b""),
+    ];
+    for (name, script, printed) in cases {
+        let (output, ended) = replayed(rt.alloc(), script)?;
+        assert_eq!(rt; output.as_slice(), printed, "{name}");
+        assert_eq!(rt; ended, Ok(Ending::End), "{name}");
+    }
+    Ok(())
+}
+
+// The first line that can't be read ends the script, and is named.
+#[test]
+fn unreadable_lines(rt: HostRuntime) -> Result<(), Fail> {
+    let cases: [(&[u8], &[u8]); 39] = [
+        (b"show\n", b"line 1 unreadable\n"),
+        (b"p2p 9 50 10\n", b"line 1 unreadable\n"),
+        (b"\n# \nfetch 1 10 7\n", b"line 3 unreadable\n"),
+        (b"opaque 1\nopaque 1\nshow\n", b"line 2 unreadable\n"),
+        (
+            b"opaque 1\n\nshow\np2p 9 50 10\nshow\n",
+            b"wake none\nline 4 unreadable\n",
+        ),
+        (b"opaque\n", b"line 1 unreadable\n"),
+        (b"opaque 01\n", b"line 1 unreadable\n"),
+        (b"opaque +1\n", b"line 1 unreadable\n"),
+        (b"opaque -1\n", b"line 1 unreadable\n"),
+        (b"opaque 1 \n", b"line 1 unreadable\n"),
+        (b" opaque 1\n", b"line 1 unreadable\n"),
+        (b"opaque  1\n", b"line 1 unreadable\n"),
+        (b"opaque 1\r\n", b"line 1 unreadable\n"),
+        (b"opaque\t1\n", b"line 1 unreadable\n"),
+        (b"Opaque 1\n", b"line 1 unreadable\n"),
+        (
+            b"opaque 19807040628566084398385987584\n",
+            b"line 1 unreadable\n",
+        ),
+        (
+            b"opaque 340282366920938463463374607431768211456\n",
+            b"line 1 unreadable\n",
+        ),
+        (b"opaque 1\n \nshow\n", b"line 2 unreadable\n"),
+        (b"opaque 1\n # no comment\n", b"line 2 unreadable\n"),
+        (b"opaque 1\nshow all\n", b"line 2 unreadable\n"),
+        (b"opaque 1\n\xff\n", b"line 2 unreadable\n"),
+        (b"opaque 1\nat\n", b"line 2 unreadable\n"),
+        (b"opaque 1\nat 1 2\n", b"line 2 unreadable\n"),
+        (b"opaque 1\nfetch 1 10\n", b"line 2 unreadable\n"),
+        (b"opaque 1\nfetch 256 10 7\n", b"line 2 unreadable\n"),
+        (b"opaque 1\nfetch 1 65536 7\n", b"line 2 unreadable\n"),
+        (
+            b"opaque 1\nfetch 1 10 18446744073709551616\n",
+            b"line 2 unreadable\n",
+        ),
+        (b"opaque 1\nfetch 1 10 7 3\n", b"line 2 unreadable\n"),
+        (b"opaque 1\nfetched 0\n", b"line 2 unreadable\n"),
+        (b"opaque 1\nfetched 0 68\n", b"line 2 unreadable\n"),
+        (b"opaque 1\nfetched 0 x6\n", b"line 2 unreadable\n"),
+        (b"opaque 1\nfetched 0 X68\n", b"line 2 unreadable\n"),
+        (b"opaque 1\nfetched 0 xg0\n", b"line 2 unreadable\n"),
+        (b"opaque 1\nfetched 0 none none\n", b"line 2 unreadable\n"),
+        (b"opaque 1\nverdict 0\n", b"line 2 unreadable\n"),
+        (b"opaque 1\nverdict 0 Complete\n", b"line 2 unreadable\n"),
+        (b"opaque 1\nverdict x complete\n", b"line 2 unreadable\n"),
+        (b"opaque 1\nwake\n", b"line 2 unreadable\n"),
+        (b"opaque 1\nstop\n", b"line 2 unreadable\n"),
+    ];
+    for (script, printed) in cases {
+        let (output, ended) = replayed(rt.alloc(), script)?;
+        assert_eq!(rt; output.as_slice(), printed);
+        assert_eq!(rt; ended, Ok(Ending::Unreadable));
+    }
+    assert_eq!(rt; Ending::End.status(), 0);
+    assert_eq!(rt; Ending::Unreadable.status(), 2);
+    Ok(())
+}
+
+/// A reader that gives its bytes and then fails.
+#[derive(Drop)]
+struct Torn<'a> {
+    rest: &'a [u8],
+}
+
+impl Read for Torn<'_> {
+    fn read(&mut self, buf: &mut [u8]) -> io::Result<usize> {
+        if self.rest.is_empty() {
+            return Err(ErrorKind::Other.into());
+        }
+        self.rest.read(buf)
+    }
+}
+
+impl BufRead for Torn<'_> {
+    fn fill_buf(&mut self) -> io::Result<&[u8]> {
+        if self.rest.is_empty() {
+            return Err(ErrorKind::Other.into());
+        }
+        Ok(self.rest)
+    }
+
+    fn consume(&mut self, amount: usize) {
+        self.rest.consume(amount);
+    }
+}
+
+// A line that was read in part is not executed.
+#[test]
+fn a_torn_input(rt: HostRuntime) -> Result<(), Fail> {
+    let mut output = Vec::new(rt.alloc());
+    let mut input = Torn {
+        rest: b"opaque 1\nfetch 1 10 7\nfetch 2 10 7",
+    };
+    let ended = run(rt.alloc(), &mut input, &mut output);
+    assert_eq!(rt; ended, Err(Fault::Input));
+    assert_eq!(rt; output.as_slice(), b"start 0 1\n".as_slice());
+    Ok(())
+}
+
+/// A writer that takes some bytes and then fails.
+#[derive(Drop)]
+struct Full {
+    taken: Vec<u8>,
+    room: usize,
+}
+
+impl Write for Full {
+    fn write(&mut self, buf: &[u8]) -> io::Result<usize> {
+        let count = buf.len().min(self.room);
+        if count == 0 {
+            return Err(ErrorKind::StorageFull.into());
+        }
+        self.taken.extend_from_slice(&buf[..count])?;
+        self.room -= count;
+        Ok(count)
+    }
+
+    fn flush(&mut self) -> io::Result<()> {
+        Ok(())
+    }
+}
+
+// What a full writer took is a beginning of the whole output.
+#[test]
+fn a_full_output(rt: HostRuntime) -> Result<(), Fail> {
+    let script = b"opaque 1\nfetch 1 10 7\nfetched 0 x6869\nshow\nbad\n";
+    let (whole, _) = replayed(rt.alloc(), script)?;
+    for room in 0..whole.len() {
+        let mut output = Full {
+            taken: Vec::new(rt.alloc()),
+            room,
+        };
+        let mut input = script.as_slice();
+        let ended = run(rt.alloc(), &mut input, &mut output);
+        assert_eq!(rt; ended, Err(Fault::Output));
+        assert_eq!(rt; output.taken.as_slice(), &whole[..room]);
+    }
+    Ok(())
+}

@@ -1,0 +1,161 @@
+//! The lines of a script.
+
+ghost use Rattle.std.specs.Prelude.{◌≤◌, ◌<◌, ◌^◌, IfSome, IfOk};
+
+use bytes::Bytes;
+use resolver::{Outcome, Resolution};
+use std::alloc::{AllocError, AllocFailed, Global};
+use std::str;
+use std::str::Split;
+
+/// A moment or a duration, in nanoseconds: below 2^94.
+#[derive(Clone, Copy, Debug, PartialEq, Eq)]
+pub struct Moment {
+    pub nanoseconds: u128,
+    ghost in_range: { nanoseconds < 2 ^ 94 },
+}
+
+/// What a line says.
+#[derive(Debug, Drop)]
+pub enum Command {
+    /// `opaque DELAY`: a new actor.
+    Opaque {
+        delay: Moment,
+    },
+    /// `at T`: the moment from now on.
+    At(Moment),
+    /// `fetch K S M`: a subscriber wants a key.
+    Fetch {
+        key: u8,
+        subscriber: u16,
+        mark: u64,
+    },
+    /// `fetched A BYTES` or `fetched A none`: what the source answered.
+    Fetched {
+        attempt: u64,
+        value: Option<Bytes>,
+    },
+    /// `verdict N W`: what the consumer said, or nothing where it dropped the delivery.
+    Verdict {
+        number: u64,
+        outcome: Option<Outcome>,
+    },
+    /// `show`: prints the rows and the wake-up.
+    Show,
+}
+
+/// Why a line was not read.
+#[derive(Clone, Copy, Debug, PartialEq, Eq)]
+pub enum Unread {
+    /// It says nothing that a script may say.
+    Unreadable,
+    OutOfMemory,
+}
+
+impl From<AllocError> for Unread {
+    fn from(_: AllocError) -> Unread {
+        Unread::OutOfMemory
+    }
+}
+
+impl<T: Drop> From<AllocFailed<T>> for Unread {
+    fn from(_: AllocFailed<T>) -> Unread {
+        Unread::OutOfMemory
+    }
+}
+
+/// Whether a line is skipped: it is empty or a comment.
+pub fn is_skipped(line: &[u8]) -> bool {
+    matches!(line, [] | [b'#', ..])
+}
+
+/// What a line says that is not skipped. It lacks its LF.
+pub fn parse(alloc: Global, line: &[u8]) -> Result<Command, Unread> {
+    let text = str::from_utf8(line).map_err(|_| Unread::Unreadable)?;
+    let mut fields = text.split(' ');
+    let command = match fields.next() {
+        Some("opaque") => Command::Opaque {
+            delay: read_moment(fields.next())?,
+        },
+        Some("at") => Command::At(read_moment(fields.next())?),
+        Some("fetch") => fetch(&mut fields)?,
+        Some("fetched") => fetched(alloc, &mut fields)?,
+        Some("verdict") => verdict(&mut fields)?,
+        Some("show") => Command::Show,
+        _ => return Err(Unread::Unreadable),
+    };
+    match fields.next() {
+        None => Ok(command),
+        Some(_) => Err(Unread::Unreadable),
+    }
+}
+
+fn fetch(fields: &mut Split<'_, char>) -> Result<Command, Unread> {
+    let key = number(fields.next(), u128::from(u8::MAX))? as u8;
+    let subscriber = number(fields.next(), u128::from(u16::MAX))? as u16;
+    let mark = number(fields.next(), u128::from(u64::MAX))? as u64;
+    Ok(Command::Fetch {
+        key,
+        subscriber,
+        mark,
+    })
+}
+
+fn fetched(alloc: Global, fields: &mut Split<'_, char>) -> Result<Command, Unread> {
+    let attempt = number(fields.next(), u128::from(u64::MAX))? as u64;
+    let value = match fields.next() {
+        Some("none") => None,
+        field => Some(bytes(alloc, field)?),
+    };
+    Ok(Command::Fetched { attempt, value })
+}
+
+fn verdict(fields: &mut Split<'_, char>) -> Result<Command, Unread> {
+    let number = number(fields.next(), u128::from(u64::MAX))? as u64;
+    let outcome = match fields.next() {
+        Some("complete") => Some(Outcome::Resolved(Resolution::Complete)),
+        Some("partial") => Some(Outcome::Resolved(Resolution::Partial)),
+        Some("unresolved") => Some(Outcome::Unresolved),
+        Some("invalid") => Some(Outcome::Invalid),
+        Some("ignored") => Some(Outcome::Ignored),
+        Some("dropped") => None,
+        _ => return Err(Unread::Unreadable),
+    };
+    Ok(Command::Verdict { number, outcome })
+}
+
+/// A decimal number up to `most`, without sign or leading zeros.
+fn number(field: Option<&str>, most: u128) -> Result<u128, Unread>
+    ensures { IfOk result (λ n. n ≤ most) }
+{
+    let digits = field.ok_or(Unread::Unreadable)?;
+    let is_plain = match digits.as_bytes() {
+        [b'0'] => true,
+        [b'1'..=b'9', rest @ ..] => rest.iter().all(|digit| digit.is_ascii_digit()),
+        _ => false,
+    };
+    if !is_plain {
+        return Err(Unread::Unreadable);
+    }
+    match digits.parse::<u128>() {
+        Ok(n) if n <= most => Ok(n),
+        _ => Err(Unread::Unreadable),
+    }
+}
+
+fn read_moment(field: Option<&str>) -> Result<Moment, Unread> {
+    let nanoseconds = number(field, (1 << 94) - 1)?;
+    Ok(Moment { nanoseconds })
+}
+
+/// Bytes as `x` and hexadecimal digits of either case, two a byte.
+fn bytes(alloc: Global, field: Option<&str>) -> Result<Bytes, Unread> {
+    let digits = field
+        .and_then(|text| text.strip_prefix('x'))
+        .ok_or(Unread::Unreadable)?;
+    match hex::decode(alloc, digits) {
+        Ok(bytes) => Ok(Bytes::from_vec(bytes)?),
+        Err(hex::FromHexError::OutOfMemory) => Err(Unread::OutOfMemory),
+        Err(_) => Err(Unread::Unreadable),
+    }
+}
