@@ -39,3 +39,6 @@ impl Numbers {
         Some(number)
     }
 }
+
+#[cfg(test)]
+mod tests;
