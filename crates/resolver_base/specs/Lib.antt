@@ -3,3 +3,4 @@ pub mod Demand
 pub mod Subscribers
 pub mod Faults
 pub mod Mapped
+pub mod Table

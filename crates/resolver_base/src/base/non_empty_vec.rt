@@ -40,6 +40,7 @@ impl<T: Drop> NonEmptyVec<T> {
     /// The list of these items, in the memory that they have. An empty list is handed back.
     pub fn try_from(items: Vec<T>) -> Result<Self, Vec<T>>
         ensures ok { IfOk result (λ list. list ≡ items.items) }
+        ensures positive { OnOk result (0 < length items.items) }
         ensures empty { IfErr result (λ back. (back ≡ items) × (items.items ≡ [])) }
     {
         if items.is_empty() {
