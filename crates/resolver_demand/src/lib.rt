@@ -4,5 +4,6 @@
 //! the demand: each key with the subscribers that wait for it.
 #![tactic(auto)]
 
+pub mod delivery;
 pub mod ingress;
 pub mod subscribers;

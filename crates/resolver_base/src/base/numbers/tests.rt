@@ -4,6 +4,7 @@ use super::*;
 fn counts_up(rt: HostRuntime) {
     let mut numbers = Numbers::new();
     for wanted in [0, 1, 2] {
+        assert_eq!(rt; numbers.peek(), Some(wanted));
         assert_eq!(rt; numbers.take(), Some(wanted));
     }
 }
