@@ -1,0 +1,2 @@
+pub mod NonEmptyRows
+pub mod Emptied

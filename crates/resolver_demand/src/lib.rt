@@ -1,6 +1,9 @@
-//! Who wants which data: the fetches that a resolver is asked for.
+//! Who wants which data: the fetches that a resolver is asked for, and who waits for which key.
 //!
-//! `ingress::FetchKey` is a fetch of one key for its subscribers.
+//! `ingress::FetchKey` is a fetch of one key for its subscribers, and `subscribers::Tracker` is
+//! the demand: each key with the subscribers that wait for it.
 #![tactic(auto)]
 
+pub mod delivery;
 pub mod ingress;
+pub mod subscribers;

@@ -93,6 +93,9 @@ impl<T: Drop> From<AllocFailed<T>> for Fault {
     ghost from_gives = { λ _ fault. fault ≡ OutOfMemory };
 
     fn from(_: AllocFailed<T>) -> Fault {
-        Fault::OutOfMemory
+        Fault::from(AllocError)
     }
 }
+
+#[cfg(test)]
+mod tests;

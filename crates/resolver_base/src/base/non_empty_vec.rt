@@ -1,10 +1,14 @@
 //! A list that is never empty.
 
 ghost use Rattle.std.specs.Prelude.{◌≡◌, ◌<◌, ◌≤◌, ◌-◌, insert, [], ◌∷◌, ◌++◌, length, IfOk, IfErr, OnOk, OnErr, slice_get, Some, IsOk};
+ghost use Rattle.std.specs.Iterator.Adapters.{IterYieldsInOrder};
 ghost use Rattle.std.specs.List.{list_any};
+ghost use Rattle.std.specs.Slice.Iter.{iter_rest};
+ghost use Rattle.resolver_base.specs.Mapped.{MapsInTurn};
 
 use std::alloc::{AllocError, AllocFailed, Global};
 use std::marker::Model;
+use std::slice::Iter;
 
 /// A list with at least one item. Contracts see it as that list.
 #[derive(Debug, Drop)]
@@ -36,6 +40,7 @@ impl<T: Drop> NonEmptyVec<T> {
     /// The list of these items, in the memory that they have. An empty list is handed back.
     pub fn try_from(items: Vec<T>) -> Result<Self, Vec<T>>
         ensures ok { IfOk result (λ list. list ≡ items.items) }
+        ensures positive { OnOk result (0 < length items.items) }
         ensures empty { IfErr result (λ back. (back ≡ items) × (items.items ≡ [])) }
     {
         if items.is_empty() {
@@ -66,7 +71,7 @@ impl<T: Drop> NonEmptyVec<T> {
         T: PartialEq,
         ensures { result ≡ list_any (λ other. T.eq other item.now) self.now }
     {
-        self.items.iter().any(|other| other == item)
+        self.as_slice().contains(item)
     }
 
     /// The items in their order.
@@ -75,6 +80,14 @@ impl<T: Drop> NonEmptyVec<T> {
         ensures positive { 0 < length result.now }
     {
         self.items.as_slice()
+    }
+
+    /// The items by reference, in their order.
+    pub fn iter(&self) -> Iter<'_, T>
+        ensures rest { iter_rest result ≡ self.now }
+        ensures runs { IterYieldsInOrder T }
+    {
+        self.items.iter()
     }
 
     /// Puts an item last. Where memory is wanting, the item comes back in the error.
@@ -96,12 +109,33 @@ impl<T: Drop> NonEmptyVec<T> {
         self.items.insert(index, item)
     }
 
+    /// What `f` gives for each item, in order. The new list's memory is made before the first
+    /// call; where it is wanting, `f` isn't called and this list comes back in the error.
+    pub fn map_into<U, F: FnMut(T) -> U>(
+        self,
+        alloc: Global,
+        mut f: F,
+    ) -> Result<NonEmptyVec<U>, AllocFailed<Self>>
+        requires { F.IsAlwaysCallable f }
+        ensures ok { IfOk result (λ list. MapsInTurn F.step f self list) }
+        ensures value_returned { IfErr result (λ failed. failed.value ≡ self) }
+    {
+        let Ok(mut mapped) = Vec::with_capacity(alloc, self.items.len()) else {
+            return Err(AllocFailed { value: self });
+        };
+        for item in self.items {
+            mapped.push_reserved(f(item));
+        }
+        Ok(NonEmptyVec { items: mapped })
+    }
+
     /// The items as a plain list, in the memory that they have.
     pub fn into_vec(self) -> Vec<T>
         ensures items { result.items ≡ self }
         ensures positive { 0 < length result.items }
     {
-        self.items
+        let NonEmptyVec { items } = self;
+        items
     }
 }
 
@@ -115,3 +149,6 @@ impl<T: Clone> NonEmptyVec<T> {
         Ok(NonEmptyVec { items })
     }
 }
+
+#[cfg(test)]
+mod tests;

@@ -28,6 +28,15 @@ impl Numbers {
         Numbers { next: Some(0) }
     }
 
+    /// The number that is given next. There is none once `u64::MAX` was given.
+    pub fn peek(&self) -> Option<u64>
+        ensures number { IfSome result (λ number. (number ≡ self.now) × (number < 2 ^ 64)) }
+        ensures none { IfNone result (2 ^ 64 ≤ self.now) }
+    {
+        let next = self.next?;
+        Some(next)
+    }
+
     /// The next number. There is none once `u64::MAX` was given, and then nothing changes.
     pub fn take(&mut self) -> Option<u64>
         ensures number { IfSome result (λ number. (number ≡ self.old) × (number < 2 ^ 64)) }
@@ -39,3 +48,6 @@ impl Numbers {
         Some(number)
     }
 }
+
+#[cfg(test)]
+mod tests;

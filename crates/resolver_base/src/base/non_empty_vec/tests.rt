@@ -1,0 +1,43 @@
+use super::*;
+use std::test::Fail;
+
+#[test]
+fn grows_in_order(rt: HostRuntime) -> Result<(), Fail> {
+    let mut list = NonEmptyVec::new(rt.alloc(), 5u8)?;
+    assert_eq!(rt; *list.first(), 5);
+    list.push(7)?;
+    list.insert(1, 6)?;
+    assert_eq!(rt; list.len(), 3);
+    assert_eq!(rt; list.as_slice(), [5, 6, 7].as_slice());
+    assert!(rt; list.contains(&6));
+    assert!(rt; !list.contains(&8));
+    Ok(())
+}
+
+#[test]
+fn takes_a_list_that_has_items(rt: HostRuntime) -> Result<(), Fail> {
+    let items = [5u8, 6].to_vec(rt.alloc())?;
+    let list = NonEmptyVec::try_from(items).ok().ok_or("two items")?;
+    assert_eq!(rt; list.into_vec().as_slice(), [5, 6].as_slice());
+    let back = NonEmptyVec::<u8>::try_from(Vec::new(rt.alloc()))
+        .err()
+        .ok_or("no item")?;
+    assert!(rt; back.is_empty());
+    Ok(())
+}
+
+#[test]
+fn gives_its_items(rt: HostRuntime) -> Result<(), Fail> {
+    let list = NonEmptyVec::try_from([5u8, 6].to_vec(rt.alloc())?)
+        .ok()
+        .ok_or("two items")?;
+    let mut given = Vec::new(rt.alloc());
+    for item in list.iter() {
+        given.push(*item)?;
+    }
+    assert_eq!(rt; given.as_slice(), [5, 6].as_slice());
+    assert_eq!(rt; list.clone()?.as_slice(), [5, 6].as_slice());
+    let halves = list.map_into(rt.alloc(), |item| u16::from(item) / 2)?;
+    assert_eq!(rt; halves.as_slice(), [2, 3].as_slice());
+    Ok(())
+}

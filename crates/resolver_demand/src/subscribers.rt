@@ -1,0 +1,275 @@
+//! Who waits for which key.
+//!
+//! `Tracker` is the demand: the keys, and for each of them its subscribers with their marks.
+
+mod listed;
+
+ghost use Rattle.std.specs.Prelude.{◌≡◌, ◌<◌, ◌↔◌, not, [], length, IsTrue, IfOk, OnOk, OnErr, IfErr, IfSome};
+ghost use Rattle.std.specs.Option.{option_copied};
+ghost use Rattle.std.specs.Map.Iter.{ShowsInOrder, deref_pair};
+ghost use Rattle.resolver_demand.specs.declared.subscribers.listed.Subscribers.{Subscribers};
+ghost use Rattle.resolver_base.specs.declared.base.fault.Fault.TheVariants.{OutOfMemory};
+ghost use Rattle.resolver_base.specs.Names.{names, same_key};
+ghost use Rattle.resolver_base.specs.Subscribers.{attached_all, without};
+ghost use Rattle.resolver_base.specs.Table.{asked_one, emptied, has_subscribers, is_asked, kept, rest_of, subscribers_of, without_key, without_named};
+ghost use Rattle.std.specs.List.{list_all};
+ghost use Rattle.std.specs.List.Sorted.{IsStrictlySortedBy};
+ghost use Rattle.std.specs.Map.{keys_of, set_value};
+ghost use Rattle.std.specs.BTreeMap.{get, is_at};
+
+pub use listed::Subscribers;
+use resolver_base::base::{Fault, NonEmptyVec, Predicate};
+use std::alloc::{AllocError, Global};
+use std::collections::BTreeMap;
+use std::collections::btree_map::Iter;
+use std::marker::Model;
+
+/// The keys that someone waits for, in their order, each with its subscribers in theirs.
+///
+/// A key that is there has at least one subscriber. A call on one key takes time logarithmic in
+/// the number of keys. Of equal keys and of equal subscribers the first one stays.
+#[derive(Debug, Drop)]
+pub struct Tracker<K: Ord, S> {
+    demand: BTreeMap<K, Subscribers<S>>,
+    alloc: Global,
+}
+
+impl<K: Ord, S> Model for Tracker<K, S> {
+    ghost use Rattle.std.specs.Prelude.{List, ℕ, IsTrue};
+    ghost use Rattle.std.specs.List.{list_all};
+    ghost use Rattle.resolver_base.specs.Table.{has_subscribers};
+
+    ghost Value = { List (K × List (S × ℕ)) };
+
+    ghost view = { λ a. a.demand.entries };
+
+    ghost invariant = { λ a. IsTrue (list_all has_subscribers a.demand.entries) };
+}
+
+impl<K: Ord + Drop, S: Ord + Drop> Tracker<K, S> {
+    /// Nobody waits for anything.
+    pub fn new(alloc: Global) -> Self
+        ensures { result ≡ [] }
+    {
+        Tracker {
+            demand: BTreeMap::new(alloc),
+            alloc,
+        }
+    }
+
+    /// Whether someone waits for this key.
+    pub fn contains(&self, key: &K) -> bool
+        ensures { result ≡ is_asked (names K.cmp S.cmp) self.now key.now }
+    {
+        self.demand.contains_key(key)
+    }
+
+    /// Adds subscribers of a key, and answers whether the key is new. A subscriber that is there
+    /// keeps its mark. Where memory is wanting, nothing changes.
+    pub fn insert(&mut self, key: K, subscribers: NonEmptyVec<(S, u64)>) -> Result<bool, Fault>
+        ensures ok { OnOk result
+            (self.new ≡ asked_one (names K.cmp S.cmp) self.old (key, subscribers)) }
+        ensures is_new { IfOk result
+            (λ new. new ≡ not (is_asked (names K.cmp S.cmp) self.old key)) }
+        ensures err { OnErr result (self.new ≡ self.old) }
+        ensures only { IfErr result (λ fault. fault ≡ OutOfMemory) }
+    {
+        if self.demand.contains_key(&key) {
+            attach_to(&mut self.demand, &key, subscribers.into_vec())?;
+            return Ok(false);
+        }
+        let mut fresh = Subscribers::new(self.alloc);
+        fresh.attach_all(subscribers.into_vec())?;
+        self.demand.insert(key, fresh)?;
+        Ok(true)
+    }
+
+    /// Removes a key with its subscribers, and answers whether it was there.
+    pub fn remove(&mut self, key: &K) -> bool
+        ensures after { self.new ≡ without_key (names K.cmp S.cmp) key.now self.old }
+        ensures was_there { result ≡ is_asked (names K.cmp S.cmp) self.old key.now }
+    {
+        self.demand.remove(key).is_some()
+    }
+
+    /// Removes all keys.
+    pub fn clear(&mut self)
+        ensures { self.new ≡ [] }
+    {
+        self.demand.clear();
+    }
+
+    /// Removes the subscribers that aren't kept, and then the keys that have none. These are
+    /// answered, in their order. Where memory is wanting, nothing changes.
+    pub fn retain<Q: Predicate<K, S>>(&mut self, keep: &Q) -> Result<Vec<K>, Fault>
+    where
+        K: Clone,
+        requires keys_clone { (x y : K) → K.is_clone x y → y ≡ x }
+        ensures ok { OnOk result (self.new ≡ kept (Q.keeps keep.now) self.old) }
+        ensures emptied { IfOk result (λ keys. keys.items ≡ emptied (Q.keeps keep.now) self.old) }
+        ensures err { OnErr result (self.new ≡ self.old) }
+        ensures only { IfErr result (λ fault. fault ≡ OutOfMemory) }
+    {
+        let emptied = emptied_keys(self.alloc, &self.demand, keep)?;
+        prune(&mut self.demand, keep);
+        Ok(emptied)
+    }
+
+    /// The subscribers of a key with their marks, in their order, if someone waits for it.
+    pub fn pending(&self, key: &K) -> Result<Option<NonEmptyVec<(S, u64)>>, Fault>
+    where
+        S: Clone,
+        requires subscribers_clone { (x y : S) → S.is_clone x y → y ≡ x }
+        ensures ok { IfOk result
+            (λ pending. pending ≡ subscribers_of (names K.cmp S.cmp) self.now key.now) }
+        ensures only { IfErr result (λ fault. fault ≡ OutOfMemory) }
+    {
+        let Some(subscribers) = self.demand.get(key) else {
+            return Ok(None);
+        };
+        let Ok(pending) = NonEmptyVec::try_from(subscribers.copied(self.alloc)?) else {
+            unreachable!()
+        };
+        Ok(Some(pending))
+    }
+
+    /// Removes the named subscribers of a key, and the key if it has no other. The others are
+    /// answered, in their order. Where memory is wanting, nothing changes.
+    pub fn remove_delivered(
+        &mut self,
+        key: &K,
+        delivered: &NonEmptyVec<(S, u64)>,
+    ) -> Result<Option<NonEmptyVec<(S, u64)>>, Fault>
+    where
+        S: Clone,
+        requires subscribers_clone { (x y : S) → S.is_clone x y → y ≡ x }
+        ensures ok { OnOk result
+            (self.new ≡ without_named (names K.cmp S.cmp) key.now delivered.now self.old) }
+        ensures rest { IfOk result
+            (λ rest. rest ≡ rest_of (names K.cmp S.cmp) key.now delivered.now self.old) }
+        ensures err { OnErr result (self.new ≡ self.old) }
+        ensures only { IfErr result (λ fault. fault ≡ OutOfMemory) }
+    {
+        let Some(subscribers) = self.demand.get(key) else {
+            return Ok(None);
+        };
+        let rest = subscribers.without(self.alloc, delivered.as_slice())?;
+        let Ok(rest) = NonEmptyVec::try_from(rest) else {
+            self.demand.remove(key);
+            return Ok(None);
+        };
+        detach_from(&mut self.demand, key, delivered.as_slice());
+        Ok(Some(rest))
+    }
+
+    /// The subscribers of a key with their marks, in their order, if someone waits for it.
+    pub fn get(&self, key: &K) -> Option<&Subscribers<S>>
+        ensures value { option_copied result
+            ≡ subscribers_of (names K.cmp S.cmp) self.now key.now }
+        ensures positive { IfSome result (λ subscribers. 0 < length subscribers.now) }
+    {
+        self.demand.get(key)
+    }
+
+    /// How many keys there are.
+    pub fn len(&self) -> usize
+        ensures { result ≡ length self.now }
+    {
+        self.demand.len()
+    }
+
+    /// Whether nobody waits for anything.
+    pub fn is_empty(&self) -> bool
+        ensures { IsTrue result ↔ (self.now ≡ []) }
+    {
+        self.demand.is_empty()
+    }
+
+    /// The keys in their order, each with its subscribers.
+    pub fn iter(&self) -> Iter<'_, K, Subscribers<S>>
+        ensures rest { result ≡ self.now }
+        ensures positive { IsTrue (list_all has_subscribers self.now) }
+        ensures ordered { IsStrictlySortedBy K.cmp (keys_of self.now) }
+        ensures runs { ShowsInOrder (deref_pair {K = K} {X = Subscribers S}) }
+    {
+        self.demand.iter()
+    }
+}
+
+impl<K: Ord + Clone + Drop, S: Ord + Clone + Drop> Tracker<K, S> {
+    /// Clones of the keys and subscribers, which are to equal their sources, with the marks.
+    pub fn clone(&self) -> Result<Self, AllocError>
+        requires keys_clone { (x y : K) → K.is_clone x y → y ≡ x }
+        requires subscribers_clone { (x y : S) → S.is_clone x y → y ≡ x }
+        ensures same { IfOk result (λ tracker. tracker ≡ self.now) }
+    {
+        let demand = self.demand.clone()?;
+        Ok(Tracker {
+            demand,
+            alloc: self.alloc,
+        })
+    }
+}
+
+/// Attaches subscribers to a key that is there.
+fn attach_to<K: Ord, S: Ord + Drop>(
+    demand: &mut BTreeMap<K, Subscribers<S>>,
+    key: &K,
+    more: Vec<(S, u64)>,
+) -> Result<(), AllocError>
+    ensures ok { OnOk result (IfSome (get K.cmp demand.old key.now)
+        (λ subscribers. demand.new.entries
+        ≡ set_value (is_at (K.cmp key.now)) demand.old.entries (attached_all S.cmp subscribers more.items))) }
+    ensures err { OnErr result (demand.new.entries ≡ demand.old.entries) }
+{
+    if let Some(subscribers) = demand.get_mut(key) {
+        subscribers.attach_all(more)?;
+    }
+    Ok(())
+}
+
+/// Removes subscribers of a key.
+fn detach_from<K: Ord, S: Ord + Drop>(
+    demand: &mut BTreeMap<K, Subscribers<S>>,
+    key: &K,
+    named: &[(S, u64)],
+)
+    ensures { IfSome (get K.cmp demand.old key.now)
+        (λ subscribers. demand.new.entries
+        ≡ set_value (is_at (K.cmp key.now)) demand.old.entries (without S.cmp named.now subscribers)) }
+{
+    if let Some(subscribers) = demand.get_mut(key) {
+        subscribers.detach_all(named);
+    }
+}
+
+/// The keys that have no subscriber that is kept.
+fn emptied_keys<K: Ord + Clone + Drop, S: Ord, Q: Predicate<K, S>>(
+    alloc: Global,
+    demand: &BTreeMap<K, Subscribers<S>>,
+    keep: &Q,
+) -> Result<Vec<K>, AllocError>
+    requires keys_clone { (x y : K) → K.is_clone x y → y ≡ x }
+    ensures { IfOk result (λ keys. keys.items ≡ emptied (Q.keeps keep.now) demand.now.entries) }
+{
+    let mut emptied = Vec::new(alloc);
+    for (key, subscribers) in demand {
+        if !subscribers.keeps_any(key, keep) {
+            emptied.push(key.clone()?)?;
+        }
+    }
+    Ok(emptied)
+}
+
+/// Removes the subscribers that aren't kept, and the keys that have none then.
+fn prune<K: Ord + Drop, S: Ord + Drop, Q: Predicate<K, S>>(
+    demand: &mut BTreeMap<K, Subscribers<S>>,
+    keep: &Q,
+)
+    ensures { demand.new.entries ≡ kept (Q.keeps keep.now) demand.old.entries }
+{
+    demand.retain(|key, subscribers| subscribers.retain(key, keep));
+}
+
+#[cfg(test)]
+mod tests;
