@@ -18,8 +18,9 @@ use Rattle.resolver_base.specs.Demand.{Pair, mark_of, has_pair, added, added_all
 use Rattle.resolver_base.specs.declared.root.Outcome.{Outcome}
 use Rattle.resolver_base.specs.declared.root.Outcome.TheVariants.{Invalid, Resolved, Unresolved, Ignored}
 use Rattle.resolver_base.specs.declared.root.Resolution.TheVariants.{Complete, Partial}
-use Rattle.resolver.specs.Table as tables
-use Rattle.resolver.specs.Table.{table, asked, asked_one, pruned, has_subscribers, is_asked, left_with, without_these}
+use Rattle.resolver_base.specs.Table as tables
+use Rattle.resolver.specs.Account.{table}
+use Rattle.resolver_base.specs.Table.{asked, asked_one, asked_beside, pruned, has_subscribers, is_asked, left_with, without_these}
 use Rattle.resolver.specs.Account.{Account, Handed, Watched, Change, Adds, Keeps, Judges, Empties, Leaves, pairs, conflicts, nothing_asked, judged, demand_after_verdict, demand_after, watch, opens, left_open, completed_after, account_of}
 use Rattle.resolver.proofs.Deliveries.{Each, Each-imply, Each-remove_entry, Each-found}
 use Rattle.resolver.proofs.Rows.{Distinct-inserted, Distinct-removed, Distinct-set}
@@ -114,7 +115,7 @@ module _ {K S : Type 0} (n : Names K S) (keys : IsEquivalence (same_key n)) (ord
   good-row t k ss sound found = Each-found (Good n.subscriber order) (same_key n k) t ss sound.good found
 
   -- Fetches
-  sound-asked_one : (t : List (K × List (S × ℕ))) (item : K × List (S × ℕ)) → 0 < length item.1 → Sound t → (o : Option (List (S × ℕ))) → lookup (same_key n item.0) t ≡ o → Sound (asked_one n t item o)
+  sound-asked_one : (t : List (K × List (S × ℕ))) (item : K × List (S × ℕ)) → 0 < length item.1 → Sound t → (o : Option (List (S × ℕ))) → lookup (same_key n item.0) t ≡ o → Sound (asked_beside n t item o)
   sound-asked_one t item some sound None is = record {
     distinct = Distinct-inserted n keys item.0 t (attached_all n.subscriber [] item.1) is sound.distinct;
     good = Each-inserted n.key (Good n.subscriber order) t item.0 (attached_all n.subscriber [] item.1) sound.good (good-first n.subscriber order item.1 some);
@@ -125,7 +126,7 @@ module _ {K S : Type 0} (n : Names K S) (keys : IsEquivalence (same_key n)) (ord
   }
 
   tells-asked_one : (t : List (K × List (S × ℕ))) (d : List (Pair K S)) (item : K × List (S × ℕ)) → 0 < length item.1 → Tells t d
-      → Tells (asked_one n t item (lookup (same_key n item.0) t)) (added_all n d (pairs_of item.0 item.1))
+      → Tells (asked_one n t item) (added_all n d (pairs_of item.0 item.1))
   tells-asked_one t d item some tells = record {
     sound = sound-asked_one t item some tells.sound (lookup (same_key n item.0) t) refl;
     marks = λ k s.
@@ -149,7 +150,7 @@ module _ {K S : Type 0} (n : Names K S) (keys : IsEquivalence (same_key n)) (ord
   tells-fetched [] t d some tells = tells
   tells-fetched (item ∷ items) t d some tells =
       subst (Tells (asked n t (item ∷ items))) (sym (added_all-append d (pairs_of item.0 item.1) (all_pairs_of items)))
-      (tells-fetched items (asked_one n t item (lookup (same_key n item.0) t)) (added_all n d (pairs_of item.0 item.1)) some.1 (tells-asked_one t d item some.0 tells))
+      (tells-fetched items (asked_one n t item) (added_all n d (pairs_of item.0 item.1)) some.1 (tells-asked_one t d item some.0 tells))
 
   -- Retains
   sound-kept : (keep : K → S → Bool) (t : List (K × List (S × ℕ))) → Sound t → Sound (tables.kept keep t)
