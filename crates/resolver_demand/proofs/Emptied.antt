@@ -1,9 +1,9 @@
 -- The keys that a test leaves without subscribers, and those that it keeps.
-use Rattle.std.proofs.Common.{◌≡◌, Bool, true, false, not, cond, IsTrue, ℕ, List, [], ◌∷◌, length, filter, map, nat_lt, arith, rules, refl, ap, sym, subst}
+use Rattle.std.proofs.Common.{◌≡◌, Bool, true, false, ℕ, List, [], ◌∷◌, length, filter, nat_lt, arith, rules, subst}
 use Rattle.std.proofs.lemmas.Grind.{common_steps}
 use Rattle.std.specs.List.{list_any}
 use Rattle.std.specs.Map.Calls.{RetainsPairs}
-use Rattle.resolver_base.specs.Table.{has_subscribers, kept, emptied, pruned}
+use Rattle.resolver_base.specs.Table.{kept, emptied}
 
 -- a test finds an item exactly where the filter has one
 pub list_any-filter : {X : Type 0} (p : X → Bool) (xs : List X) → nat_lt 0 (length (filter p xs)) ≡ list_any p xs

@@ -1,5 +1,5 @@
 -- Each key of a table has a subscriber, whatever is done to it.
-use Rattle.std.proofs.Common.{◌≡◌, ◌<◌, ℕ, Bool, true, false, cond, IsTrue, List, [], ◌∷◌, Option, None, Some, IfSome, is_some, length, filter, map, nat_lt, arith, rules, sym, Bor}
+use Rattle.std.proofs.Common.{◌≡◌, ◌<◌, ℕ, Bool, true, IsTrue, List, [], ◌∷◌, Option, None, Some, IfSome, is_some, length, arith, rules, sym, Bor}
 use Rattle.std.proofs.lemmas.Grind.{common_steps}
 use Rattle.std.specs.List.{list_all}
 use Rattle.std.specs.Option.{option_copied}
@@ -9,7 +9,7 @@ use Rattle.std.specs.Ordering.{match_ordering}
 use Rattle.std.specs.declared.cmp.Ordering.{Ordering}
 use Rattle.std.specs.declared.cmp.Ordering.TheVariants.{Less, Equal, Greater}
 use Rattle.resolver_base.specs.Subscribers.{attached, attached_all}
-use Rattle.resolver_base.specs.Table.{has_subscribers, kept, pruned}
+use Rattle.resolver_base.specs.Table.{has_subscribers, kept}
 
 module _ {S : Type 0} (cmp : S → S → Ordering) where
   pub attached-positive : (ts : List (S × ℕ)) (s : S × ℕ) → 0 < length (attached cmp ts s)

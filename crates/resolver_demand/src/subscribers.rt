@@ -3,6 +3,7 @@
 //! `Tracker` is the demand: the keys, and for each of them its subscribers with their marks.
 
 mod listed;
+mod named;
 
 ghost use Rattle.std.specs.Prelude.{◌≡◌, ◌<◌, ◌↔◌, not, [], length, IsTrue, IfOk, OnOk, OnErr, IfErr, IfSome};
 ghost use Rattle.std.specs.Option.{option_copied};
@@ -17,6 +18,7 @@ ghost use Rattle.std.specs.List.Sorted.{IsStrictlySortedBy};
 ghost use Rattle.std.specs.Map.{keys_of, set_value};
 ghost use Rattle.std.specs.BTreeMap.{get, is_at};
 
+use crate::subscribers::named::Named;
 pub use listed::Subscribers;
 use resolver_base::base::{Fault, NonEmptyVec, Predicate};
 use std::alloc::{AllocError, Global};
@@ -153,12 +155,13 @@ impl<K: Ord + Drop, S: Ord + Drop> Tracker<K, S> {
         let Some(subscribers) = self.demand.get(key) else {
             return Ok(None);
         };
-        let rest = subscribers.without(self.alloc, delivered.as_slice())?;
+        let named = Named::new(self.alloc, delivered.as_slice())?;
+        let rest = subscribers.without(self.alloc, &named)?;
         let Ok(rest) = NonEmptyVec::try_from(rest) else {
             self.demand.remove(key);
             return Ok(None);
         };
-        detach_from(&mut self.demand, key, delivered.as_slice());
+        detach_from(&mut self.demand, key, &named);
         Ok(Some(rest))
     }
 
@@ -232,11 +235,11 @@ fn attach_to<K: Ord, S: Ord + Drop>(
 fn detach_from<K: Ord, S: Ord + Drop>(
     demand: &mut BTreeMap<K, Subscribers<S>>,
     key: &K,
-    named: &[(S, u64)],
+    named: &Named<'_, S>,
 )
     ensures { IfSome (get K.cmp demand.old key.now)
         (λ subscribers. demand.new.entries
-        ≡ set_value (is_at (K.cmp key.now)) demand.old.entries (without S.cmp named.now subscribers)) }
+        ≡ set_value (is_at (K.cmp key.now)) demand.old.entries (without S.cmp named.now.list.now subscribers)) }
 {
     if let Some(subscribers) = demand.get_mut(key) {
         subscribers.detach_all(named);

@@ -2,8 +2,9 @@
 
 ghost use Rattle.std.specs.Prelude.{◌≡◌, ◌≤◌, nat_lt, not, [], filter, insert, length, IfOk, OnOk, OnErr, MatchOption};
 ghost use Rattle.std.specs.List.{list_any};
-ghost use Rattle.resolver_base.specs.Subscribers.{attached, attached_all, is_among, without};
+ghost use Rattle.resolver_base.specs.Subscribers.{attached, attached_all, without};
 
+use crate::subscribers::named::Named;
 use resolver_base::base::Predicate;
 use std::alloc::{AllocError, Global};
 use std::cmp::Ordering;
@@ -55,11 +56,11 @@ impl<S: Ord + Drop> Subscribers<S> {
         Ok(())
     }
 
-    /// Removes the named ones. It takes time by the product of both lengths.
-    pub(super) fn detach_all(&mut self, named: &[(S, u64)])
-        ensures { self.new ≡ without S.cmp named.now self.old }
+    /// Removes the named ones.
+    pub(super) fn detach_all(&mut self, named: &Named<'_, S>)
+        ensures { self.new ≡ without S.cmp named.now.list.now self.old }
     {
-        self.listed.retain(|one| !is_among(named, &one.0));
+        self.listed.retain(|one| !named.has(&one.0));
     }
 
     /// Removes those that aren't kept, and answers whether one is left.
@@ -90,30 +91,23 @@ impl<S: Ord + Clone + Drop> Subscribers<S> {
         Vec::from_clones(alloc, self.listed.as_slice())
     }
 
-    /// Clones of those that aren't named, in their order. It takes time by the product of both
-    /// lengths.
+    /// Clones of those that aren't named, in their order.
     pub(super) fn without(
         &self,
         alloc: Global,
-        named: &[(S, u64)],
+        named: &Named<'_, S>,
     ) -> Result<Vec<(S, u64)>, AllocError>
         requires { (x y : S) → S.is_clone x y → y ≡ x }
-        ensures { IfOk result (λ rest. rest.items ≡ without S.cmp named.now self.now) }
+        ensures { IfOk result (λ rest. rest.items ≡ without S.cmp named.now.list.now self.now) }
     {
         let mut rest = Vec::new(alloc);
         for one in &self.listed {
-            if !is_among(named, &one.0) {
+            if !named.has(&one.0) {
                 rest.push(one.clone()?)?;
             }
         }
         Ok(rest)
     }
-}
-
-fn is_among<S: Ord>(named: &[(S, u64)], subscriber: &S) -> bool
-    ensures { result ≡ is_among S.cmp named.now subscriber.now }
-{
-    named.iter().any(|other| subscriber.cmp(&other.0).is_eq())
 }
 
 /// Where a subscriber goes; nowhere if it is there.

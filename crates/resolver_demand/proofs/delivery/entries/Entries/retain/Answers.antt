@@ -1,4 +1,4 @@
-use Rattle.std.proofs.Common.{◌≡◌, filter, rules, ap, sym, ◌∙◌}
+use Rattle.std.proofs.Common.{◌≡◌, filter, rules, ap}
 use Rattle.std.proofs.lemmas.Map.Made.{filter_same_pairs}
 use Rattle.resolver_demand.specs.Entries.{Numbered, retained}
 use Rattle.resolver_demand.proofs.delivery.entries.Entries.retain.Goals as goal

@@ -4,4 +4,4 @@ use Rattle.resolver_demand.proofs.subscribers.listed.Subscribers.without.Given a
 
 -- the rest so far, with what is kept of those that are left
 abbrev pub invariant-loop-one : goal.invariant-loop-one
-invariant-loop-one g l = l.rest.items ++ without g.S.Ord.cmp l.named (drop l.one-index l.one-items) ≡ without g.S.Ord.cmp l.named l.one-items
+invariant-loop-one g l = l.rest.items ++ without g.S.Ord.cmp l.named.list.now (drop l.one-index l.one-items) ≡ without g.S.Ord.cmp l.named.list.now l.one-items
