@@ -1,1 +1,2 @@
 pub mod MappedInPart
+pub mod Lexicographic

@@ -4,3 +4,4 @@ pub mod Subscribers
 pub mod Faults
 pub mod Mapped
 pub mod Table
+pub mod Outcomes

@@ -74,22 +74,6 @@ impl<T: Drop> NonEmptyVec<T> {
         self.as_slice().contains(item)
     }
 
-    /// The items in their order.
-    pub fn as_slice(&self) -> &[T]
-        ensures value { result.now ≡ self.now }
-        ensures positive { 0 < length result.now }
-    {
-        self.items.as_slice()
-    }
-
-    /// The items by reference, in their order.
-    pub fn iter(&self) -> Iter<'_, T>
-        ensures rest { iter_rest result ≡ self.now }
-        ensures runs { IterYieldsInOrder T }
-    {
-        self.items.iter()
-    }
-
     /// Puts an item last. Where memory is wanting, the item comes back in the error.
     pub fn push(&mut self, item: T) -> Result<(), AllocFailed<T>>
         ensures ok { OnOk result (self.new ≡ self.old ++ item ∷ []) }
@@ -136,6 +120,24 @@ impl<T: Drop> NonEmptyVec<T> {
     {
         let NonEmptyVec { items } = self;
         items
+    }
+}
+
+impl<T> NonEmptyVec<T> {
+    /// The items in their order.
+    pub fn as_slice(&self) -> &[T]
+        ensures value { result.now ≡ self.now }
+        ensures positive { 0 < length result.now }
+    {
+        self.items.as_slice()
+    }
+
+    /// The items by reference, in their order.
+    pub fn iter(&self) -> Iter<'_, T>
+        ensures rest { iter_rest result ≡ self.now }
+        ensures runs { IterYieldsInOrder T }
+    {
+        self.items.iter()
     }
 }
 
