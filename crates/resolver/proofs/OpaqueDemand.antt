@@ -29,7 +29,6 @@ use Rattle.resolver.specs.OpaqueSteps.{Input, Runs}
 use Rattle.resolver.specs.OpaqueLaws.{taken, demanded}
 use Rattle.resolver.specs.Account.{nothing_asked}
 use Rattle.resolver.specs.Account.{table}
-
 use Rattle.resolver.specs.Opaque.{opening}
 use Rattle.resolver.proofs.Tallies.{opening-tallies}
 use Rattle.resolver.proofs.Mapped.{seen, set_value-seen, insert_entry-seen, remove_entry-seen}

@@ -11,4 +11,5 @@ pub use resolver_demand::ingress;
 
 pub mod laws;
 pub mod opaque;
+pub mod p2p;
 mod ruling;

@@ -5,7 +5,6 @@
 //! can't be read, and with 1 after a fault, which standard error names.
 #![tactic(auto)]
 
-mod key;
 mod print;
 mod replay;
 mod script;

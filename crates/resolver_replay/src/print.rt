@@ -1,8 +1,8 @@
 //! Effects and rows as lines.
 
-use crate::key::Key;
 use bytes::Bytes;
 use resolver::opaque::{Effect, Phase, Row};
+use resolver::p2p::mocks::Key;
 use std::io;
 use std::io::Write;
 

@@ -1,12 +1,15 @@
 //! A script from its first line to its last.
 
-use crate::key::Key;
+ghost use Rattle.std.specs.Prelude.{◌≡◌};
+ghost use Rattle.resolver_replay.specs.declared.replay.Fault.TheVariants.{Memory};
+
 use crate::print;
 use crate::script::{Command, Moment, Unread, is_skipped, parse};
 use bytes::Bytes;
 use resolver::base::NonEmptyVec;
 use resolver::ingress::FetchKey;
 use resolver::opaque::{Actor, Effect, Event, Input};
+use resolver::p2p::mocks::Key;
 use std::alloc::{AllocError, AllocFailed, Global};
 use std::io;
 use std::io::{BufRead, ErrorKind, Write};
@@ -43,12 +46,16 @@ pub enum Fault {
 }
 
 impl From<AllocError> for Fault {
+    ghost from_gives = { λ _ fault. fault ≡ Memory };
+
     fn from(_: AllocError) -> Fault {
         Fault::Memory
     }
 }
 
 impl<T: Drop> From<AllocFailed<T>> for Fault {
+    ghost from_gives = { λ _ fault. fault ≡ Memory };
+
     fn from(_: AllocFailed<T>) -> Fault {
         Fault::Memory
     }

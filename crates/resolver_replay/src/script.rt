@@ -1,6 +1,7 @@
 //! The lines of a script.
 
-ghost use Rattle.std.specs.Prelude.{◌≤◌, ◌<◌, ◌^◌, IfSome, IfOk};
+ghost use Rattle.std.specs.Prelude.{◌≡◌, ◌≤◌, ◌<◌, ◌^◌, IfOk};
+ghost use Rattle.resolver_replay.specs.declared.script.Unread.TheVariants.{OutOfMemory};
 
 use bytes::Bytes;
 use resolver::{Outcome, Resolution};
@@ -53,12 +54,16 @@ pub enum Unread {
 }
 
 impl From<AllocError> for Unread {
+    ghost from_gives = { λ _ unread. unread ≡ OutOfMemory };
+
     fn from(_: AllocError) -> Unread {
         Unread::OutOfMemory
     }
 }
 
 impl<T: Drop> From<AllocFailed<T>> for Unread {
+    ghost from_gives = { λ _ unread. unread ≡ OutOfMemory };
+
     fn from(_: AllocFailed<T>) -> Unread {
         Unread::OutOfMemory
     }

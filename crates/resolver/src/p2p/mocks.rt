@@ -1,16 +1,24 @@
-//! The keys of scripts.
+//! Parts for tests of what stands on a resolver.
 
 use bytes::{BufMut, BytesMut};
-use resolver::base::Span;
+use resolver_base::base::Span;
 use std::alloc::AllocError;
+use std::fmt;
 
 /// A key of one byte.
-#[derive(Clone, Copy, Debug, PartialEq, Eq, PartialOrd, Ord, Hash)]
+#[derive(Clone, Copy, Default, Debug, PartialEq, Eq, PartialOrd, Ord, Hash)]
 pub struct Key(pub u8);
+
+impl fmt::Display for Key {
+    fn fmt<W: fmt::Write>(&self, f: &mut fmt::Formatter<W>) -> fmt::Result {
+        let name = self.0;
+        write!(f, "Key({name})")
+    }
+}
 
 impl Span for Key {
     ghost use Rattle.std.proofs.Common.{lit<, refl, eq-eqb};
-    ghost use Rattle.resolver_replay.specs.KeyBytes.{bytes_of, read_from, bytes_of-read_from};
+    ghost use Rattle.resolver.specs.MockKeys.{bytes_of, read_from, bytes_of-read_from};
 
     ghost SIZE = { 1 };
 
@@ -38,16 +46,4 @@ impl Span for Key {
 }
 
 #[cfg(test)]
-mod tests {
-    use super::*;
-    use std::test::Fail;
-
-    #[test]
-    fn a_key_is_read_again(rt: HostRuntime) -> Result<(), Fail> {
-        let mut bytes = BytesMut::new(rt.alloc());
-        Key(123).write(&mut bytes)?;
-        assert_eq!(rt; bytes.as_slice(), [123].as_slice());
-        assert_eq!(rt; Key::read(&[123]), Some(Key(123)));
-        Ok(())
-    }
-}
+mod tests;

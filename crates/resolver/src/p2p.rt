@@ -1,0 +1,3 @@
+//! Fetching from peers. What stands of it so far are parts for tests.
+
+pub mod mocks;
