@@ -1,2 +1,4 @@
 pub mod Groups
 pub mod Layouts
+pub mod Lengths
+pub mod Pieces

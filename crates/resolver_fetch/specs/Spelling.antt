@@ -38,6 +38,11 @@ value_of (Request key) = []
 value_of (Response value) = value
 value_of Error = []
 
+-- a value that isn't empty is a piece of its own
+abbrev pub pieces_of : List ℕ → List ℕ → List (List ℕ)
+pieces_of front [] = front ∷ []
+pieces_of front (b ∷ bytes) = front ∷ (b ∷ bytes) ∷ []
+
 module _ {K : Type 0} (bytes_of : K → List ℕ) where
   -- the spelling, by three cases
   abbrev pub SpellsPayload : Payload K → List ℕ → Type 0
@@ -61,20 +66,17 @@ module _ {K : Type 0} (bytes_of : K → List ℕ) where
   abbrev pub spelling : Message K → List ℕ
   spelling m = inline m ++ value_of m.payload
 
-  -- a value that isn't empty is a piece of its own
-  abbrev pub pieces_of : List ℕ → List ℕ → List (List ℕ)
-  pieces_of front [] = front ∷ []
-  pieces_of front (b ∷ bytes) = front ∷ (b ∷ bytes) ∷ []
-
   abbrev pub pieces : Message K → List (List ℕ)
   pieces m = pieces_of (inline m) (value_of m.payload)
 
--- the payload carries at most this many bytes of a value
-abbrev pub Carries : {K : Type 0} → ℕ → Payload K → Type 0
-Carries most payload = length (value_of payload) ≤ most
-
--- how long the spelling of a payload is, in a message
+-- how long a message with this payload is
 abbrev pub HasLength : {K : Type 0} → ℕ → Payload K → ℕ → Type 0
 HasLength size (Request key) n = n ≡ size + 9
 HasLength size (Response value) n = n ≤ length value + 14
 HasLength size Error n = n ≡ 9
+
+-- how long it is up to its value
+abbrev pub HasInlineLength : {K : Type 0} → ℕ → Payload K → ℕ → Type 0
+HasInlineLength size (Request key) n = n ≡ size + 9
+HasInlineLength size (Response value) n = n ≤ 14
+HasInlineLength size Error n = n ≡ 9

@@ -5,15 +5,21 @@
 //! response's is followed by the length of the value and the value. Whatever bytes a peer sends are
 //! read as a message or refused, and the first fault from the front decides how.
 
-ghost use Rattle.std.specs.Prelude.{◌≡◌, ℕ, ◌+◌, ◌^◌, ◌<◌, ◌≤◌, ◌⊎◌, length, max, Ok, Err, IfOk, IfErr, OnErr};
+ghost use Rattle.std.specs.Prelude.{◌≡◌, ℕ, ◌+◌, ◌^◌, ◌<◌, ◌≤◌, ◌⊎◌, ◌++◌, length, max, Ok, Err, IfOk, IfErr, OnOk, OnErr};
 ghost use Rattle.resolver_base.specs.declared.base.fault.Fault.TheVariants.{OutOfMemory};
+ghost use Rattle.std.specs.List.{concat};
+ghost use Rattle.bytes.specs.Filled.{UsesSpare};
+ghost use Rattle.resolver_fetch.specs.Spelling.{IsShort, HasLength, HasInlineLength, inline, spelling, pieces};
 ghost use Rattle.resolver_fetch.specs.Reading.{message_at, whole_message, CutsValue};
 
-use bytes::Bytes;
+use bytes::{Bytes, BytesMut};
 use reading::Layout;
 use resolver_base::base::{Fault, Span};
+use std::alloc::{AllocError, Global};
+use writing::length_size;
 
 mod reading;
+mod writing;
 
 /// How many bytes a request has besides its key, and all the bytes of an error.
 pub const REQUEST_OVERHEAD: usize = 9;
@@ -22,7 +28,7 @@ pub const REQUEST_OVERHEAD: usize = 9;
 pub const MAX_RESPONSE_OVERHEAD: usize = 14;
 
 /// What one peer sends another.
-#[derive(Debug, Drop, PartialEq, Eq)]
+#[derive(Clone, Debug, Drop, PartialEq, Eq)]
 pub struct Message<Key> {
     /// Names a request; its answer has the same.
     pub id: u64,
@@ -31,7 +37,7 @@ pub struct Message<Key> {
 }
 
 /// What a message asks or answers.
-#[derive(Debug, Drop, PartialEq, Eq)]
+#[derive(Clone, Debug, Drop, PartialEq, Eq)]
 pub enum Payload<Key> {
     /// The data of this key is wanted.
     Request(Key),
@@ -41,7 +47,99 @@ pub enum Payload<Key> {
     Error,
 }
 
+/// How long a message can be at most, where a response's value has at most so many bytes.
+pub fn max_message_size<Key: Span>(value: usize) -> usize
+    requires { value < 2 ^ 32 }
+    ensures size { result ≡ max (Key.SIZE + 9) (value + 14) }
+{
+    (Key::SIZE + REQUEST_OVERHEAD).max(value + MAX_RESPONSE_OVERHEAD)
+}
+
+impl<Key: Clone> Message<Key> {
+    /// The same message, where clones of the key equal it. The value isn't copied.
+    pub fn clone(&self) -> Result<Self, AllocError>
+        requires keys_clone { (key copy : Key) → Key.is_clone key copy → copy ≡ key }
+        ensures same { IfOk result (λ copy. copy ≡ self.now) }
+    {
+        let payload = self.payload.clone()?;
+        Ok(Message {
+            id: self.id,
+            payload,
+        })
+    }
+}
+
+impl<Key: Clone> Payload<Key> {
+    /// The same payload, where clones of the key equal it. The value isn't copied.
+    pub fn clone(&self) -> Result<Self, AllocError>
+        requires keys_clone { (key copy : Key) → Key.is_clone key copy → copy ≡ key }
+        ensures same { IfOk result (λ copy. copy ≡ self.now) }
+    {
+        match self {
+            Payload::Request(key) => Ok(Payload::Request(key.clone()?)),
+            Payload::Response(value) => Ok(Payload::Response(value.clone()?)),
+            Payload::Error => Ok(Payload::Error),
+        }
+    }
+}
+
 impl<Key: Span> Message<Key> {
+    /// Appends the message, or nothing where memory is wanting. It takes no memory where there is
+    /// room.
+    pub fn write(&self, out: &mut BytesMut) -> Result<(), AllocError>
+        requires short { IsShort self.now.payload }
+        ensures ok { OnOk result
+            (out.new.items ≡ out.old.items ++ spelling Key.bytes_of self.now) }
+        ensures err { OnErr result (out.new.items ≡ out.old.items) }
+        ensures spare { UsesSpare result out.old.spare out.new.spare
+            (length (spelling Key.bytes_of self.now)) }
+    {
+        out.reserve(self.encode_size())?;
+        self.put_inline(out)?;
+        out.extend_reserved(self.value());
+        Ok(())
+    }
+
+    /// The message in pieces. There is one, and for a response that isn't empty a second, which is
+    /// the value itself and no copy of it.
+    pub fn write_bufs(&self, alloc: Global) -> Result<Vec<Bytes>, AllocError>
+        requires short { IsShort self.now.payload }
+        ensures pieces { IfOk result (λ list. list.items ≡ pieces Key.bytes_of self.now) }
+        ensures joined { IfOk result
+            (λ list. concat list.items ≡ spelling Key.bytes_of self.now) }
+    {
+        let mut list = Vec::with_capacity(alloc, 2)?;
+        list.push(self.inline_piece(alloc)?)?;
+        if let Payload::Response(value) = &self.payload {
+            if !value.is_empty() {
+                list.push(value.clone()?)?;
+            }
+        }
+        Ok(list)
+    }
+
+    /// How many bytes the message has.
+    pub fn encode_size(&self) -> usize
+        requires short { IsShort self.now.payload }
+        ensures size { result ≡ length (spelling Key.bytes_of self.now) }
+        ensures overhead { HasLength Key.SIZE self.now.payload result }
+    {
+        self.encode_inline_size() + self.value().len()
+    }
+
+    /// How many bytes the first piece has.
+    pub fn encode_inline_size(&self) -> usize
+        requires short { IsShort self.now.payload }
+        ensures size { result ≡ length (inline Key.bytes_of self.now) }
+        ensures overhead { HasInlineLength Key.SIZE self.now.payload result }
+    {
+        match &self.payload {
+            Payload::Request(_) => REQUEST_OVERHEAD + Key::SIZE,
+            Payload::Response(value) => REQUEST_OVERHEAD + length_size(value.len() as u32),
+            Payload::Error => REQUEST_OVERHEAD,
+        }
+    }
+
     /// Takes a message from the front of the buffer.
     ///
     /// The value of a response is cut from the buffer without a copy. Memory is wanted only where
