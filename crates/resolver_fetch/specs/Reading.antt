@@ -1,17 +1,21 @@
 -- Reading a message from the front: the first fault decides.
-use Rattle.std.specs.Prelude.{◌≡◌, ℕ, zero, suc, ◌+◌, ◌-◌, ◌*◌, ◌<◌, Bool, true, ⊤, ◌==◌, List, [], ◌∷◌, length, take, drop, Option, Some, None, Result, Ok, Err, nat_lt, if◌then◌else◌}
+use Rattle.std.specs.Prelude.{◌≡◌, ℕ, zero, suc, ◌+◌, ◌-◌, ◌*◌, ◌<◌, Bool, true, ⊤, ◌==◌, List, [], ◌∷◌, ◌++◌, length, take, drop, slice_index, Option, Some, None, Result, Ok, Err, MatchResult, IsOkAnd, nat_lt, if◌then◌else◌}
 use Rattle.std.specs.Int.{w64, from_be_bytes}
 use Rattle.resolver_base.specs.declared.base.fault.Fault.{Fault}
 use Rattle.resolver_base.specs.declared.base.fault.Fault.TheVariants as faults
 use Rattle.resolver_fetch.specs.declared.wire.Message.{Message}
 use Rattle.resolver_fetch.specs.declared.wire.Payload.{Payload}
 use Rattle.resolver_fetch.specs.declared.wire.Payload.TheVariants.{Request, Response, Error}
-use Rattle.resolver_fetch.specs.Spelling.{value_of}
+use Rattle.resolver_fetch.specs.Spelling.{IsSendable, value_of, Spells}
 
 infixl 10 ◌>>=◌
 abbrev pub ◌>>=◌ : {A B : Type 0} → Result A Fault → (A → Result B Fault) → Result B Fault
 (Ok x) >>= f = f x
 (Err e) >>= f = Err e
+
+-- each is a byte
+abbrev pub AreBytes : List ℕ → Type 0
+AreBytes bytes = (i : ℕ) → slice_index bytes i < 256
 
 -- n bytes, and those after them
 unfoldable pub bytes_at : ℕ → List ℕ → Result (List ℕ × List ℕ) Fault
@@ -67,8 +71,8 @@ abbrev pub CutsValue : {K : Type 0} → Result (Message K × List ℕ) Fault →
 CutsValue (Ok read) = (0 < length (value_of read.0.payload)) × (0 < length read.1)
 CutsValue (Err fault) = ⊥
 
+-- the same but for the key, which is equal
 module _ {K : Type 0} (eq : K → K → Bool) where
-  -- the same but for the key, which is equal
   abbrev pub SamePayload : Payload K → Payload K → Type 0
   SamePayload (Request key) (Request other) = eq key other ≡ true
   SamePayload (Response value) (Response other) = value ≡ other
@@ -78,3 +82,18 @@ module _ {K : Type 0} (eq : K → K → Bool) where
   pub record IsSame (m n : Message K) : Type 0 where
     pub id : m.id ≡ n.id
     pub payload : SamePayload m.payload n.payload
+
+-- the message, and that its spelling was taken from the front
+abbrev pub TakesSpelling : {K : Type 0} → (K → List ℕ) → Message K → List ℕ → List ℕ → Type 0
+TakesSpelling bytes_of m old new = IsSendable m × ((front : List ℕ) × Spells bytes_of m front × (old ≡ front ++ new))
+
+module _ {K : Type 0} (bytes_of : K → List ℕ) (eq : K → K → Bool) where
+  -- what spells a message is read as that message
+  abbrev pub ReadsSpelling : List ℕ → Result (Message K) Fault → Type 0
+  ReadsSpelling bytes result = (m : Message K) → IsSendable m → Spells bytes_of m bytes → IsOkAnd result (λ n. IsSame eq m n)
+
+  -- so is what begins with its spelling, and the rest is left; memory may be wanting
+  abbrev pub ReadsFront : List ℕ → Result (Message K) Fault → List ℕ → Type 0
+  ReadsFront old result new =
+      (m : Message K) (front rest : List ℕ) → IsSendable m → Spells bytes_of m front → old ≡ front ++ rest
+      → MatchResult result (λ n. IsSame eq m n × (new ≡ rest)) (λ fault. fault ≡ faults.OutOfMemory)

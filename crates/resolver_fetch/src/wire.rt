@@ -5,12 +5,12 @@
 //! response's is followed by the length of the value and the value. Whatever bytes a peer sends are
 //! read as a message or refused, and the first fault from the front decides how.
 
-ghost use Rattle.std.specs.Prelude.{◌≡◌, ℕ, ◌+◌, ◌^◌, ◌<◌, ◌≤◌, ◌⊎◌, ◌++◌, length, max, Ok, Err, IfOk, IfErr, OnOk, OnErr};
+ghost use Rattle.std.specs.Prelude.{◌≡◌, ℕ, ◌+◌, ◌^◌, ◌<◌, ◌≤◌, ◌⊎◌, [], ◌++◌, length, max, Ok, Err, IfOk, IfErr, OnOk, OnErr};
 ghost use Rattle.resolver_base.specs.declared.base.fault.Fault.TheVariants.{OutOfMemory};
 ghost use Rattle.std.specs.List.{concat};
 ghost use Rattle.bytes.specs.Filled.{UsesSpare};
 ghost use Rattle.resolver_fetch.specs.Spelling.{IsShort, HasLength, HasInlineLength, inline, spelling, pieces};
-ghost use Rattle.resolver_fetch.specs.Reading.{message_at, whole_message, CutsValue};
+ghost use Rattle.resolver_fetch.specs.Reading.{AreBytes, message_at, whole_message, CutsValue, TakesSpelling, ReadsFront, ReadsSpelling};
 
 use bytes::{Bytes, BytesMut};
 use reading::Layout;
@@ -152,6 +152,36 @@ impl<Key: Span> Message<Key> {
             ⊎ ((fault ≡ OutOfMemory)
             × CutsValue (message_at Key.SIZE Key.read_from buffer.old))) }
         ensures err { OnErr result (buffer.new ≡ buffer.old) }
+
+        // What is read is spelled so, and what is spelled so is read, whatever follows.
+        ensures found { IfOk result
+            (λ message. TakesSpelling Key.bytes_of message buffer.old buffer.new) }
+        ensures again { ReadsFront Key.bytes_of Key.eq buffer.old result buffer.new }
+    {
+        Message::take(buffer)
+    }
+
+    /// The message that these bytes spell, all of them. It takes no memory, and the value of a
+    /// response is not copied.
+    pub fn decode(bytes: Bytes) -> Result<Self, Fault>
+        ensures exact { result ≡ whole_message Key.SIZE Key.read_from bytes }
+
+        // What is read is spelled so, and what is spelled so is read.
+        ensures found { IfOk result (λ message. TakesSpelling Key.bytes_of message bytes []) }
+        ensures again { ReadsSpelling Key.bytes_of Key.eq bytes result }
+    {
+        Message::whole(bytes)
+    }
+
+    fn take(buffer: &mut Bytes) -> Result<Self, Fault>
+        ensures ok { IfOk result
+            (λ message. message_at Key.SIZE Key.read_from buffer.old ≡ Ok (message, buffer.new)) }
+        ensures refused { IfErr result
+            (λ fault. (message_at Key.SIZE Key.read_from buffer.old ≡ Err fault)
+            ⊎ ((fault ≡ OutOfMemory)
+            × CutsValue (message_at Key.SIZE Key.read_from buffer.old))) }
+        ensures err { OnErr result (buffer.new ≡ buffer.old) }
+        ensures octets { AreBytes buffer.old }
     {
         let layout = Layout::of(buffer.as_slice())?;
         if layout.value() == 0 {
@@ -163,10 +193,9 @@ impl<Key: Span> Message<Key> {
         Ok(layout.with_value(value))
     }
 
-    /// The message that these bytes spell, all of them. It takes no memory, and the value of a
-    /// response is not copied.
-    pub fn decode(mut bytes: Bytes) -> Result<Self, Fault>
+    fn whole(mut bytes: Bytes) -> Result<Self, Fault>
         ensures exact { result ≡ whole_message Key.SIZE Key.read_from bytes }
+        ensures octets { AreBytes bytes }
     {
         let layout = Layout::of(bytes.as_slice())?;
         if layout.lead() + layout.value() < bytes.len() {

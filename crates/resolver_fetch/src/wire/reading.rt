@@ -2,7 +2,7 @@
 
 ghost use Rattle.std.specs.Prelude.{◌≡◌, ℕ, ◌+◌, ◌^◌, ◌<◌, ◌≤◌, List, length, take, drop, MatchResult, IfOk, Ok, Err};
 ghost use Rattle.std.specs.Int.{w64, from_be_bytes};
-ghost use Rattle.resolver_fetch.specs.Reading.{bytes_at, id_at, varint_at, payload_at, message_at};
+ghost use Rattle.resolver_fetch.specs.Reading.{AreBytes, bytes_at, id_at, varint_at, payload_at, message_at};
 ghost use Rattle.resolver_fetch.specs.Layout.{Gives, IsRest, value_len, payload_of, payload_in, body_end, message_of, message_in, end_of};
 
 use crate::wire::{Message, Payload};
@@ -47,6 +47,7 @@ impl<Key: Span> Layout<Key> {
             ≡ Ok (message_in layout bytes.now, drop (end_of layout) bytes.now))
             (λ fault. message_at Key.SIZE Key.read_from bytes.now ≡ Err fault) }
         ensures within { IfOk result (λ layout. end_of layout ≤ length bytes.now) }
+        ensures octets { AreBytes bytes.now }
     {
         let (id, rest) = id_of(bytes)?;
         let body = Body::of(rest)?;

@@ -1,29 +1,15 @@
-use Rattle.std.proofs.Common.{◌≡◌, length, take, drop, sym, ap, ◌∙◌, arith, length-drop}
-use Rattle.std.proofs.lemmas.Result.{err_from_is_err_and}
-use Rattle.resolver_fetch.specs.Layout.{message_of, value_len, end_of}
-use Rattle.resolver_fetch.proofs.Layouts.{whole_refused, whole_extra, whole_read, done, value_at_end}
+use Rattle.resolver_fetch.proofs.RoundTrip.{IsCodec, found_whole, again_whole}
+use Rattle.resolver_fetch.proofs.wire.Message.decode.Given.{Over}
 use Rattle.resolver_fetch.proofs.wire.Message.decode.Goals as goal
 
-pub returns-in_err-layout : goal.returns-in_err-layout
-returns-in_err-layout g c =
-    let p = err_from_is_err_and c.from_residual.result c.from_residual.ensures.1 in
-    record { exact = rw (p.1, p.2, ← c.as_slice.ensures) (sym (whole_refused g.Key.Span.SIZE g.Key.Span.read_from _ _ c.in_err-layout.ensures.lies)) }
+-- the laws of the key
+codec : (g : Over) → IsCodec g.Key.Span.SIZE g.Key.Span.bytes_of g.Key.Span.read_from g.Key.PartialEq.eq
+codec g =
+    let laws = g.met.Key.Span g.world.𝓛 g.world.𝓜 g.world.𝓡 ((λ s x. x), (λ x. x), (λ x. x), λ x. x) in
+    record { sized = laws.sized; again = laws.read_again; own = laws.own_bytes }
 
-pub returns-then-lead-value : goal.returns-then-lead-value
-returns-then-lead-value g c =
-    let lies = c.in_ok-layout.ensures in
-    let shown = c.as_slice.ensures in
-    record { exact = rw (← shown) (sym (whole_extra g.Key.Span.SIZE g.Key.Span.read_from _ _ _ lies.lies (omega (arith, length-drop (end_of c.in_ok-layout.layout) c.as_slice.result.now, ap length shown, lies.within)))) }
+pub returns-clause-found : goal.returns-clause-found
+returns-clause-found g c = found_whole _ _ _ _ (codec g) _ _ c.whole.ensures.octets c.whole.ensures.exact
 
-pub returns : goal.returns
-returns g c =
-    let lies = c.in_ok-layout.ensures in
-    let shown = c.as_slice.ensures in
-    let layout = c.in_ok-layout.layout in
-    let value : c.advance.new.self ≡ take (value_len layout.body.kind) (drop layout.body.lead (drop 8 c.as_slice.result.now)) =
-    c.advance.ensures ∙ rw (c.lead-2.ensures, ← shown) (sym (value_at_end c.as_slice.result.now layout.body.lead (value_len layout.body.kind) (omega (arith, ap length shown)))) in
-    record {
-      exact = rw (← shown)
-          (ap done (c.with_value.ensures ∙ ap (message_of layout) value)
-          ∙ sym (whole_read g.Key.Span.SIZE g.Key.Span.read_from _ _ _ lies.lies (omega (arith, length-drop (end_of layout) c.as_slice.result.now, ap length shown, lies.within))));
-    }
+pub returns-clause-again : goal.returns-clause-again
+returns-clause-again g c = again_whole _ _ _ _ (codec g) _ _ c.whole.ensures.exact
