@@ -1,18 +1,19 @@
 -- What is read is spelled so, and what is spelled so is read, whatever follows.
-use Rattle.std.proofs.Common.{◌≡◌, ℕ, zero, suc, ◌+◌, ◌^◌, ◌<◌, Bool, true, false, cond, eqb, ltb, List, [], ◌∷◌, ◌++◌, length, take, drop, Option, Some, None, Result, Ok, Err, refl, sym, ap, subst, ◌∙◌, append_assoc, ◌⊎◌, inl, inr, arith}
+use Rattle.std.proofs.Common.{◌≡◌, ℕ, zero, suc, ◌+◌, ◌^◌, ◌<◌, ◌≤◌, max, Bool, true, false, cond, eqb, ltb, List, [], ◌∷◌, ◌++◌, length, take, drop, Option, Some, None, Result, Ok, Err, refl, sym, ap, subst, ◌∙◌, append_assoc, ◌⊎◌, inl, inr, arith}
 use Rattle.std.specs.Prelude.{IsSomeAnd, IfOk, IfErr}
 use Rattle.std.specs.Int.{w64, to_be_bytes, from_be_bytes}
 use Rattle.std.proofs.lemmas.Bool.{cases_lt, ltb-false, le-ltb, eqb-true}
 use Rattle.std.proofs.lemmas.List.{append-nil, nil_from_length, take_at, drop_at, take-append-drop, length-append, length-take, length-take-le, get_or-drop, get_or-take, get_or_past}
+use Rattle.std.specs.Cmp.{IsEquivalence}
 use Rattle.std.proofs.lemmas.Nat.{be_bytes_8, from_be_bytes-to_be_bytes_8}
 use Rattle.resolver_base.specs.declared.base.fault.Fault.{Fault}
 use Rattle.resolver_base.specs.declared.base.fault.Fault.TheVariants as faults
 use Rattle.resolver_fetch.specs.declared.wire.Message.{Message}
 use Rattle.resolver_fetch.specs.declared.wire.Payload.{Payload}
 use Rattle.resolver_fetch.specs.declared.wire.Payload.TheVariants.{Request, Response, Error}
-use Rattle.resolver_fetch.specs.Spelling.{IsVarint, varint, IsShort, IsSendable, value_of, SpellsPayload, Spells, lead, spelling}
-use Rattle.resolver_fetch.specs.Reading.{◌>>=◌, AreBytes, bytes_at, id_at, varint_at, key_from, payload_at, message_at, whole_message, SamePayload, IsSame, CutsValue, TakesSpelling, ReadsFront, ReadsSpelling}
-use Rattle.resolver_fetch.proofs.Varints.{bind_ok, guard_ok, guard_held, ok_is, varint_is, varint_only, varint_again, varint_took, Took, AreBytes-rest}
+use Rattle.resolver_fetch.specs.Spelling.{IsVarint, varint, IsShort, IsSendable, value_of, SpellsPayload, Spells, lead, spelling, EachHasOneSpelling, Covers}
+use Rattle.resolver_fetch.specs.Reading.{◌>>=◌, AreBytes, bytes_at, id_at, varint_at, key_from, payload_at, message_at, whole_message, SamePayload, IsSame, CutsValue, TakesSpelling, ReadsFront, ReadsSpelling, NoneBeginsAnother}
+use Rattle.resolver_fetch.proofs.Varints.{varint_short, bind_ok, guard_ok, guard_held, ok_is, varint_is, varint_only, varint_again, varint_took, Took, AreBytes-rest}
 
 abbrev a_message : {K : Type 0} → Message K × List ℕ → Result (Message K × List ℕ) Fault
 a_message read = Ok read
@@ -227,3 +228,47 @@ module _ {K : Type 0} (bytes_of : K → List ℕ) where
   spelling_only m bytes sendable spelled =
       spelled.2 ∙ ap (λ (xs : List ℕ). to_be_bytes w64 m.id ++ xs) (payload_only m.payload spelled.0 sendable.short spelled.1)
       ∙ sym (append_assoc (to_be_bytes w64 m.id) (lead bytes_of m.payload) (value_of m.payload))
+
+  pub one_spelling : EachHasOneSpelling bytes_of
+  one_spelling m bytes sendable = (spelling_only m bytes sendable, λ e. rw e (spelling_spells m sendable))
+
+  lead_short : (size : ℕ) → ((key : K) → length (bytes_of key) ≡ size) → (payload : Payload K) → 8 + length (lead bytes_of payload) + length (value_of payload) ≤ max (size + 9) (length (value_of payload) + 14)
+  lead_short size sized (Request key) = omega (arith, sized key)
+  lead_short size sized (Response value) = omega (arith, varint_short 4 (length value))
+  lead_short size sized Error = omega arith
+
+  pub covers : (size value : ℕ) → ((key : K) → length (bytes_of key) ≡ size) → Covers bytes_of value (max (size + 9) (value + 14))
+  covers size value sized m most = omega (arith, lead_short size sized m.payload, length-append (lead bytes_of m.payload) (value_of m.payload))
+
+-- ---- two spellings in front of the same bytes
+
+module _ {K : Type 0} (size : ℕ) (bytes_of : K → List ℕ) (read_from : List ℕ → Option K) (eq : K → K → Bool) (codec : IsCodec size bytes_of read_from eq) (equal : IsEquivalence eq) where
+  same_payload : (p q r : Payload K) → SamePayload eq p r → SamePayload eq q r → SamePayload eq p q
+  same_payload (Request k) (Request l) (Request m) a b = equal.congr k m l a ∙ equal.symm m l ∙ b
+  same_payload (Request k) (Response w) (Request m) a b = absurd b
+  same_payload (Request k) Error (Request m) a b = absurd b
+  same_payload (Response v) (Request l) (Response x) a b = absurd b
+  same_payload (Response v) (Response w) (Response x) a b = a ∙ sym b
+  same_payload (Response v) Error (Response x) a b = absurd b
+  same_payload Error (Request l) Error a b = absurd b
+  same_payload Error (Response w) Error a b = absurd b
+  same_payload Error Error Error a b = tt
+  same_payload (Request k) q (Response x) a b = absurd a
+  same_payload (Request k) q Error a b = absurd a
+  same_payload (Response v) q (Request m) a b = absurd a
+  same_payload (Response v) q Error a b = absurd a
+  same_payload Error q (Request m) a b = absurd a
+  same_payload Error q (Response x) a b = absurd a
+
+  pub none_begins : NoneBeginsAnother bytes_of eq
+  none_begins m n front other rest end sends_m sends_n spells_m spells_n alike =
+      let a = message_again size bytes_of read_from eq codec m front rest sends_m spells_m in
+      let b = message_again size bytes_of read_from eq codec n other end sends_n spells_n in
+      let same = ok_is (a.0, rest) (b.0, end) (sym a.1 ∙ ap (message_at size read_from) alike ∙ b.1) in
+      let ends : rest ≡ end = ap (λ (p : Message K × List ℕ). p.1) same in
+      let reads : IsSame eq m b.0 = subst (IsSame eq m) (ap (λ (p : Message K × List ℕ). p.0) same) a.2 in
+      let long : length front ≡ length other = omega (arith, ap length alike, ap length ends, length-append front rest, length-append other end) in (
+        sym (take_at front rest (length front) refl) ∙ ap (take (length front)) alike ∙ take_at other end (length front) (sym long),
+        ends,
+        record { id = reads.id ∙ sym b.2.id; payload = same_payload m.payload n.payload b.0.payload reads.payload b.2.payload },
+      )

@@ -1,5 +1,5 @@
 -- The spelling of a length: there is one, and it is read again.
-use Rattle.std.proofs.Common.{◌≡◌, ℕ, zero, suc, ◌+◌, ◌-◌, ◌*◌, ◌/◌, ◌%◌, ◌^◌, ◌<◌, ◌≤◌, Bool, true, false, cond, eqb, ltb, List, [], ◌∷◌, ◌++◌, Result, Ok, Err, refl, sym, ap, subst, ◌∙◌, inl, inr, arith}
+use Rattle.std.proofs.Common.{◌≡◌, ℕ, zero, suc, ◌+◌, ◌-◌, ◌*◌, ◌/◌, ◌%◌, ◌^◌, ◌<◌, ◌≤◌, Bool, true, false, cond, eqb, ltb, List, [], ◌∷◌, ◌++◌, length, Result, Ok, Err, refl, sym, ap, subst, ◌∙◌, inl, inr, arith}
 use Rattle.std.proofs.lemmas.Bool.{cases_lt, lt-ltb, le-ltb, ltb-true, ne_eqb, eqb-false}
 use Rattle.std.proofs.Math.Nat.{pow-suc}
 use Rattle.resolver_base.specs.declared.base.fault.Fault.{Fault}
@@ -78,6 +78,15 @@ varint_again (suc k) n (b ∷ c ∷ bytes) rest small is =
     let some : eqb high 0 ≡ false = ne_eqb _ _ (λ e. omega (arith, is.2.1)) in
     let sum : b - 128 + 128 * high ≡ n = omega (arith, is.0, is.2.2) in
     rw (le-ltb b 128 is.0, tail, some, sum) refl
+
+pub varint_short : (k n : ℕ) → length (varint_in k n) ≤ k + 1
+unfolding varint_in
+varint_short zero n = omega arith
+varint_short (suc k) n =
+    elim (cases_lt n 128) [
+      | inl low ↦ rw (lt-ltb n 128 low) (omega arith)
+      | inr high ↦ rw (le-ltb n 128 high) (omega (arith, varint_short k (n / 128)))
+    ]
 
 -- what a reader took from the front
 pub record Took (bytes front rest : List ℕ) : Type 0 where

@@ -97,3 +97,9 @@ module _ {K : Type 0} (bytes_of : K → List ℕ) (eq : K → K → Bool) where
   ReadsFront old result new =
       (m : Message K) (front rest : List ℕ) → IsSendable m → Spells bytes_of m front → old ≡ front ++ rest
       → MatchResult result (λ n. IsSame eq m n × (new ≡ rest)) (λ fault. fault ≡ faults.OutOfMemory)
+
+  -- what begins with the spellings of two messages begins with one spelling, and they are the same
+  abbrev pub NoneBeginsAnother : Type 0
+  NoneBeginsAnother =
+      (m n : Message K) (front other rest end : List ℕ) → IsSendable m → IsSendable n → Spells bytes_of m front → Spells bytes_of n other → front ++ rest ≡ other ++ end
+      → (front ≡ other) × (rest ≡ end) × IsSame eq m n

@@ -1,5 +1,5 @@
 -- How a message is spelled: its id, a tag, and what the tag asks for.
-use Rattle.std.specs.Prelude.{◌≡◌, ℕ, zero, suc, ◌+◌, ◌*◌, ◌/◌, ◌%◌, ◌^◌, ◌<◌, ◌≤◌, ⊤, List, [], ◌∷◌, ◌++◌, length, nat_lt, if◌then◌else◌}
+use Rattle.std.specs.Prelude.{◌≡◌, ◌↔◌, ℕ, zero, suc, ◌+◌, ◌*◌, ◌/◌, ◌%◌, ◌^◌, ◌<◌, ◌≤◌, ⊤, List, [], ◌∷◌, ◌++◌, length, nat_lt, if◌then◌else◌}
 use Rattle.std.specs.Int.{w64, to_be_bytes}
 use Rattle.resolver_fetch.specs.declared.wire.Message.{Message}
 use Rattle.resolver_fetch.specs.declared.wire.Payload.{Payload}
@@ -68,6 +68,14 @@ module _ {K : Type 0} (bytes_of : K → List ℕ) where
 
   abbrev pub pieces : Message K → List (List ℕ)
   pieces m = pieces_of (inline m) (value_of m.payload)
+
+module _ {K : Type 0} (bytes_of : K → List ℕ) where
+  abbrev pub EachHasOneSpelling : Type 0
+  EachHasOneSpelling = (m : Message K) (bytes : List ℕ) → IsSendable m → Spells bytes_of m bytes ↔ (bytes ≡ spelling bytes_of m)
+
+  -- no message with a value of at most this many bytes is longer
+  abbrev pub Covers : ℕ → ℕ → Type 0
+  Covers value longest = (m : Message K) → length (value_of m.payload) ≤ value → length (spelling bytes_of m) ≤ longest
 
 -- how long a message with this payload is
 abbrev pub HasLength : {K : Type 0} → ℕ → Payload K → ℕ → Type 0

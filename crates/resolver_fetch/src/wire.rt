@@ -9,7 +9,7 @@ ghost use Rattle.std.specs.Prelude.{◌≡◌, ℕ, ◌+◌, ◌^◌, ◌<◌, �
 ghost use Rattle.resolver_base.specs.declared.base.fault.Fault.TheVariants.{OutOfMemory};
 ghost use Rattle.std.specs.List.{concat};
 ghost use Rattle.bytes.specs.Filled.{UsesSpare};
-ghost use Rattle.resolver_fetch.specs.Spelling.{IsShort, HasLength, HasInlineLength, inline, spelling, pieces};
+ghost use Rattle.resolver_fetch.specs.Spelling.{IsShort, Covers, HasLength, HasInlineLength, inline, spelling, pieces};
 ghost use Rattle.resolver_fetch.specs.Reading.{AreBytes, message_at, whole_message, CutsValue, TakesSpelling, ReadsFront, ReadsSpelling};
 
 use bytes::{Bytes, BytesMut};
@@ -18,6 +18,7 @@ use resolver_base::base::{Fault, Span};
 use std::alloc::{AllocError, Global};
 use writing::length_size;
 
+mod laws;
 mod reading;
 mod writing;
 
@@ -51,6 +52,7 @@ pub enum Payload<Key> {
 pub fn max_message_size<Key: Span>(value: usize) -> usize
     requires { value < 2 ^ 32 }
     ensures size { result ≡ max (Key.SIZE + 9) (value + 14) }
+    ensures covers { Covers Key.bytes_of value result }
 {
     (Key::SIZE + REQUEST_OVERHEAD).max(value + MAX_RESPONSE_OVERHEAD)
 }
