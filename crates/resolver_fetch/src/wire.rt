@@ -207,3 +207,6 @@ impl<Key: Span> Message<Key> {
         Ok(layout.with_value(bytes))
     }
 }
+
+#[cfg(test)]
+mod tests;
