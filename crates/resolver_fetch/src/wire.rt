@@ -28,6 +28,11 @@ pub const REQUEST_OVERHEAD: usize = 9;
 /// How many bytes a response has at most besides its value.
 pub const MAX_RESPONSE_OVERHEAD: usize = 14;
 
+/// The tag of each kind of message.
+const REQUEST: u8 = 0;
+const RESPONSE: u8 = 1;
+const ERROR: u8 = 2;
+
 /// What one peer sends another.
 #[derive(Clone, Debug, Drop, PartialEq, Eq)]
 pub struct Message<Key> {
@@ -175,6 +180,7 @@ impl<Key: Span> Message<Key> {
         Message::whole(bytes)
     }
 
+    /// What `read` does, as far as its definition by cases says it.
     fn take(buffer: &mut Bytes) -> Result<Self, Fault>
         ensures ok { IfOk result
             (λ message. message_at Key.SIZE Key.read_from buffer.old ≡ Ok (message, buffer.new)) }
@@ -195,6 +201,7 @@ impl<Key: Span> Message<Key> {
         Ok(layout.with_value(value))
     }
 
+    /// What `decode` does, as far as its definition by cases says it.
     fn whole(mut bytes: Bytes) -> Result<Self, Fault>
         ensures exact { result ≡ whole_message Key.SIZE Key.read_from bytes }
         ensures octets { AreBytes bytes }

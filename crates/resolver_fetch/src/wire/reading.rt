@@ -5,7 +5,7 @@ ghost use Rattle.std.specs.Int.{w64, from_be_bytes};
 ghost use Rattle.resolver_fetch.specs.Reading.{AreBytes, bytes_at, id_at, varint_at, payload_at, message_at};
 ghost use Rattle.resolver_fetch.specs.Layout.{Gives, IsRest, value_len, payload_of, payload_in, body_end, message_of, message_in, end_of};
 
-use crate::wire::{Message, Payload};
+use crate::wire::{ERROR, Message, Payload, REQUEST, RESPONSE};
 use bytes::Bytes;
 use resolver_base::base::{Fault, Span};
 
@@ -111,7 +111,7 @@ impl<Key: Span> Body<Key> {
             return Err(Fault::EndOfBuffer);
         };
         match *tag {
-            0 => {
+            REQUEST => {
                 let (name, _) = front_of(rest, Key::SIZE)?;
                 let key = Key::read(name).ok_or(Fault::Key)?;
                 Ok(Body {
@@ -119,7 +119,7 @@ impl<Key: Span> Body<Key> {
                     lead: 1 + Key::SIZE,
                 })
             }
-            1 => {
+            RESPONSE => {
                 let (value, rest) = length_of(rest)?;
                 let _ = front_of(rest, value as usize)?;
                 Ok(Body {
@@ -127,7 +127,7 @@ impl<Key: Span> Body<Key> {
                     lead: bytes.len() - rest.len(),
                 })
             }
-            2 => Ok(Body {
+            ERROR => Ok(Body {
                 kind: Kind::Error,
                 lead: 1,
             }),

@@ -3,16 +3,10 @@
 ghost use Rattle.std.specs.Prelude.{◌≡◌, ◌+◌, ◌≤◌, ◌++◌, length, IsOk, IfOk};
 ghost use Rattle.resolver_fetch.specs.Spelling.{varint, IsShort, inline, value_of};
 
-use crate::wire::{Message, Payload};
+use crate::wire::{ERROR, Message, Payload, REQUEST, RESPONSE};
 use bytes::{Bytes, BytesMut};
 use resolver_base::base::Span;
 use std::alloc::{AllocError, Global};
-
-const REQUEST: u8 = 0;
-
-const RESPONSE: u8 = 1;
-
-const ERROR: u8 = 2;
 
 impl<Key: Span> Message<Key> {
     /// The value that the message carries, empty where there is none.
