@@ -39,9 +39,9 @@ value_of (Response value) = value
 value_of Error = []
 
 -- a value that isn't empty is a piece of its own
-abbrev pub pieces_of : List ℕ → List ℕ → List (List ℕ)
-pieces_of front [] = front ∷ []
-pieces_of front (b ∷ bytes) = front ∷ (b ∷ bytes) ∷ []
+abbrev pub value_piece : List ℕ → List (List ℕ)
+value_piece [] = []
+value_piece (b ∷ bytes) = (b ∷ bytes) ∷ []
 
 module _ {K : Type 0} (bytes_of : K → List ℕ) where
   -- the spelling, by three cases
@@ -67,7 +67,7 @@ module _ {K : Type 0} (bytes_of : K → List ℕ) where
   spelling m = inline m ++ value_of m.payload
 
   abbrev pub pieces : Message K → List (List ℕ)
-  pieces m = pieces_of (inline m) (value_of m.payload)
+  pieces m = inline m ∷ value_piece (value_of m.payload)
 
 module _ {K : Type 0} (bytes_of : K → List ℕ) where
   abbrev pub EachHasOneSpelling : Type 0

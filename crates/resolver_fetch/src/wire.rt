@@ -30,7 +30,9 @@ pub const MAX_RESPONSE_OVERHEAD: usize = 14;
 
 /// The tag of each kind of message.
 const REQUEST: u8 = 0;
+
 const RESPONSE: u8 = 1;
+
 const ERROR: u8 = 2;
 
 /// What one peer sends another.
@@ -117,11 +119,7 @@ impl<Key: Span> Message<Key> {
     {
         let mut list = Vec::with_capacity(alloc, 2)?;
         list.push(self.inline_piece(alloc)?)?;
-        if let Payload::Response(value) = &self.payload {
-            if !value.is_empty() {
-                list.push(value.clone()?)?;
-            }
-        }
+        self.push_value(&mut list)?;
         Ok(list)
     }
 

@@ -1,7 +1,7 @@
 //! Writing where there is room.
 
-ghost use Rattle.std.specs.Prelude.{◌≡◌, ◌+◌, ◌≤◌, ◌++◌, length, IsOk, IfOk};
-ghost use Rattle.resolver_fetch.specs.Spelling.{varint, IsShort, inline, value_of};
+ghost use Rattle.std.specs.Prelude.{◌≡◌, ◌+◌, ◌≤◌, ◌++◌, length, IsOk, IfOk, OnOk};
+ghost use Rattle.resolver_fetch.specs.Spelling.{varint, IsShort, inline, value_of, value_piece};
 
 use crate::wire::{ERROR, Message, Payload, REQUEST, RESPONSE};
 use bytes::{Bytes, BytesMut};
@@ -27,6 +27,18 @@ impl<Key: Span> Message<Key> {
         let mut piece = BytesMut::with_capacity(alloc, self.encode_inline_size())?;
         self.put_inline(&mut piece)?;
         Ok(piece.freeze()?)
+    }
+
+    /// Puts the value last, if there is one and it isn't empty. It isn't copied.
+    #[tactic(auto, using(crate::proofs::Pieces::no_piece, crate::proofs::Pieces::one_piece))]
+    pub(super) fn push_value(&self, list: &mut Vec<Bytes>) -> Result<(), AllocError>
+        ensures { OnOk result
+            (list.new.items ≡ list.old.items ++ value_piece (value_of self.now.payload)) }
+    {
+        match &self.payload {
+            Payload::Response(value) if !value.is_empty() => Ok(list.push(value.clone()?)?),
+            Payload::Request(_) | Payload::Response(_) | Payload::Error => Ok(()),
+        }
     }
 
     /// Appends what stands before a value. There is room, so that it always succeeds.
