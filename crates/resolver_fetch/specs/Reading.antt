@@ -27,7 +27,8 @@ id_at bytes = do
   id ← bytes_at 8 bytes
   Ok (from_be_bytes w64 id.0, id.1)
 
--- a length of at most k more bytes than one, of which the fifth has four bits, and the bytes after it
+-- a length of at most k more bytes than one, and the bytes after it. The last of five has four bits,
+-- and a last byte of 0 behind another is a fault.
 unfoldable pub varint_at : ℕ → List ℕ → Result (ℕ × List ℕ) Fault
 varint_at k [] = Err faults.EndOfBuffer
 varint_at zero (b ∷ bytes) = if nat_lt b 16 then Ok (b, bytes) else Err faults.InvalidVarint
@@ -36,10 +37,12 @@ varint_at (suc k) (b ∷ bytes) = if nat_lt b 128 then Ok (b, bytes) else do
   if rest.0 == 0 then Err faults.InvalidVarint else Ok (b - 128 + 128 * rest.0, rest.1)
 
 module _ {K : Type 0} (size : ℕ) (read_from : List ℕ → Option K) where
+  -- the key's own codec may refuse its bytes
   abbrev pub key_from : Option K → Result K Fault
   key_from None = Err faults.Key
   key_from (Some key) = Ok key
 
+  -- what a tag asks for, and the bytes after it
   unfoldable pub payload_at : List ℕ → Result (Payload K × List ℕ) Fault
   payload_at [] = Err faults.EndOfBuffer
   payload_at (zero ∷ bytes) = do
@@ -71,8 +74,8 @@ abbrev pub CutsValue : {K : Type 0} → Result (Message K × List ℕ) Fault →
 CutsValue (Ok read) = (0 < length (value_of read.0.payload)) × (0 < length read.1)
 CutsValue (Err fault) = ⊥
 
--- the same but for the key, which is equal
 module _ {K : Type 0} (eq : K → K → Bool) where
+  -- the same but for the key, which is equal
   abbrev pub SamePayload : Payload K → Payload K → Type 0
   SamePayload (Request key) (Request other) = eq key other ≡ true
   SamePayload (Response value) (Response other) = value ≡ other
@@ -83,7 +86,7 @@ module _ {K : Type 0} (eq : K → K → Bool) where
     pub id : m.id ≡ n.id
     pub payload : SamePayload m.payload n.payload
 
--- the message, and that its spelling was taken from the front
+-- the message can be sent, and its spelling was taken from the front
 abbrev pub TakesSpelling : {K : Type 0} → (K → List ℕ) → Message K → List ℕ → List ℕ → Type 0
 TakesSpelling bytes_of m old new = IsSendable m × ((front : List ℕ) × Spells bytes_of m front × (old ≡ front ++ new))
 
@@ -101,5 +104,6 @@ module _ {K : Type 0} (bytes_of : K → List ℕ) (eq : K → K → Bool) where
   -- what begins with the spellings of two messages begins with one spelling, and they are the same
   abbrev pub NoneBeginsAnother : Type 0
   NoneBeginsAnother =
-      (m n : Message K) (front other rest end : List ℕ) → IsSendable m → IsSendable n → Spells bytes_of m front → Spells bytes_of n other → front ++ rest ≡ other ++ end
+      (m n : Message K) (front other rest end : List ℕ) → IsSendable m → IsSendable n
+      → Spells bytes_of m front → Spells bytes_of n other → front ++ rest ≡ other ++ end
       → (front ≡ other) × (rest ≡ end) × IsSame eq m n

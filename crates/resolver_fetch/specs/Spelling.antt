@@ -13,7 +13,7 @@ IsVarint (b ∷ []) n = (b < 128) × (n ≡ b)
 IsVarint (b ∷ c ∷ bytes) n =
     (128 ≤ b) × (b < 256) × ((rest : ℕ) × (0 < rest) × (n + 128 ≡ b + 128 * rest) × IsVarint (c ∷ bytes) rest)
 
--- a length below 2 ^ 32, in at most k more bytes than one
+-- the same as a function, for a length that takes at most k more bytes than one
 unfoldable pub varint_in : ℕ → ℕ → List ℕ
 varint_in zero n = n ∷ []
 varint_in (suc k) n = if nat_lt n 128 then n ∷ [] else (n % 128 + 128) ∷ varint_in k (n / 128)
@@ -70,12 +70,15 @@ module _ {K : Type 0} (bytes_of : K → List ℕ) where
   pieces m = inline m ∷ value_piece (value_of m.payload)
 
 module _ {K : Type 0} (bytes_of : K → List ℕ) where
+  -- each message has one spelling
   abbrev pub EachHasOneSpelling : Type 0
-  EachHasOneSpelling = (m : Message K) (bytes : List ℕ) → IsSendable m → Spells bytes_of m bytes ↔ (bytes ≡ spelling bytes_of m)
+  EachHasOneSpelling =
+      (m : Message K) (bytes : List ℕ) → IsSendable m → Spells bytes_of m bytes ↔ (bytes ≡ spelling bytes_of m)
 
   -- no message with a value of at most this many bytes is longer
   abbrev pub Covers : ℕ → ℕ → Type 0
-  Covers value longest = (m : Message K) → length (value_of m.payload) ≤ value → length (spelling bytes_of m) ≤ longest
+  Covers value longest =
+      (m : Message K) → length (value_of m.payload) ≤ value → length (spelling bytes_of m) ≤ longest
 
 -- how long a message with this payload is
 abbrev pub HasLength : {K : Type 0} → ℕ → Payload K → ℕ → Type 0

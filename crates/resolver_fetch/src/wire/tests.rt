@@ -9,21 +9,21 @@ use keys::{Key, Zeros};
 use std::process::Abort;
 use std::test::Fail;
 
-const REQUEST: [u8; 10] = [0, 0, 0, 0, 0, 0, 0x04, 0xd2, 0, 0x7b];
+const REQUEST_BYTES: [u8; 10] = [0, 0, 0, 0, 0, 0, 0x04, 0xd2, 0, 0x7b];
 
-const ERROR: [u8; 9] = [0, 0, 0, 0, 0, 0, 0, 0xff, 2];
+const ERROR_BYTES: [u8; 9] = [0, 0, 0, 0, 0, 0, 0, 0xff, 2];
 
-const RESPONSE: [u8; 23] = *b"\0\0\0\0\0\0\x10\xe1\x01\x0dHello, world!";
+const RESPONSE_BYTES: [u8; 23] = *b"\0\0\0\0\0\0\x10\xe1\x01\x0dHello, world!";
 
 #[test]
 fn wire_vectors(rt: HostRuntime) -> Result<(), Fail> {
     let alloc = rt.alloc();
     let payload = Payload::Request(Key { value: 123 });
-    spelled(&rt, alloc, &Message { id: 1234, payload }, &REQUEST)?;
+    spelled(&rt, alloc, &Message { id: 1234, payload }, &REQUEST_BYTES)?;
     let payload = Payload::Error;
-    spelled(&rt, alloc, &Message { id: 255, payload }, &ERROR)?;
+    spelled(&rt, alloc, &Message { id: 255, payload }, &ERROR_BYTES)?;
     let payload = Payload::Response(Bytes::from_static(b"Hello, world!"));
-    spelled(&rt, alloc, &Message { id: 4321, payload }, &RESPONSE)?;
+    spelled(&rt, alloc, &Message { id: 4321, payload }, &RESPONSE_BYTES)?;
 
     let cases: [(&[u8], Fault); 4] = [
         (b"\0\0\0\0\0\0\x04\xd2\0", Fault::EndOfBuffer),
@@ -78,7 +78,8 @@ fn decodes(rt: &impl Abort, alloc: Global, bytes: &[u8], fault: Option<Fault>) -
 /// At this place, a byte from the first to the last of these is refused so.
 type Change = (usize, u8, u8, Fault);
 
-/// What a message that was cut short or changed at a byte is: bytes that no rule names are right.
+/// Each beginning has too few bytes. Each change of one byte is refused as the first of these that
+/// names it says, or is read, where none does.
 fn altered(rt: &impl Abort, alloc: Global, bytes: &[u8], changes: &[Change]) -> Result<(), Fail> {
     for place in 0..bytes.len() {
         decodes(rt, alloc, &bytes[..place], Some(Fault::EndOfBuffer))?;
@@ -114,9 +115,9 @@ fn messages_cut_short_or_changed(rt: HostRuntime) -> Result<(), Fail> {
         (9, 0, 12, Fault::ExtraData),
         (9, 14, 255, Fault::EndOfBuffer),
     ];
-    altered(&rt, rt.alloc(), &REQUEST, &request)?;
-    altered(&rt, rt.alloc(), &ERROR, &error)?;
-    altered(&rt, rt.alloc(), &RESPONSE, &response)
+    altered(&rt, rt.alloc(), &REQUEST_BYTES, &request)?;
+    altered(&rt, rt.alloc(), &ERROR_BYTES, &error)?;
+    altered(&rt, rt.alloc(), &RESPONSE_BYTES, &response)
 }
 
 #[test]
