@@ -28,11 +28,13 @@ pub const REQUEST_OVERHEAD: usize = 9;
 /// How many bytes a response has at most besides its value.
 pub const MAX_RESPONSE_OVERHEAD: usize = 14;
 
-/// The tag of each kind of message.
+/// The tag of a request.
 const REQUEST: u8 = 0;
 
+/// The tag of a response.
 const RESPONSE: u8 = 1;
 
+/// The tag of an error.
 const ERROR: u8 = 2;
 
 /// What one peer sends another.
