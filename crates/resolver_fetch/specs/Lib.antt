@@ -1,0 +1,4 @@
+pub mod Spelling
+pub mod Reading
+pub mod Layout
+pub mod TestKeys
