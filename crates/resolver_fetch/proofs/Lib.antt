@@ -1,0 +1,2 @@
+pub mod IdleScores
+pub mod Fades

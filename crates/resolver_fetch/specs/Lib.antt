@@ -1,0 +1,4 @@
+pub mod Times
+pub mod Scores
+pub mod Bounded
+pub mod ScoreLaws

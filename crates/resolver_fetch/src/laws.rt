@@ -1,0 +1,24 @@
+//! Laws over lists, which no single call states. They are no part of the surface.
+
+ghost use Rattle.std.specs.Prelude.{◌≡◌, map};
+ghost use Rattle.resolver_fetch.specs.Scores.{averages_of};
+ghost use Rattle.resolver_fetch.specs.ScoreLaws.{FadesIn96};
+
+use crate::score::Score;
+
+/// A score that took in some observations, one after another, each its nanoseconds and its bytes,
+/// is the score of that list.
+pub fn recorded(observations: &[(u128, u64)]) -> Score
+    ensures { result ≡ averages_of (map (λ o. record { elapsed = o.0; bytes = o.1 }) observations.now) }
+{
+    let mut score = Score::default();
+    for (elapsed, bytes) in observations {
+        score.record(*elapsed, *bytes);
+    }
+    score
+}
+
+/// Once ninety-six observations in a row had no bytes, the weight is 1.
+pub fn fades_in_96()
+    ensures { FadesIn96 }
+{}
