@@ -1,2 +1,7 @@
 pub mod IdleScores
 pub mod Fades
+pub mod Counts
+pub mod Choices
+pub mod ChoiceCounts
+pub mod Ascending
+pub mod Draws

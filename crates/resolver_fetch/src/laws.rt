@@ -1,6 +1,7 @@
 //! Laws over lists, which no single call states. They are no part of the surface.
 
 ghost use Rattle.std.specs.Prelude.{◌≡◌, map};
+ghost use Rattle.resolver_fetch.specs.ChoiceLaws.{ChoosesOne, ChoosesByWeight, FourMeanWeighted};
 ghost use Rattle.resolver_fetch.specs.Scores.{averages_of};
 ghost use Rattle.resolver_fetch.specs.ScoreLaws.{FadesIn96};
 
@@ -21,4 +22,20 @@ pub fn recorded(observations: &[(u128, u64)]) -> Score
 /// Once ninety-six observations in a row had no bytes, the weight is 1.
 pub fn fades_in_96()
     ensures { FadesIn96 }
+{}
+
+/// A number below the total of some weights lies in the interval of the place that it chooses,
+/// and in no other.
+pub fn chooses_one()
+    ensures { ChoosesOne }
+{}
+
+/// Of the numbers below the total of some weights, as many as its weight choose each place.
+pub fn chooses_by_weight()
+    ensures { ChoosesByWeight }
+{}
+
+/// Of the numbers below four and a key's retries, four mean a weighted draw.
+pub fn four_mean_weighted()
+    ensures { FourMeanWeighted }
 {}

@@ -1,0 +1,16 @@
+use Rattle.std.proofs.Common.{◌<◌, ap, ℕ, List, length, rules}
+use Rattle.resolver_fetch.specs.Selections.{Draw}
+use Rattle.resolver_fetch.proofs.Ascending.{remove-ascending, remove-all-but}
+use Rattle.resolver_fetch.proofs.sampling.selection.Selection.take_uniform.Goals as goal
+
+pub invariant_of-self : goal.invariant_of-self
+invariant_of-self c =
+    let within : c.args.number < length c.self.inside.left.items = search rules in
+    rw c.remove.ensures.items (remove-ascending _ _ c.args.number c.self.invariant within)
+
+pub returns-clause-left : goal.returns-clause-left
+returns-clause-left c =
+    let within : c.args.number < length c.self.inside.left.items = search rules in
+    let draw : List ℕ → Draw = λ left. record { weights = c.self.inside.index; left = left } in
+    rw (c.remove.ensures.items, ← c.self.view_is)
+    (ap draw (remove-all-but _ _ c.args.number c.remove.result c.self.invariant within c.remove.ensures.value))

@@ -1,0 +1,46 @@
+-- Draws without replacement: a list of weights, and the places that are left.
+use Rattle.std.specs.Prelude.{◌≡◌, ℕ, not, ◌==◌, nat_lt, List, map, filter, length, sum, fold, slice_index, slice_set, Contains}
+use Rattle.std.specs.List.{enumerate_from}
+use Rattle.resolver_fetch.specs.Choice.{chosen, count_below}
+
+-- the weights after some changes, each a place and its new weight, in order
+abbrev pub changed : List ℕ → List (ℕ × ℕ) → List ℕ
+changed weights changes = fold (λ ws change. slice_set ws change.0 change.1) weights changes
+
+pub record Draw : Type 0 where
+  -- as they were when it began
+  pub weights : List ℕ
+  -- the places that are left, in order
+  pub left : List ℕ
+
+-- the places of positive weight, in order
+abbrev pub positive_places : List ℕ → List ℕ
+positive_places weights = map (λ entry. entry.0) (filter (λ entry. nat_lt 0 entry.1) (enumerate_from 0 weights))
+
+-- none is taken yet
+abbrev pub begun : List ℕ → Draw
+begun weights = record { weights = weights; left = positive_places weights }
+
+abbrev pub weights_left : Draw → List ℕ
+weights_left draw = map (slice_index draw.weights) draw.left
+
+-- the place that a weighted number takes, and the one that a uniform number takes
+abbrev pub by_weight : Draw → (number : ℕ) → ℕ
+by_weight draw number = slice_index draw.left (chosen (weights_left draw) number)
+
+abbrev pub by_count : Draw → (number : ℕ) → ℕ
+by_count draw number = slice_index draw.left number
+
+-- the place is no longer left
+abbrev pub without : Draw → (place : ℕ) → Draw
+without draw place = record draw { left = filter (λ other. not (other == place)) draw.left }
+
+-- Of the numbers below the weight left, as many as its weight take each place left.
+abbrev pub DrawsByWeight : Draw → Type 0
+DrawsByWeight draw = (place : ℕ) → Contains draw.left place
+    → count_below (sum (weights_left draw)) (λ n. by_weight draw n == place) ≡ slice_index draw.weights place
+
+-- Of the numbers below the count left, one takes each place left.
+abbrev pub DrawsEachOnce : Draw → Type 0
+DrawsEachOnce draw = (place : ℕ) → Contains draw.left place
+    → count_below (length draw.left) (λ n. by_count draw n == place) ≡ 1
