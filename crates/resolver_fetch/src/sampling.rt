@@ -19,3 +19,6 @@ pub fn is_weighted(number: u128) -> bool
 {
     number < 4
 }
+
+#[cfg(test)]
+mod tests;

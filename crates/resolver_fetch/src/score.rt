@@ -92,3 +92,6 @@ impl Score {
         }
     }
 }
+
+#[cfg(test)]
+mod tests;

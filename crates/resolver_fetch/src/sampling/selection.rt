@@ -1,6 +1,6 @@
 //! Draws without replacement.
 
-ghost use Rattle.std.specs.Prelude.{◌≡◌, ◌<◌, ◌↔◌, [], length, map, sum, slice_index, All, IsTrue, IfOk, IfErr};
+ghost use Rattle.std.specs.Prelude.{◌≡◌, ◌<◌, ◌↔◌, [], length, map, sum, slice_index, All, Contains, IsTrue, IfOk, IfErr};
 ghost use Rattle.resolver_fetch.specs.Choice.{chosen};
 ghost use Rattle.resolver_fetch.specs.Selections.{Draw, begun, weights_left, by_weight, by_count, without, DrawsByWeight, DrawsEachOnce, positive_places};
 
@@ -72,6 +72,8 @@ impl Selection {
     pub fn take_weighted(&mut self, number: u128) -> usize
         requires { number < sum (weights_left self.old) }
         ensures place { result ≡ by_weight self.old number }
+        ensures was_left { Contains self.old.left result }
+        ensures within { result < length self.old.weights }
         ensures left { self.new ≡ without self.old result }
     {
         let position = position_of(self.index.as_slice(), self.left.as_slice(), number);
@@ -83,6 +85,8 @@ impl Selection {
     pub fn take_uniform(&mut self, number: u128) -> usize
         requires { number < length self.old.left }
         ensures place { result ≡ by_count self.old number }
+        ensures was_left { Contains self.old.left result }
+        ensures within { result < length self.old.weights }
         ensures left { self.new ≡ without self.old result }
     {
         self.left.remove(number as usize)

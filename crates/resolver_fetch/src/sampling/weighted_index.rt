@@ -38,7 +38,7 @@ impl WeightedIndex {
     }
 
     /// How many places there are.
-    pub fn len(&self) -> usize
+    pub fn count(&self) -> usize
         ensures { result ≡ length self.now }
     {
         self.weights.len()
