@@ -1,6 +1,10 @@
--- What a drawn number chooses.
-use Rattle.std.specs.Prelude.{ℕ, ◌+◌, ◌-◌, ◌<◌, ◌≤◌, Bool, nat_lt, List, [], ◌∷◌, take, sum, count_by, slice_index, if◌then◌else◌}
+-- Lists of weights, and what a drawn number chooses.
+use Rattle.std.specs.Prelude.{ℕ, ◌+◌, ◌-◌, ◌<◌, ◌≤◌, Bool, nat_lt, List, [], ◌∷◌, take, sum, count_by, fold, slice_index, slice_set, if◌then◌else◌}
 use Rattle.std.specs.List.{range_with_len}
+
+-- the weights after some changes, each a place and its new weight, in order
+abbrev pub changed : List ℕ → List (ℕ × ℕ) → List ℕ
+changed weights changes = fold (λ ws change. slice_set ws change.0 change.1) weights changes
 
 -- The weights are intervals, one after another. Here the interval of a place begins.
 abbrev pub prefix : List ℕ → (place : ℕ) → ℕ

@@ -1,11 +1,7 @@
 -- Draws without replacement: a list of weights, and the places that are left.
-use Rattle.std.specs.Prelude.{◌≡◌, ℕ, not, ◌==◌, nat_lt, List, map, filter, length, sum, fold, slice_index, slice_set, Contains}
+use Rattle.std.specs.Prelude.{◌≡◌, ℕ, not, ◌==◌, nat_lt, List, map, filter, length, sum, slice_index, Contains}
 use Rattle.std.specs.List.{enumerate_from}
 use Rattle.resolver_fetch.specs.Choice.{chosen, count_below}
-
--- the weights after some changes, each a place and its new weight, in order
-abbrev pub changed : List ℕ → List (ℕ × ℕ) → List ℕ
-changed weights changes = fold (λ ws change. slice_set ws change.0 change.1) weights changes
 
 pub record Draw : Type 0 where
   -- as they were when it began

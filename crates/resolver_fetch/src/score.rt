@@ -2,7 +2,7 @@
 //!
 //! A `Score` keeps two halving averages, of useful bytes and of the time that they took.
 
-ghost use Rattle.std.specs.Prelude.{◌≡◌, ◌≤◌, ◌<◌};
+ghost use Rattle.std.specs.Prelude.{◌≡◌, ◌≤◌, ◌-◌, ◌^◌};
 ghost use Rattle.resolver_fetch.specs.declared.score.Averages.TheVariants.{Unobserved};
 ghost use Rattle.resolver_fetch.specs.Scores.{Observation, averaged, weight_of};
 
@@ -81,7 +81,8 @@ impl Score {
     /// It is 1 where nothing was observed.
     pub fn weight(&self) -> u64
         ensures value { result ≡ weight_of self.now }
-        ensures positive { 0 < result }
+        ensures at_least { 1 ≤ result }
+        ensures at_most { result ≤ 2 ^ 64 - 1 }
     {
         match self.averages {
             Averages::Unobserved => 1,

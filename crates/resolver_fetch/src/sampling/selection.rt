@@ -30,6 +30,7 @@ impl Model for Selection {
 }
 
 impl Selection {
+    /// Begins draws from an index. Where memory is wanting, the index comes back in the error.
     pub(super) fn new(
         alloc: Global,
         index: WeightedIndex,
@@ -51,7 +52,7 @@ impl Selection {
     }
 
     /// The sum of the weights of the places left. Of the numbers below it, as many as its weight
-    /// take each of them.
+    /// take each of them. It takes time linear in the number of places left.
     pub fn left_total(&self) -> u128
         ensures total { result ≡ sum (weights_left self.now) }
         ensures draws { DrawsByWeight self.now }

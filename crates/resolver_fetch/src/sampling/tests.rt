@@ -1,6 +1,7 @@
 //! What indexes and selections choose.
 
 use super::*;
+use resolver_base::base::Fault;
 use std::process::Abort;
 use std::test::Fail;
 
@@ -13,6 +14,11 @@ fn has_weights(rt: &impl Abort, index: &WeightedIndex, weights: &[u64]) {
     }
 }
 
+/// Begins draws without replacement.
+fn begun(index: WeightedIndex) -> Result<Selection, Fault> {
+    Ok(index.without_replacement()?)
+}
+
 #[test]
 fn index_choices(rt: HostRuntime) -> Result<(), Fail> {
     let index = WeightedIndex::new(rt.alloc(), &[3, 0, 2])?;
@@ -21,7 +27,7 @@ fn index_choices(rt: HostRuntime) -> Result<(), Fail> {
         assert!(rt; number < index.total());
         assert_eq!(rt; index.pick(number), place, "at {number}");
     }
-    let mut selection = index.without_replacement().ok().ok_or("memory")?;
+    let mut selection = begun(index)?;
     assert!(rt; selection.left_total() > 0);
     assert_eq!(rt; selection.take_weighted(0), 0);
     assert_eq!(rt; selection.left_total(), 2);
@@ -37,7 +43,7 @@ fn takes_all_places(rt: HostRuntime) -> Result<(), Fail> {
     index.set(1, 0);
     index.update(&[(0, 7), (2, 2), (0, 3), (3, 5)]);
     has_weights(&rt, &index, &[3, 0, 2, 5]);
-    let mut selection = index.without_replacement().ok().ok_or("memory")?;
+    let mut selection = begun(index)?;
     assert!(rt; selection.left_count() > 1);
     assert_eq!(rt; selection.take_uniform(1), 2);
     assert_eq!(rt; selection.left_total(), 8);
@@ -59,7 +65,7 @@ fn nothing_to_choose(rt: HostRuntime) -> Result<(), Fail> {
     for weights in [none.as_slice(), zeros.as_slice()] {
         let index = WeightedIndex::new(rt.alloc(), weights)?;
         assert_eq!(rt; index.total(), 0);
-        let selection = index.without_replacement().ok().ok_or("memory")?;
+        let selection = begun(index)?;
         assert!(rt; selection.is_empty());
         assert_eq!(rt; selection.left_count(), 0);
         assert_eq!(rt; selection.left_total(), 0);

@@ -2,8 +2,8 @@
 
 ghost use Rattle.std.specs.Prelude.{◌≡◌, ◌<◌, length, sum, slice_index, slice_set, All, IfOk, IfErr};
 ghost use Rattle.resolver_base.specs.declared.base.fault.Fault.TheVariants.{OutOfMemory};
-ghost use Rattle.resolver_fetch.specs.Choice.{IsIn, chosen};
-ghost use Rattle.resolver_fetch.specs.Selections.{changed, begun};
+ghost use Rattle.resolver_fetch.specs.Choice.{IsIn, changed, chosen};
+ghost use Rattle.resolver_fetch.specs.Selections.{begun};
 
 use crate::sampling::Selection;
 use resolver_base::base::Fault;

@@ -2,6 +2,7 @@
 
 use super::*;
 use std::process::Abort;
+use std::test::Fail;
 
 const MILLISECOND: u128 = 1_000_000;
 
@@ -77,6 +78,17 @@ fn thirty_two_observations(rt: HostRuntime) {
     assert_eq!(rt; score.weight(), 4_294_967_296_000_000_000);
     idle(&mut score, 1);
     assert_eq!(rt; score.weight(), 2_147_483_648_000_000_000);
+}
+
+#[test]
+fn a_clone_is_its_source(rt: HostRuntime) -> Result<(), Fail> {
+    let mut score = Score::default();
+    score.record(MILLISECOND, 1000);
+    let cloned = score.clone()?;
+    score.record(MILLISECOND, 0);
+    assert_eq!(rt; cloned.weight(), 1_000_001);
+    assert_eq!(rt; score.weight(), 500_001);
+    Ok(())
 }
 
 #[test]
