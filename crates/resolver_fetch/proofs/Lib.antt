@@ -5,3 +5,4 @@ pub mod Choices
 pub mod ChoiceCounts
 pub mod Ascending
 pub mod Draws
+pub mod Takes

@@ -1,5 +1,5 @@
 -- Draws without replacement: a list of weights, and the places that are left.
-use Rattle.std.specs.Prelude.{◌≡◌, ℕ, not, ◌==◌, nat_lt, List, map, filter, length, sum, slice_index, Contains}
+use Rattle.std.specs.Prelude.{◌≡◌, ℕ, ◌+◌, ◌<◌, not, ◌==◌, nat_lt, List, map, filter, length, sum, slice_index, Contains}
 use Rattle.std.specs.List.{enumerate_from}
 use Rattle.resolver_fetch.specs.Choice.{chosen, count_below}
 
@@ -30,6 +30,15 @@ by_count draw number = slice_index draw.left number
 -- the place is no longer left
 abbrev pub without : Draw → (place : ℕ) → Draw
 without draw place = record draw { left = filter (λ other. not (other == place)) draw.left }
+
+-- a draw took a place that was left
+pub record Takes (old new : Draw) (place : ℕ) : Type 0 where
+  pub was_left : Contains old.left place
+  pub within : place < length old.weights
+  pub positive : 0 < slice_index old.weights place
+  pub left : new ≡ without old place
+  pub fewer : length new.left + 1 ≡ length old.left
+  pub lighter : sum (weights_left new) + slice_index old.weights place ≡ sum (weights_left old)
 
 -- Of the numbers below the weight left, as many as its weight take each place left.
 abbrev pub DrawsByWeight : Draw → Type 0

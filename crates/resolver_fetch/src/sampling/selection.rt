@@ -1,8 +1,8 @@
 //! Draws without replacement.
 
-ghost use Rattle.std.specs.Prelude.{◌≡◌, ◌<◌, ◌↔◌, [], length, map, sum, slice_index, All, Contains, IsTrue, IfOk, IfErr};
+ghost use Rattle.std.specs.Prelude.{◌≡◌, ◌<◌, ◌↔◌, [], length, map, sum, slice_index, All, IsTrue, IfOk, IfErr};
 ghost use Rattle.resolver_fetch.specs.Choice.{chosen};
-ghost use Rattle.resolver_fetch.specs.Selections.{Draw, begun, weights_left, by_weight, by_count, without, DrawsByWeight, DrawsEachOnce, positive_places};
+ghost use Rattle.resolver_fetch.specs.Selections.{Draw, begun, weights_left, by_weight, by_count, Takes, DrawsByWeight, DrawsEachOnce, positive_places};
 
 use crate::sampling::WeightedIndex;
 use std::alloc::{AllocError, AllocFailed, Global};
@@ -73,9 +73,7 @@ impl Selection {
     pub fn take_weighted(&mut self, number: u128) -> usize
         requires { number < sum (weights_left self.old) }
         ensures place { result ≡ by_weight self.old number }
-        ensures was_left { Contains self.old.left result }
-        ensures within { result < length self.old.weights }
-        ensures left { self.new ≡ without self.old result }
+        ensures taken { Takes self.old self.new result }
     {
         let position = position_of(self.index.as_slice(), self.left.as_slice(), number);
         self.left.remove(position)
@@ -86,9 +84,7 @@ impl Selection {
     pub fn take_uniform(&mut self, number: u128) -> usize
         requires { number < length self.old.left }
         ensures place { result ≡ by_count self.old number }
-        ensures was_left { Contains self.old.left result }
-        ensures within { result < length self.old.weights }
-        ensures left { self.new ≡ without self.old result }
+        ensures taken { Takes self.old self.new result }
     {
         self.left.remove(number as usize)
     }

@@ -3,7 +3,7 @@
 ghost use Rattle.std.specs.Prelude.{◌≡◌, ◌<◌, length, sum, slice_index, slice_set, All, IfOk, IfErr};
 ghost use Rattle.resolver_base.specs.declared.base.fault.Fault.TheVariants.{OutOfMemory};
 ghost use Rattle.resolver_fetch.specs.Choice.{IsIn, changed, chosen};
-ghost use Rattle.resolver_fetch.specs.Selections.{begun};
+ghost use Rattle.resolver_fetch.specs.Selections.{begun, weights_left};
 
 use crate::sampling::Selection;
 use resolver_base::base::Fault;
@@ -100,6 +100,7 @@ impl WeightedIndex {
     /// error.
     pub fn without_replacement(self) -> Result<Selection, AllocFailed<WeightedIndex>>
         ensures ok { IfOk result (λ selection. selection ≡ begun self) }
+        ensures total { IfOk result (λ selection. sum (weights_left selection) ≡ sum self) }
         ensures value_returned { IfErr result (λ failed. failed.value ≡ self) }
     {
         let alloc = *self.weights.allocator();

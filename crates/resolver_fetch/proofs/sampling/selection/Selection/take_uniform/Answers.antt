@@ -1,6 +1,6 @@
-use Rattle.std.proofs.Common.{◌<◌, ap, ℕ, List, length, arith, rules}
-use Rattle.resolver_fetch.specs.Selections.{Draw}
-use Rattle.resolver_fetch.proofs.Ascending.{places-within, remove-ascending, remove-all-but}
+use Rattle.std.proofs.Common.{◌<◌, length, rules}
+use Rattle.resolver_fetch.proofs.Ascending.{remove-ascending}
+use Rattle.resolver_fetch.proofs.Takes.{takes}
 use Rattle.resolver_fetch.proofs.sampling.selection.Selection.take_uniform.Goals as goal
 
 pub invariant_of-self : goal.invariant_of-self
@@ -8,16 +8,8 @@ invariant_of-self c =
     let within : c.args.number < length c.self.inside.left.items = search rules in
     rw c.remove.ensures.items (remove-ascending _ _ c.args.number c.self.invariant within)
 
-pub returns-clause-left : goal.returns-clause-left
-returns-clause-left c =
+pub returns-clause-taken : goal.returns-clause-taken
+returns-clause-taken c =
     let within : c.args.number < length c.self.inside.left.items = search rules in
-    let draw : List ℕ → Draw = λ left. record { weights = c.self.inside.index; left = left } in
     rw (c.remove.ensures.items, ← c.self.view_is)
-    (ap draw (remove-all-but _ _ c.args.number c.remove.result c.self.invariant within c.remove.ensures.value))
-
-pub returns-clause-within : goal.returns-clause-within
-returns-clause-within c =
-    let within : c.args.number < length c.self.inside.left.items = search rules in
-    let place : c.remove.result < length c.self.inside.index =
-    omega (arith, c.remove.ensures.value, places-within _ _ c.self.invariant c.args.number c.remove.result within) in
-    rw (← c.self.view_is) place
+    (takes _ _ c.args.number c.remove.result c.self.invariant within c.remove.ensures.value)
