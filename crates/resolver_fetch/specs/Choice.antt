@@ -21,7 +21,7 @@ chosen [] number = 0
 chosen (weight ∷ weights) number =
     if nat_lt number weight then 0 else chosen weights (number - weight) + 1
 
--- Of the numbers below four and a key's retries, those below four mean a weighted draw, the others a uniform one.
+-- whether a number below four and a key's retries means a weighted draw; else a uniform one
 abbrev pub means_weighted : (number : ℕ) → Bool
 means_weighted number = nat_lt number 4
 

@@ -4,8 +4,10 @@ use Rattle.resolver_fetch.specs.Choice.{IsIn, chosen, means_weighted, count_belo
 
 -- A number below the total lies in the interval of the place that it chooses, and of no other.
 pub record ChoosesOne : Type 0 where
-  pub in_interval : (weights : List ℕ) (number : ℕ) → number < sum weights → IsIn weights (chosen weights number) number
-  pub in_no_other : (weights : List ℕ) (place number : ℕ) → IsIn weights place number → place ≡ chosen weights number
+  pub in_interval : (weights : List ℕ) (number : ℕ) → number < sum weights
+      → IsIn weights (chosen weights number) number
+  pub in_no_other : (weights : List ℕ) (place number : ℕ) → IsIn weights place number
+      → place ≡ chosen weights number
 
 -- Of the numbers below the total, as many as its weight choose each place.
 abbrev pub ChoosesByWeight : Type 0

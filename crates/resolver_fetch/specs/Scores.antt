@@ -4,10 +4,15 @@ use Rattle.resolver_fetch.specs.declared.score.Averages.{Averages}
 use Rattle.resolver_fetch.specs.declared.score.Averages.TheVariants.{Unobserved, Observed}
 use Rattle.resolver_fetch.specs.Times.{longest}
 
+-- what a request took, and the useful bytes that it gave
 pub record Observation : Type 0 where
   -- in nanoseconds
   pub elapsed : ℕ
   pub bytes : ℕ
+
+-- as a pair has them
+abbrev pub observation : ℕ × ℕ → Observation
+observation pair = record { elapsed = pair.0; bytes = pair.1 }
 
 -- bytes in units of 2^-32
 abbrev pub scaled : (bytes : ℕ) → ℕ
@@ -17,7 +22,7 @@ scaled bytes = bytes * 2 ^ 32
 abbrev pub counted : (elapsed : ℕ) → ℕ
 counted elapsed = max 1 (min elapsed longest)
 
--- The first observation sets both averages. A later one moves them half the way to it, rounded down.
+-- The first observation sets both averages. A later one moves them half the way, rounded down.
 abbrev pub averaged : Averages → Observation → Averages
 averaged Unobserved o = Observed (scaled o.bytes) (counted o.elapsed)
 averaged (Observed bytes elapsed) o =

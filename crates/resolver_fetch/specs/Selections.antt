@@ -1,8 +1,9 @@
--- Draws without replacement: a list of weights, and the places that are left.
+-- Draws without replacement.
 use Rattle.std.specs.Prelude.{◌≡◌, ℕ, ◌+◌, ◌<◌, not, ◌==◌, nat_lt, List, map, filter, length, sum, slice_index, Contains}
 use Rattle.std.specs.List.{enumerate_from}
 use Rattle.resolver_fetch.specs.Choice.{chosen, count_below}
 
+-- draws without replacement from some weights
 pub record Draw : Type 0 where
   -- as they were when it began
   pub weights : List ℕ
@@ -11,12 +12,14 @@ pub record Draw : Type 0 where
 
 -- the places of positive weight, in order
 abbrev pub positive_places : List ℕ → List ℕ
-positive_places weights = map (λ entry. entry.0) (filter (λ entry. nat_lt 0 entry.1) (enumerate_from 0 weights))
+positive_places weights =
+    map (λ entry. entry.0) (filter (λ entry. nat_lt 0 entry.1) (enumerate_from 0 weights))
 
 -- none is taken yet
 abbrev pub begun : List ℕ → Draw
 begun weights = record { weights = weights; left = positive_places weights }
 
+-- the weights of the places left, in their order
 abbrev pub weights_left : Draw → List ℕ
 weights_left draw = map (slice_index draw.weights) draw.left
 
@@ -43,7 +46,8 @@ pub record Takes (old new : Draw) (place : ℕ) : Type 0 where
 -- Of the numbers below the weight left, as many as its weight take each place left.
 abbrev pub DrawsByWeight : Draw → Type 0
 DrawsByWeight draw = (place : ℕ) → Contains draw.left place
-    → count_below (sum (weights_left draw)) (λ n. by_weight draw n == place) ≡ slice_index draw.weights place
+    → count_below (sum (weights_left draw)) (λ n. by_weight draw n == place)
+    ≡ slice_index draw.weights place
 
 -- Of the numbers below the count left, one takes each place left.
 abbrev pub DrawsEachOnce : Draw → Type 0

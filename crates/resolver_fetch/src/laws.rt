@@ -2,7 +2,7 @@
 
 ghost use Rattle.std.specs.Prelude.{◌≡◌, map};
 ghost use Rattle.resolver_fetch.specs.ChoiceLaws.{ChoosesOne, ChoosesByWeight, FourMeanWeighted};
-ghost use Rattle.resolver_fetch.specs.Scores.{averages_of};
+ghost use Rattle.resolver_fetch.specs.Scores.{averages_of, observation};
 ghost use Rattle.resolver_fetch.specs.ScoreLaws.{FadesIn96};
 
 use crate::score::Score;
@@ -10,7 +10,7 @@ use crate::score::Score;
 /// A score that took in some observations, one after another, each its nanoseconds and its bytes,
 /// is the score of that list.
 pub fn recorded(observations: &[(u128, u64)]) -> Score
-    ensures { result ≡ averages_of (map (λ o. record { elapsed = o.0; bytes = o.1 }) observations.now) }
+    ensures { result ≡ averages_of (map observation observations.now) }
 {
     let mut score = Score::default();
     for (elapsed, bytes) in observations {
