@@ -5,7 +5,7 @@ use Rattle.std.proofs.lemmas.Bool.{eq-eqb, ne_eqb, cases_eq}
 use Rattle.std.proofs.lemmas.List.{get_or-map, get_or_default, length-map}
 use Rattle.resolver_fetch.specs.Choice.{chosen}
 use Rattle.resolver_fetch.specs.Left.{AreAscending}
-use Rattle.resolver_fetch.specs.Selections.{Draw, weights_left, by_weight, by_count, DrawsByWeight, DrawsEachOnce}
+use Rattle.resolver_fetch.specs.Selections.{Remaining, weights_left, by_weight, by_count, DrawsByWeight, DrawsEachOnce}
 use Rattle.resolver_fetch.proofs.Ascending.{same-index}
 use Rattle.resolver_fetch.proofs.Choices.{chosen-within}
 use Rattle.resolver_fetch.proofs.ChoiceCounts.{chooses_by_weight}
@@ -25,18 +25,18 @@ place-index ws left i k place ascending i_within k_within here =
           ne_eqb (slice_index left i) place other ∙ sym (ne_eqb i k apart)
     ]
 
-pub draws-each-once : (draw : Draw) → AreAscending draw.weights 0 draw.left → DrawsEachOnce draw
-draws-each-once draw ascending place (k, within, here) =
-    count_from-same 0 (length draw.left) (λ n. by_count draw n == place) (λ n. n == k)
-    (λ n _ below. place-index draw.weights draw.left n k place ascending (omega (arith, below)) within here)
-    ∙ count_from-one 0 (length draw.left) k (omega arith) (omega (arith, within))
+pub draws-each-once : (selection : Remaining) → AreAscending selection.weights 0 selection.left → DrawsEachOnce selection
+draws-each-once selection ascending place (k, within, here) =
+    count_from-same 0 (length selection.left) (λ n. by_count selection n == place) (λ n. n == k)
+    (λ n _ below. place-index selection.weights selection.left n k place ascending (omega (arith, below)) within here)
+    ∙ count_from-one 0 (length selection.left) k (omega arith) (omega (arith, within))
 
-pub draws-by-weight : (draw : Draw) → AreAscending draw.weights 0 draw.left → DrawsByWeight draw
-draws-by-weight draw ascending place (k, within, here) =
-    let weights : List ℕ = weights_left draw in
-    let many : length weights ≡ length draw.left = length-map draw.left (slice_index draw.weights) in
-    let weight : slice_index weights k ≡ slice_index draw.weights place =
-    get_or-map (slice_index draw.weights) draw.left k place 0 within ∙ ap (slice_index draw.weights) here in
-    count_from-same 0 (sum weights) (λ n. by_weight draw n == place) (λ n. chosen weights n == k)
-    (λ n _ below. place-index draw.weights draw.left (chosen weights n) k place ascending (omega (arith, many, chosen-within weights n (omega (arith, below)))) within here)
+pub draws-by-weight : (selection : Remaining) → AreAscending selection.weights 0 selection.left → DrawsByWeight selection
+draws-by-weight selection ascending place (k, within, here) =
+    let weights : List ℕ = weights_left selection in
+    let many : length weights ≡ length selection.left = length-map selection.left (slice_index selection.weights) in
+    let weight : slice_index weights k ≡ slice_index selection.weights place =
+    get_or-map (slice_index selection.weights) selection.left k place 0 within ∙ ap (slice_index selection.weights) here in
+    count_from-same 0 (sum weights) (λ n. by_weight selection n == place) (λ n. chosen weights n == k)
+    (λ n _ below. place-index selection.weights selection.left (chosen weights n) k place ascending (omega (arith, many, chosen-within weights n (omega (arith, below)))) within here)
     ∙ chooses_by_weight weights k (omega (arith, many, within)) ∙ weight

@@ -6,22 +6,22 @@ use Rattle.std.proofs.lemmas.Bool.{cond_both, ltb-false}
 use Rattle.std.proofs.lemmas.List.Edits.{length-remove}
 use Rattle.std.proofs.lemmas.List.Sums.{sum_by-cons, sum_by-remove, sum-map}
 use Rattle.resolver_fetch.specs.Left.{AreAscending}
-use Rattle.resolver_fetch.specs.Selections.{Draw, Takes, weights_left, begun}
+use Rattle.resolver_fetch.specs.Selections.{Remaining, Takes, weights_left, begun}
 use Rattle.resolver_fetch.proofs.Ascending.{place-positive, positive-within, remove-all-but}
 
-abbrev draw_of : List ℕ → List ℕ → Draw
-draw_of weights left = record { weights = weights; left = left }
+abbrev remaining_of : List ℕ → List ℕ → Remaining
+remaining_of weights left = record { weights = weights; left = left }
 
 -- the weight of the place at an index is gone with it
 lighter : (weights left : List ℕ) (k place : ℕ) → k < length left → place ≡ get_or left k place
-    → sum (weights_left (draw_of weights (remove left k))) + slice_index weights place ≡ sum (weights_left (draw_of weights left))
+    → sum (weights_left (remaining_of weights (remove left k))) + slice_index weights place ≡ sum (weights_left (remaining_of weights left))
 lighter weights left k place within is =
     let weight : slice_index weights place ≡ slice_index weights (get_or left k place) = ap (slice_index weights) is in
     rw (sum-map (slice_index weights) (remove left k), sum-map (slice_index weights) left, weight)
     (sum_by-remove (slice_index weights) left k place within)
 
 pub takes : (weights left : List ℕ) (k place : ℕ) → AreAscending weights 0 left → k < length left → place ≡ get_or left k place
-    → Takes (draw_of weights left) (draw_of weights (remove left k)) place
+    → Takes (remaining_of weights left) (remaining_of weights (remove left k)) place
 takes weights left k place ascending within is =
     let positive : 0 < slice_index weights place =
     omega (arith, ap (slice_index weights) is, place-positive weights 0 left k place ascending within) in
@@ -29,7 +29,7 @@ takes weights left k place ascending within is =
       was_left = (k, within, sym is);
       within = positive-within weights place positive;
       positive = positive;
-      left = ap (draw_of weights) (remove-all-but weights left k place ascending within is);
+      left = ap (remaining_of weights) (remove-all-but weights left k place ascending within is);
       fewer = length-remove left k within;
       lighter = lighter weights left k place within is;
     }
@@ -53,3 +53,10 @@ total-from weights first (w ∷ rest) same =
 
 pub total-begun : (weights : List ℕ) → sum (weights_left (begun weights)) ≡ sum weights
 total-begun weights = total-from weights 0 weights (λ k. ap (slice_index weights) (omega arith))
+
+-- Places of positive weight have a positive total.
+pub total-positive : (weights : List ℕ) (first : ℕ) (left : List ℕ) → AreAscending weights first left → 0 < length left
+    → 0 < sum (map (slice_index weights) left)
+total-positive weights first [] ascending some = absurd (omega (arith, some))
+total-positive weights first (place ∷ places) ascending some =
+    omega (arith, ascending.1, sum_by-cons (λ x. x) (slice_index weights place) (map (slice_index weights) places))

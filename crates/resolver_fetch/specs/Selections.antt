@@ -3,8 +3,8 @@ use Rattle.std.specs.Prelude.{◌≡◌, ℕ, ◌+◌, ◌<◌, not, ◌==◌, n
 use Rattle.std.specs.List.{enumerate_from}
 use Rattle.resolver_fetch.specs.Choice.{chosen, count_below}
 
--- draws without replacement from some weights
-pub record Draw : Type 0 where
+-- some weights, and those of their places that are left to draw
+pub record Remaining : Type 0 where
   -- as they were when it began
   pub weights : List ℕ
   -- the places that are left, in order
@@ -16,26 +16,27 @@ positive_places weights =
     map (λ entry. entry.0) (filter (λ entry. nat_lt 0 entry.1) (enumerate_from 0 weights))
 
 -- none is taken yet
-abbrev pub begun : List ℕ → Draw
+abbrev pub begun : List ℕ → Remaining
 begun weights = record { weights = weights; left = positive_places weights }
 
 -- the weights of the places left, in their order
-abbrev pub weights_left : Draw → List ℕ
-weights_left draw = map (slice_index draw.weights) draw.left
+abbrev pub weights_left : Remaining → List ℕ
+weights_left selection = map (slice_index selection.weights) selection.left
 
 -- the place that a weighted number takes, and the one that a uniform number takes
-abbrev pub by_weight : Draw → (number : ℕ) → ℕ
-by_weight draw number = slice_index draw.left (chosen (weights_left draw) number)
+abbrev pub by_weight : Remaining → (number : ℕ) → ℕ
+by_weight selection number = slice_index selection.left (chosen (weights_left selection) number)
 
-abbrev pub by_count : Draw → (number : ℕ) → ℕ
-by_count draw number = slice_index draw.left number
+abbrev pub by_count : Remaining → (number : ℕ) → ℕ
+by_count selection number = slice_index selection.left number
 
 -- the place is no longer left
-abbrev pub without : Draw → (place : ℕ) → Draw
-without draw place = record draw { left = filter (λ other. not (other == place)) draw.left }
+abbrev pub without : Remaining → (place : ℕ) → Remaining
+without selection place =
+    record selection { left = filter (λ other. not (other == place)) selection.left }
 
 -- a draw took a place that was left
-pub record Takes (old new : Draw) (place : ℕ) : Type 0 where
+pub record Takes (old new : Remaining) (place : ℕ) : Type 0 where
   pub was_left : Contains old.left place
   pub within : place < length old.weights
   pub positive : 0 < slice_index old.weights place
@@ -44,12 +45,12 @@ pub record Takes (old new : Draw) (place : ℕ) : Type 0 where
   pub lighter : sum (weights_left new) + slice_index old.weights place ≡ sum (weights_left old)
 
 -- Of the numbers below the weight left, as many as its weight take each place left.
-abbrev pub DrawsByWeight : Draw → Type 0
-DrawsByWeight draw = (place : ℕ) → Contains draw.left place
-    → count_below (sum (weights_left draw)) (λ n. by_weight draw n == place)
-    ≡ slice_index draw.weights place
+abbrev pub DrawsByWeight : Remaining → Type 0
+DrawsByWeight selection = (place : ℕ) → Contains selection.left place
+    → count_below (sum (weights_left selection)) (λ n. by_weight selection n == place)
+    ≡ slice_index selection.weights place
 
 -- Of the numbers below the count left, one takes each place left.
-abbrev pub DrawsEachOnce : Draw → Type 0
-DrawsEachOnce draw = (place : ℕ) → Contains draw.left place
-    → count_below (length draw.left) (λ n. by_count draw n == place) ≡ 1
+abbrev pub DrawsEachOnce : Remaining → Type 0
+DrawsEachOnce selection = (place : ℕ) → Contains selection.left place
+    → count_below (length selection.left) (λ n. by_count selection n == place) ≡ 1

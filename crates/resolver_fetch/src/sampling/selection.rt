@@ -1,8 +1,8 @@
 //! Draws without replacement.
 
-ghost use Rattle.std.specs.Prelude.{◌≡◌, ◌<◌, ◌↔◌, [], length, map, sum, slice_index, All, IsTrue, IfOk, IfErr};
+ghost use Rattle.std.specs.Prelude.{◌≡◌, ◌<◌, ◌↔◌, length, map, sum, slice_index, All, IsTrue, IfOk, IfErr};
 ghost use Rattle.resolver_fetch.specs.Choice.{chosen};
-ghost use Rattle.resolver_fetch.specs.Selections.{Draw, begun, weights_left, by_weight, by_count, Takes, DrawsByWeight, DrawsEachOnce, positive_places};
+ghost use Rattle.resolver_fetch.specs.Selections.{Remaining, begun, weights_left, by_weight, by_count, Takes, DrawsByWeight, DrawsEachOnce, positive_places};
 
 use crate::sampling::WeightedIndex;
 use std::alloc::{AllocError, AllocFailed, Global};
@@ -19,10 +19,10 @@ pub struct Selection {
 }
 
 impl Model for Selection {
-    ghost use Rattle.resolver_fetch.specs.Selections.{Draw};
+    ghost use Rattle.resolver_fetch.specs.Selections.{Remaining};
     ghost use Rattle.resolver_fetch.specs.Left.{AreAscending};
 
-    ghost Value = { Draw };
+    ghost Value = { Remaining };
 
     ghost view = { λ selection. record { weights = selection.index; left = selection.left.items } };
 
@@ -46,7 +46,7 @@ impl Selection {
 
     /// Whether no place is left.
     pub fn is_empty(&self) -> bool
-        ensures { IsTrue result ↔ (self.now.left ≡ []) }
+        ensures { IsTrue result ↔ (length self.now.left ≡ 0) }
     {
         self.left.is_empty()
     }
@@ -55,6 +55,7 @@ impl Selection {
     /// take each of them. It takes time linear in the number of places left.
     pub fn left_total(&self) -> u128
         ensures total { result ≡ sum (weights_left self.now) }
+        ensures positive { 0 < length self.now.left → 0 < result }
         ensures draws { DrawsByWeight self.now }
     {
         total_of(self.index.as_slice(), self.left.as_slice())
