@@ -5,7 +5,7 @@ use Rattle.std.specs.List.{enumerate_from}
 use Rattle.std.proofs.lemmas.Bool.{eq-eqb, ne_eqb, ltb-true, cond_both, cases_lt}
 use Rattle.std.proofs.lemmas.List.{get_or_past}
 use Rattle.resolver_fetch.specs.Left.{AreAscending}
-use Rattle.resolver_fetch.specs.Selections.{positive_places}
+use Rattle.resolver_fetch.specs.Selections.{positive_from, positive_places}
 
 -- they ascend from a smaller number on, too
 weaker : (ws : List ℕ) (more less : ℕ) (places : List ℕ) → less ≤ more → AreAscending ws more places → AreAscending ws less places
@@ -82,20 +82,20 @@ filter-at ws first (place ∷ places) (suc k) d ascending within =
     rw (apart, rest) refl
 
 -- the places of positive weight ascend
-positive-from : (ws : List ℕ) (first : ℕ) (rest : List ℕ) → ((k : ℕ) → slice_index rest k ≡ slice_index ws (first + k))
-    → AreAscending ws first (map (λ entry. entry.0) (filter (λ entry. nat_lt 0 entry.1) (enumerate_from first rest)))
-positive-from ws first [] same = tt
-positive-from ws first (w ∷ rest) same =
+positive_from-ascending : (ws : List ℕ) (first : ℕ) (rest : List ℕ) → ((k : ℕ) → slice_index rest k ≡ slice_index ws (first + k))
+    → AreAscending ws first (positive_from first rest)
+positive_from-ascending ws first [] same = tt
+positive_from-ascending ws first (w ∷ rest) same =
     let entries : List (ℕ × ℕ) = filter (λ entry. nat_lt 0 entry.1) (enumerate_from (first + 1) rest) in
     let here : w ≡ slice_index ws first = same 0 ∙ ap (slice_index ws) (omega arith) in
     let later : AreAscending ws (first + 1) (map (λ entry. entry.0) entries) =
-    positive-from ws (first + 1) rest (λ k. same (suc k) ∙ ap (slice_index ws) (omega arith)) in
+    positive_from-ascending ws (first + 1) rest (λ k. same (suc k) ∙ ap (slice_index ws) (omega arith)) in
     cond_both (nat_lt 0 w) ((first, w) ∷ entries) entries (λ es. AreAscending ws first (map (λ entry. entry.0) es))
     (λ positive. (omega arith, omega (arith, here, ltb-true 0 w positive), later))
     (λ _. weaker ws (first + 1) first (map (λ entry. entry.0) entries) (omega arith) later)
 
-pub positive-ascending : (ws : List ℕ) → AreAscending ws 0 (positive_places ws)
-positive-ascending ws = positive-from ws 0 ws (λ k. ap (slice_index ws) (omega arith))
+pub positive_places-ascending : (ws : List ℕ) → AreAscending ws 0 (positive_places ws)
+positive_places-ascending ws = positive_from-ascending ws 0 ws (λ k. ap (slice_index ws) (omega arith))
 
 -- without the place at an index, the others ascend, and they are all but that one
 pub remove-all-but : (ws : List ℕ) (places : List ℕ) (k place : ℕ) → AreAscending ws 0 places → k < length places

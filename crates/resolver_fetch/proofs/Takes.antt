@@ -6,7 +6,7 @@ use Rattle.std.proofs.lemmas.Bool.{cond_both, ltb-false}
 use Rattle.std.proofs.lemmas.List.Edits.{length-remove}
 use Rattle.std.proofs.lemmas.List.Sums.{sum_by-cons, sum_by-remove, sum-map}
 use Rattle.resolver_fetch.specs.Left.{AreAscending}
-use Rattle.resolver_fetch.specs.Selections.{Remaining, Takes, weights_left, begun}
+use Rattle.resolver_fetch.specs.Selections.{Remaining, Takes, weights_left, begun, positive_from}
 use Rattle.resolver_fetch.proofs.Ascending.{place-positive, positive-within, remove-all-but}
 
 abbrev remaining_of : List ℕ → List ℕ → Remaining
@@ -36,7 +36,7 @@ takes weights left k place ascending within is =
 
 -- Places of weight 0 add nothing to the total.
 total-from : (weights : List ℕ) (first : ℕ) (rest : List ℕ) → ((k : ℕ) → slice_index rest k ≡ slice_index weights (first + k))
-    → sum (map (slice_index weights) (map (λ entry. entry.0) (filter (λ entry. nat_lt 0 entry.1) (enumerate_from first rest)))) ≡ sum rest
+    → sum (map (slice_index weights) (positive_from first rest)) ≡ sum rest
 total-from weights first [] same = refl
 total-from weights first (w ∷ rest) same =
     let entries : List (ℕ × ℕ) = filter (λ entry. nat_lt 0 entry.1) (enumerate_from (first + 1) rest) in

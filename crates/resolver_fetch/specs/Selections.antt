@@ -10,10 +10,14 @@ pub record Remaining : Type 0 where
   -- the places that are left, in order
   pub left : List ℕ
 
+-- the places of positive weight, in order, where the first place has this number
+abbrev pub positive_from : (first : ℕ) → List ℕ → List ℕ
+positive_from first weights =
+    map (λ entry. entry.0) (filter (λ entry. nat_lt 0 entry.1) (enumerate_from first weights))
+
 -- the places of positive weight, in order
 abbrev pub positive_places : List ℕ → List ℕ
-positive_places weights =
-    map (λ entry. entry.0) (filter (λ entry. nat_lt 0 entry.1) (enumerate_from 0 weights))
+positive_places weights = positive_from 0 weights
 
 -- none is taken yet
 abbrev pub begun : List ℕ → Remaining

@@ -1,6 +1,6 @@
 //! Draws without replacement.
 
-ghost use Rattle.std.specs.Prelude.{◌≡◌, ◌<◌, ◌↔◌, length, map, sum, slice_index, All, IsTrue, IfOk, IfErr};
+ghost use Rattle.std.specs.Prelude.{◌≡◌, ◌<◌, ◌↔◌, count_by, nat_lt, length, map, sum, slice_index, All, IsTrue, IfOk, IfErr};
 ghost use Rattle.resolver_fetch.specs.Choice.{chosen};
 ghost use Rattle.resolver_fetch.specs.Selections.{Remaining, begun, weights_left, by_weight, by_count, Takes, DrawsByWeight, DrawsEachOnce, positive_places};
 
@@ -102,12 +102,20 @@ impl Selection {
 fn places_of_weight(alloc: Global, weights: &[u64]) -> Result<Vec<usize>, AllocError>
     ensures { IfOk result (λ places. places.items ≡ positive_places weights.now) }
 {
-    weights
-        .iter()
-        .enumerate()
-        .filter(|(_, weight)| **weight > 0)
-        .map(|(place, _)| place)
-        .collect(alloc)
+    let mut places = Vec::with_capacity(alloc, positive_count(weights))?;
+    for (place, weight) in weights.iter().enumerate() {
+        if *weight > 0 {
+            places.push(place)?;
+        }
+    }
+    Ok(places)
+}
+
+/// How many weights are positive.
+fn positive_count(weights: &[u64]) -> usize
+    ensures { result ≡ count_by (nat_lt 0) weights.now }
+{
+    weights.iter().filter(|weight| **weight > 0).count()
 }
 
 /// The sum of the weights at these places.
