@@ -4,3 +4,11 @@ pub mod Lengths
 pub mod Pieces
 pub mod Varints
 pub mod RoundTrip
+pub mod IdleScores
+pub mod Fades
+pub mod Counts
+pub mod Choices
+pub mod ChoiceCounts
+pub mod Ascending
+pub mod Draws
+pub mod Takes

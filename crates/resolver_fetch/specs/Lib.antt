@@ -2,3 +2,11 @@ pub mod Spelling
 pub mod Reading
 pub mod Layout
 pub mod TestKeys
+pub mod Times
+pub mod Scores
+pub mod Bounded
+pub mod ScoreLaws
+pub mod Choice
+pub mod ChoiceLaws
+pub mod Left
+pub mod Selections

@@ -1,5 +1,7 @@
 //! Parts for tests of what stands on a resolver.
 
+pub use resolver_fetch::wire::{Message, Payload};
+
 use bytes::{BufMut, BytesMut};
 use resolver_base::base::Span;
 use std::alloc::AllocError;
