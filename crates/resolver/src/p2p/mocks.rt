@@ -1,9 +1,8 @@
 //! Parts for tests of what stands on a resolver.
 
-pub use resolver_fetch::wire::{Message, Payload};
-
 use bytes::{BufMut, BytesMut};
 use resolver_base::base::Span;
+pub use resolver_fetch::wire::{Message, Payload};
 use std::alloc::AllocError;
 use std::fmt;
 
