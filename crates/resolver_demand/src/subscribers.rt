@@ -224,7 +224,8 @@ fn attach_to<K: Ord, S: Ord + Drop>(
 ) -> Result<(), AllocError>
     ensures ok { OnOk result (IfSome (get K.cmp demand.old key.now)
         (λ subscribers. demand.new.entries
-        ≡ set_value (is_at (K.cmp key.now)) demand.old.entries (attached_all S.cmp subscribers more.items))) }
+        ≡ set_value (is_at (K.cmp key.now)) demand.old.entries
+        (attached_all S.cmp subscribers more.items))) }
     ensures err { OnErr result (demand.new.entries ≡ demand.old.entries) }
 {
     if let Some(subscribers) = demand.get_mut(key) {
@@ -241,7 +242,8 @@ fn detach_from<K: Ord, S: Ord + Drop>(
 )
     ensures { IfSome (get K.cmp demand.old key.now)
         (λ subscribers. demand.new.entries
-        ≡ set_value (is_at (K.cmp key.now)) demand.old.entries (without S.cmp named.now.list.now subscribers)) }
+        ≡ set_value (is_at (K.cmp key.now)) demand.old.entries
+        (without S.cmp named.now.list.now subscribers)) }
 {
     if let Some(subscribers) = demand.get_mut(key) {
         subscribers.detach_all(named);

@@ -38,7 +38,11 @@ impl<K: Ord, S, V, Context, State> Model for Entries<K, S, V, Context, State> {
 
     ghost Value = { Numbered K S V Context State };
 
-    ghost view = { λ a. record { keys = a.keys.entries; going = a.going.entries; next = a.numbers } };
+    ghost view = { λ a. record {
+      keys = a.keys.entries;
+      going = a.going.entries;
+      next = a.numbers;
+    } };
 }
 
 impl<K: Ord + Drop, S: Drop, V: Drop, Context: Drop, State: Drop> Entries<K, S, V, Context, State> {
