@@ -1,2 +1,2 @@
-pub mod NonEmptyRows
+pub mod ListedRows
 pub mod Emptied

@@ -12,8 +12,8 @@ ghost use Rattle.resolver_demand.specs.declared.subscribers.listed.Subscribers.{
 ghost use Rattle.resolver_base.specs.declared.base.fault.Fault.TheVariants.{OutOfMemory};
 ghost use Rattle.resolver_base.specs.Names.{names, same_key};
 ghost use Rattle.resolver_base.specs.Subscribers.{attached_all, without};
-ghost use Rattle.resolver_base.specs.Table.{asked_one, emptied, has_subscribers, is_asked, kept, rest_of, subscribers_of, without_key, without_named};
-ghost use Rattle.std.specs.List.{list_all};
+ghost use Rattle.resolver_base.specs.Table.{asked_one, emptied, is_asked, kept, rest_of, subscribers_of, without_key, without_named};
+ghost use Rattle.resolver_demand.specs.Rows.{AreListed, IsListed};
 ghost use Rattle.std.specs.List.Sorted.{IsStrictlySortedBy};
 ghost use Rattle.std.specs.Map.{keys_of, set_value};
 ghost use Rattle.std.specs.BTreeMap.{get, is_at};
@@ -28,24 +28,24 @@ use std::marker::Model;
 
 /// The keys that someone waits for, in their order, each with its subscribers in theirs.
 ///
-/// A key that is there has at least one subscriber. A call on one key takes time logarithmic in
-/// the number of keys. Of equal keys and of equal subscribers the first one stays.
+/// A key that is there has at least one subscriber. Of equal keys and of equal subscribers the
+/// first one stays. A call on one key takes time logarithmic in the number of keys; to add one
+/// subscriber takes time linear in the number of the key's own.
 #[derive(Debug, Drop)]
-pub struct Tracker<K: Ord, S> {
+pub struct Tracker<K: Ord, S: Ord> {
     demand: BTreeMap<K, Subscribers<S>>,
     alloc: Global,
 }
 
-impl<K: Ord, S> Model for Tracker<K, S> {
-    ghost use Rattle.std.specs.Prelude.{List, ℕ, IsTrue};
-    ghost use Rattle.std.specs.List.{list_all};
-    ghost use Rattle.resolver_base.specs.Table.{has_subscribers};
+impl<K: Ord, S: Ord> Model for Tracker<K, S> {
+    ghost use Rattle.std.specs.Prelude.{List, ℕ};
+    ghost use Rattle.resolver_demand.specs.Rows.{AreListed};
 
     ghost Value = { List (K × List (S × ℕ)) };
 
     ghost view = { λ a. a.demand.entries };
 
-    ghost invariant = { λ a. IsTrue (list_all has_subscribers a.demand.entries) };
+    ghost invariant = { λ a. AreListed S.cmp a.demand.entries };
 }
 
 impl<K: Ord + Drop, S: Ord + Drop> Tracker<K, S> {
@@ -124,6 +124,7 @@ impl<K: Ord + Drop, S: Ord + Drop> Tracker<K, S> {
         requires subscribers_clone { (x y : S) → S.is_clone x y → y ≡ x }
         ensures ok { IfOk result
             (λ pending. pending ≡ subscribers_of (names K.cmp S.cmp) self.now key.now) }
+        ensures listed { IfOk result (λ pending. IfSome pending (IsListed S.cmp)) }
         ensures only { IfErr result (λ fault. fault ≡ OutOfMemory) }
     {
         let Some(subscribers) = self.demand.get(key) else {
@@ -149,6 +150,7 @@ impl<K: Ord + Drop, S: Ord + Drop> Tracker<K, S> {
             (self.new ≡ without_named (names K.cmp S.cmp) key.now delivered.now self.old) }
         ensures rest { IfOk result
             (λ rest. rest ≡ rest_of (names K.cmp S.cmp) key.now delivered.now self.old) }
+        ensures listed { IfOk result (λ rest. IfSome rest (IsListed S.cmp)) }
         ensures err { OnErr result (self.new ≡ self.old) }
         ensures only { IfErr result (λ fault. fault ≡ OutOfMemory) }
     {
@@ -169,7 +171,7 @@ impl<K: Ord + Drop, S: Ord + Drop> Tracker<K, S> {
     pub fn get(&self, key: &K) -> Option<&Subscribers<S>>
         ensures value { option_copied result
             ≡ subscribers_of (names K.cmp S.cmp) self.now key.now }
-        ensures positive { IfSome result (λ subscribers. 0 < length subscribers.now) }
+        ensures listed { IfSome result (λ subscribers. IsListed S.cmp subscribers.now) }
     {
         self.demand.get(key)
     }
@@ -191,7 +193,7 @@ impl<K: Ord + Drop, S: Ord + Drop> Tracker<K, S> {
     /// The keys in their order, each with its subscribers.
     pub fn iter(&self) -> Iter<'_, K, Subscribers<S>>
         ensures rest { result ≡ self.now }
-        ensures positive { IsTrue (list_all has_subscribers self.now) }
+        ensures listed { AreListed S.cmp self.now }
         ensures ordered { IsStrictlySortedBy K.cmp (keys_of self.now) }
         ensures runs { ShowsInOrder (deref_pair {K = K} {X = Subscribers S}) }
     {
@@ -222,7 +224,8 @@ fn attach_to<K: Ord, S: Ord + Drop>(
 ) -> Result<(), AllocError>
     ensures ok { OnOk result (IfSome (get K.cmp demand.old key.now)
         (λ subscribers. demand.new.entries
-        ≡ set_value (is_at (K.cmp key.now)) demand.old.entries (attached_all S.cmp subscribers more.items))) }
+        ≡ set_value (is_at (K.cmp key.now)) demand.old.entries
+        (attached_all S.cmp subscribers more.items))) }
     ensures err { OnErr result (demand.new.entries ≡ demand.old.entries) }
 {
     if let Some(subscribers) = demand.get_mut(key) {
@@ -239,7 +242,8 @@ fn detach_from<K: Ord, S: Ord + Drop>(
 )
     ensures { IfSome (get K.cmp demand.old key.now)
         (λ subscribers. demand.new.entries
-        ≡ set_value (is_at (K.cmp key.now)) demand.old.entries (without S.cmp named.now.list.now subscribers)) }
+        ≡ set_value (is_at (K.cmp key.now)) demand.old.entries
+        (without S.cmp named.now.list.now subscribers)) }
 {
     if let Some(subscribers) = demand.get_mut(key) {
         subscribers.detach_all(named);

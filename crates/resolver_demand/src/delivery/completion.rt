@@ -18,5 +18,5 @@ pub struct Completion<K, S, Context> {
 }
 
 /// No delivery is open under this number, or it was canceled and has no verdict.
-#[derive(Debug, Drop)]
+#[derive(Clone, Copy, Debug, PartialEq, Eq)]
 pub struct Aborted {}

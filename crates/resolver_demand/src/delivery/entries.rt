@@ -4,7 +4,10 @@ ghost use Rattle.std.specs.Prelude.{◌≡◌, Bool, ◌+◌, ◌^◌, ◌<◌, 
 ghost use Rattle.std.specs.Option.{option_copied, option_map};
 ghost use Rattle.std.specs.Fn.{FnReturnsAt};
 ghost use Rattle.std.specs.Ordering.{nat_cmp};
-ghost use Rattle.std.specs.Map.{lookup};
+ghost use Rattle.std.specs.List.Sorted.{IsStrictlySortedBy};
+ghost use Rattle.std.specs.Map.{keys_of, lookup};
+ghost use Rattle.std.specs.Map.Iter.{ShowsInOrder, deref_pair};
+ghost use Rattle.resolver_demand.specs.declared.delivery.entry.Entry.{Entry};
 ghost use Rattle.std.specs.BTreeMap.{get, is_at};
 ghost use Rattle.resolver_demand.specs.Entries.{accepted, changed_at, ended, numbered, with_response};
 ghost use Rattle.resolver_base.specs.declared.base.fault.Fault.TheVariants.{OutOfMemory, Exhausted};
@@ -35,7 +38,11 @@ impl<K: Ord, S, V, Context, State> Model for Entries<K, S, V, Context, State> {
 
     ghost Value = { Numbered K S V Context State };
 
-    ghost view = { λ a. record { keys = a.keys.entries; going = a.going.entries; next = a.numbers } };
+    ghost view = { λ a. record {
+      keys = a.keys.entries;
+      going = a.going.entries;
+      next = a.numbers;
+    } };
 }
 
 impl<K: Ord + Drop, S: Drop, V: Drop, Context: Drop, State: Drop> Entries<K, S, V, Context, State> {
@@ -234,6 +241,8 @@ impl<K: Ord + Drop, S: Drop, V: Drop, Context: Drop, State: Drop> Entries<K, S, 
     /// The tracked keys in their order, with their entries.
     pub fn iter(&self) -> Iter<'_, K, Entry<V, Context, State>>
         ensures rest { result ≡ self.now.keys }
+        ensures ordered { IsStrictlySortedBy K.cmp (keys_of self.now.keys) }
+        ensures runs { ShowsInOrder (deref_pair {K = K} {X = Entry V Context State}) }
     {
         self.keys.iter()
     }

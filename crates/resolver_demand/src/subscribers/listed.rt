@@ -113,7 +113,8 @@ impl<S: Ord + Clone + Drop> Subscribers<S> {
 /// Where a subscriber goes; nowhere if it is there.
 fn place_of<S: Ord>(list: &[(S, u64)], one: &(S, u64)) -> Option<usize>
     ensures { MatchOption result (attached S.cmp list.now one.now ≡ list.now)
-        (λ i. (i ≤ length list.now) × (attached S.cmp list.now one.now ≡ insert list.now i one.now)) }
+        (λ i. (i ≤ length list.now)
+        × (attached S.cmp list.now one.now ≡ insert list.now i one.now)) }
 {
     for (i, other) in list.iter().enumerate() {
         match one.0.cmp(&other.0) {
