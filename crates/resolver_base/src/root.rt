@@ -15,7 +15,7 @@ use std::cmp::Ordering;
 /// A demand for one key by one subscriber.
 ///
 /// Fetches compare by key and then by subscriber; marks are not looked at.
-#[derive(Debug, Drop)]
+#[derive(Clone, Debug, Drop)]
 #[derive_where(PartialEq, Eq, PartialOrd, Ord; K, S)]
 pub struct Fetch<K, S> {
     /// The data that is wanted.
@@ -58,7 +58,7 @@ impl<K, S: Default> From<K> for Fetch<K, S> {
 ///
 /// Deliveries compare by key and then by the subscribers in their order, of which a shorter equal
 /// beginning is less; marks are not looked at.
-#[derive(Debug, Drop)]
+#[derive(Clone, Debug, Drop)]
 pub struct Delivery<K, S> {
     /// The data that was wanted.
     pub key: K,

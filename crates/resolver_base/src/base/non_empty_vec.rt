@@ -11,7 +11,7 @@ use std::marker::Model;
 use std::slice::Iter;
 
 /// A list with at least one item. Contracts see it as that list.
-#[derive(Debug, Drop)]
+#[derive(Clone, Debug, Drop)]
 pub struct NonEmptyVec<T> {
     items: Vec<T>,
 }

@@ -50,6 +50,10 @@ fn fetches_compare_by_key_and_subscriber(rt: HostRuntime) {
     assert!(rt; fetch(2, 0, 0) > fetch(1, 11, 9));
 }
 
+fn copied<T: Clone>(value: &T) -> Result<T, AllocError> {
+    value.clone()
+}
+
 #[test]
 fn clones_keep_the_marks(rt: HostRuntime) -> Result<(), Fail> {
     let fetch = Fetch {
@@ -57,11 +61,14 @@ fn clones_keep_the_marks(rt: HostRuntime) -> Result<(), Fail> {
         subscriber: 10u16,
         mark: 7,
     };
-    let same = fetch.clone()?;
-    assert_eq!(rt; (same.key, same.subscriber, same.mark), (1, 10, 7));
-    let same = delivery(rt.alloc(), 1, &[(10, 7), (11, 8)])?.clone()?;
-    assert_eq!(rt; same.key, 1);
-    assert_eq!(rt; same.subscribers.as_slice(), [(10, 7), (11, 8)].as_slice());
+    for same in [fetch.clone()?, copied(&fetch)?] {
+        assert_eq!(rt; (same.key, same.subscriber, same.mark), (1, 10, 7));
+    }
+    let handed = delivery(rt.alloc(), 1, &[(10, 7), (11, 8)])?;
+    for same in [handed.clone()?, copied(&handed)?] {
+        assert_eq!(rt; same.key, 1);
+        assert_eq!(rt; same.subscribers.as_slice(), [(10, 7), (11, 8)].as_slice());
+    }
     Ok(())
 }
 

@@ -1,9 +1,12 @@
 //! What is known once a delivery is over.
 
+ghost use Rattle.std.specs.Prelude.{◌≡◌, IfOk};
+
 use resolver_base::root::{Delivery, Outcome};
+use std::alloc::AllocError;
 
 /// A delivery that is over.
-#[derive(Debug, Drop)]
+#[derive(Clone, Debug, Drop, PartialEq, Eq)]
 pub struct Completion<K, S, Context> {
     /// What was said of the delivery when it began.
     pub context: Context,
@@ -17,6 +20,27 @@ pub struct Completion<K, S, Context> {
     pub previously_accepted: bool,
 }
 
+impl<K: Clone, S: Clone, Context: Clone> Completion<K, S, Context> {
+    /// A completion that is the same, marks included. Clones of its parts are to equal them.
+    pub fn clone(&self) -> Result<Self, AllocError>
+        requires keys_clone { (x y : K) → K.is_clone x y → y ≡ x }
+        requires subscribers_clone { (x y : S) → S.is_clone x y → y ≡ x }
+        requires contexts_clone { (x y : Context) → Context.is_clone x y → y ≡ x }
+        ensures same { IfOk result (λ completion. completion ≡ self.now) }
+    {
+        Ok(Completion {
+            context: self.context.clone()?,
+            delivery: self.delivery.clone()?,
+            outcome: self.outcome,
+            canceled: self.canceled,
+            previously_accepted: self.previously_accepted,
+        })
+    }
+}
+
 /// No delivery is open under this number, or it was canceled and has no verdict.
 #[derive(Clone, Copy, Debug, PartialEq, Eq)]
 pub struct Aborted {}
+
+#[cfg(test)]
+mod tests;
