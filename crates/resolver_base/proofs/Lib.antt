@@ -1,2 +1,4 @@
 pub mod MappedInPart
 pub mod Lexicographic
+pub mod Ordered
+pub mod Priorities

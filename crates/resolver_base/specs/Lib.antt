@@ -7,3 +7,4 @@ pub mod Table
 pub mod Outcomes
 pub mod Sending
 pub mod Drawn
+pub mod Priorities
