@@ -2,3 +2,4 @@ pub mod MappedInPart
 pub mod Lexicographic
 pub mod Ordered
 pub mod Priorities
+pub mod Forgotten

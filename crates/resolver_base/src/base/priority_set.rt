@@ -1,9 +1,12 @@
 //! A set that is ordered by priority.
 
-ghost use Rattle.std.specs.Prelude.{◌≡◌, ◌↔◌, [], ◌∷◌, Some, length, slice_get, IfNone, IfOk, IfErr, IfSome, IsTrue, OnErr, OnOk};
+ghost use Rattle.std.specs.Prelude.{◌≡◌, ◌↔◌, Bool, [], ◌∷◌, Some, length, slice_get, IfNone, IfOk, IfErr, IfSome, IsTrue, OnErr, OnOk};
+ghost use Rattle.std.specs.BTreeMap.{is_at};
+ghost use Rattle.std.specs.Fn.{FnReturnsAt};
 ghost use Rattle.std.specs.List.Sorted.{IsStrictlySortedBy};
+ghost use Rattle.std.specs.Map.{lookup};
 ghost use Rattle.std.specs.Map.Iter.{ShowsInOrder, deref};
-ghost use Rattle.resolver_base.specs.Priorities.{has_item, pair_order, priorities_of, put, without};
+ghost use Rattle.resolver_base.specs.Priorities.{AnswersBy, IsIndexed, has_item, indexed, listed, pair_order, priorities_of, put, retained, without};
 ghost use Rattle.resolver_base.specs.declared.base.fault.Fault.TheVariants.{OutOfMemory};
 
 use crate::base::Fault;
@@ -135,6 +138,45 @@ impl<I: Ord + Drop, R: Ord + Drop> PrioritySet<I, R> {
         self.ordered.remove(&(priority, held));
         true
     }
+
+    /// Lets the items go that aren't kept, with a look-up for each item. `keep` is pure.
+    pub fn retain<F: Fn(&I) -> bool>(&mut self, keep: F)
+        requires { F.IsAlwaysCallable keep }
+        ensures { (test : I → Bool) → AnswersBy F.Fn keep test
+            → self.new ≡ retained test self.old }
+    {
+        forget(&self.ordered, &mut self.priorities, &keep);
+        let priorities = &self.priorities;
+        self.ordered.retain(|pair| priorities.contains_key(&pair.1));
+    }
+}
+
+/// Takes the items that aren't kept out of the index.
+fn forget<I: Ord + Drop, R: Ord + Drop, F: Fn(&I) -> bool>(
+    ordered: &BTreeSet<(R, I)>,
+    priorities: &mut BTreeMap<I, R>,
+    keep: &F,
+)
+    requires callable { F.IsAlwaysCallable keep.now }
+    requires before { IsIndexed R.cmp I.cmp ordered.now.keys priorities.old.entries }
+    ensures after { (item : I) → priorities_of I.cmp (indexed I.cmp priorities.new.entries ordered.now.keys) item
+        ≡ listed (lookup (is_at (I.cmp item)) priorities.new.entries) }
+    ensures kept { (test : I → Bool) → AnswersBy F.Fn keep.now test
+        → indexed I.cmp priorities.new.entries ordered.now.keys ≡ retained test ordered.now.keys }
+{
+    for pair in ordered {
+        if !keeps(keep, &pair.1) {
+            priorities.remove(&pair.1);
+        }
+    }
+}
+
+/// What a test answers of an item.
+fn keeps<I, F: Fn(&I) -> bool>(keep: &F, item: &I) -> bool
+    requires { F.IsAlwaysCallable keep.now }
+    ensures { FnReturnsAt F.Fn keep.now item.now result }
+{
+    keep(item)
 }
 
 /// Gives an item that is there, and has the priority `held` so far, another one.

@@ -60,3 +60,14 @@ fn takes_items_out(rt: HostRuntime) -> Result<(), Fail> {
     assert!(rt; empty.pop().is_none());
     Ok(())
 }
+
+#[test]
+fn keeps_what_passes(rt: HostRuntime) -> Result<(), Fail> {
+    let mut set = set_of(rt, &[(1, 40), (2, 30), (3, 20), (4, 10)])?;
+    set.retain(|item| item % 2 == 0);
+    assert!(rt; !set.contains(&3));
+    set.put(3, 35)?;
+    let given = drained(rt, set)?;
+    assert_eq!(rt; given.as_slice(), [(4, 10), (2, 30), (3, 35)].as_slice());
+    Ok(())
+}
