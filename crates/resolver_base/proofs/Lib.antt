@@ -1,2 +1,5 @@
 pub mod MappedInPart
 pub mod Lexicographic
+pub mod Ordered
+pub mod Priorities
+pub mod Forgotten

@@ -5,3 +5,6 @@ pub mod Faults
 pub mod Mapped
 pub mod Table
 pub mod Outcomes
+pub mod Sending
+pub mod Drawn
+pub mod Priorities

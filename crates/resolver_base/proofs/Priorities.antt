@@ -1,0 +1,131 @@
+-- The pairs of a set that is ordered by priority, and the map that has each item with its priority.
+use Rattle.std.proofs.Common.{◌≡◌, refl, ap, sym, ◌∙◌, true, false, ◌&&◌, List, [], ◌∷◌, Option, None, Some, is_some, Result, Ok, Err, OnOk, OnErr, cond, rules, arith}
+use Rattle.std.proofs.lemmas.Grind.{common_steps}
+use Rattle.std.proofs.lemmas.Cmp.{alike_right, eq_by_cmp_equiv, on_total, then_total, tied_itself}
+use Rattle.std.specs.Cmp.{IsTotalOrder, Equal-is}
+use Rattle.std.specs.List.Sorted.{IsStrictlySortedBy}
+use Rattle.std.specs.Ordering.{is_eq, ordering_then}
+use Rattle.std.specs.declared.cmp.Ordering.{Ordering}
+use Rattle.std.specs.declared.cmp.Ordering.TheVariants.{Less, Equal, Greater}
+use Rattle.std.specs.BTreeMap.{is_at}
+use Rattle.std.specs.BTreeSet.{insert_key, replace_key}
+use Rattle.std.specs.Map.{lookup}
+use Rattle.std.specs.Set.{remove_key}
+use Rattle.resolver_base.specs.Priorities.{IsIndexed, has_item, is_of, listed, pair_order, priorities_of, put, without}
+use Rattle.resolver_base.proofs.Ordered.{remove_key-put, replace_key-put}
+
+-- two pairs are equal where both parts are
+pub then-equal : (a b : Ordering) → is_eq (ordering_then a b) ≡ (is_eq a && is_eq b)
+then-equal Less b = refl
+then-equal Equal b = refl
+then-equal Greater b = refl
+
+module _ {I R : Type 0} {by_item : I → I → Ordering} (o : IsTotalOrder by_item) where
+  -- equal items have the same pairs
+  pub is_of-same : (x q : I) (p : R × I) → by_item x q ≡ Equal → is_of by_item x p ≡ is_of by_item q p
+  is_of-same x q p same = ap is_eq (o.congr x q p.1 same)
+
+  -- a pair of one item is that of the items that equal it
+  pub is_of-other : (x q : I) (p : R × I) → is_of by_item q p ≡ true → is_of by_item x p ≡ is_eq (by_item x q)
+  is_of-other x q p of = ap is_eq (sym (alike_right o q p.1 x ((Equal-is (by_item q p.1)).0 of)))
+
+  -- without an item, other items are as before, and the item isn't there
+  pub priorities-without : (x q : I) (pairs : List (R × I))
+      → priorities_of by_item (without by_item x pairs) q ≡ cond (is_eq (by_item x q)) [] (priorities_of by_item pairs q)
+  priorities-without x q [] = search rules
+  priorities-without x q (p ∷ pairs) =
+      let rest = priorities-without x q pairs in
+      let of = is_of-other x q p in
+      grind (arith, common_steps, rest, of)
+
+  -- an item that isn't there
+  pub without-none : (x : I) (pairs : List (R × I)) → priorities_of by_item pairs x ≡ [] → without by_item x pairs ≡ pairs
+  without-none x [] none = refl
+  without-none x (p ∷ pairs) none = let rest = without-none x pairs in grind (arith, common_steps, rest)
+
+  -- an item is there exactly where it has a priority
+  pub has_item-some : (q : I) (pairs : List (R × I)) (found : Option R) → priorities_of by_item pairs q ≡ listed found → has_item by_item pairs q ≡ is_some found
+  has_item-some q [] None is = refl
+  has_item-some q [] (Some r) is = cc
+  has_item-some q (p ∷ pairs) None is = let rest = has_item-some q pairs None in grind (arith, common_steps, rest)
+  has_item-some q (p ∷ pairs) (Some r) is = let rest = has_item-some q pairs (Some r) in grind (arith, common_steps, rest)
+
+  module _ {by_priority : R → R → Ordering} (u : IsTotalOrder by_priority) where
+    -- the pair of an item that is there once is taken out by what equals it
+    pub remove_key-without : (x y : I) (r s : R) (pairs : List (R × I)) → by_item x y ≡ Equal → by_priority r s ≡ Equal
+        → priorities_of by_item pairs x ≡ s ∷ [] → remove_key (is_at (pair_order by_priority by_item (r, y))) pairs ≡ without by_item x pairs
+    remove_key-without x y r s [] same level there = refl
+    remove_key-without x y r s (p ∷ pairs) same level there =
+        let rest = remove_key-without x y r s pairs same level in
+        let none = without-none x pairs in
+        let of = is_of-same x y p same in
+        let both = then-equal (by_priority r p.0) (by_item y p.1) in
+        let at : p.0 ≡ s → is_eq (by_priority r p.0) ≡ true = λ is. rw (is, level) refl in
+        grind (arith, common_steps, rest, none, of, both, at)
+
+    -- a pair is put beside others, where its item isn't there
+    pub priorities-insert : (p : R × I) (q : I) (pairs : List (R × I)) → priorities_of by_item pairs p.1 ≡ []
+        → priorities_of by_item (insert_key (pair_order by_priority by_item) pairs p) q ≡ cond (is_eq (by_item p.1 q)) (p.0 ∷ []) (priorities_of by_item pairs q)
+    priorities-insert p q [] none = grind (arith, common_steps)
+    priorities-insert p q (e ∷ pairs) none =
+        let rest = priorities-insert p q pairs in
+        let of = is_of-other p.1 q e in
+        let here = is_of-same p.1 q e in
+        let tied = Equal-is (by_item p.1 q) in
+        let both = then-equal (by_priority p.0 e.0) (by_item p.1 e.1) in
+        grind (arith, common_steps, rest, of, here, tied, both, none)
+
+    -- an item is put: the index gives its priority to it, and to no other
+    pub indexed-put : (p : R × I) (pairs : List (R × I)) (index next : List (I × R)) → IsIndexed by_priority by_item pairs index
+        → ((q : I) → lookup (is_at (by_item q)) next ≡ cond (is_eq (by_item p.1 q)) (Some p.0) (lookup (is_at (by_item q)) index))
+        → (q : I) → priorities_of by_item (put by_priority by_item pairs p) q ≡ listed (lookup (is_at (by_item q)) next)
+    indexed-put p pairs index next indexed updates q =
+        let gone : priorities_of by_item (without by_item p.1 pairs) p.1 ≡ [] = rw (priorities-without p.1 p.1 pairs, tied_itself o p.1) refl in
+        let is = priorities-insert p q (without by_item p.1 pairs) gone in
+        let others = priorities-without p.1 q pairs in
+        let before = indexed.same q in
+        let after = updates q in
+        grind (arith, common_steps, is, others, before, after)
+
+    -- an item is taken out: the index forgets it, and no other
+    pub indexed-without : (x : I) (pairs : List (R × I)) (index next : List (I × R)) → IsIndexed by_priority by_item pairs index
+        → ((q : I) → lookup (is_at (by_item q)) next ≡ cond (is_eq (by_item x q)) None (lookup (is_at (by_item q)) index))
+        → (q : I) → priorities_of by_item (without by_item x pairs) q ≡ listed (lookup (is_at (by_item q)) next)
+    indexed-without x pairs index next indexed updates q =
+        let others = priorities-without x q pairs in
+        let before = indexed.same q in
+        let after = updates q in
+        grind (arith, common_steps, others, before, after)
+
+    -- the index is as before, for each item
+    pub indexed-alike : (pairs : List (R × I)) (index next : List (I × R)) → IsIndexed by_priority by_item pairs index
+        → ((q : I) → lookup (is_at (by_item q)) next ≡ lookup (is_at (by_item q)) index) → IsIndexed by_priority by_item pairs next
+    indexed-alike pairs index next indexed alike = record { ordered = indexed.ordered; same = λ q. indexed.same q ∙ ap listed (sym (alike q)) }
+
+    -- the order of pairs
+    pub pair_order-total : IsTotalOrder (pair_order by_priority by_item)
+    pair_order-total = then_total (on_total (λ p. p.0) u) (on_total (λ p. p.1) o)
+
+    -- an item that is there with an equal priority is put again
+    pub put-level : (p : R × I) (held : R) (pairs : List (R × I)) → IsStrictlySortedBy (pair_order by_priority by_item) pairs
+        → priorities_of by_item pairs p.1 ≡ held ∷ [] → by_priority p.0 held ≡ Equal
+        → replace_key (pair_order by_priority by_item) pairs p ≡ put by_priority by_item pairs p
+    put-level p held pairs sorted there level =
+        replace_key-put pair_order-total p pairs sorted
+        ∙ ap (λ es. insert_key (pair_order by_priority by_item) es p) (remove_key-without p.1 p.1 p.0 held pairs (tied_itself o p.1) level there)
+
+    -- an item that is there with another priority is put again
+    pub put-apart : (p : R × I) (held : R) (pairs : List (R × I)) → IsStrictlySortedBy (pair_order by_priority by_item) pairs
+        → priorities_of by_item pairs p.1 ≡ held ∷ [] → is_eq (by_priority p.0 held) ≡ false
+        → remove_key (is_at (pair_order by_priority by_item (held, p.1))) (insert_key (pair_order by_priority by_item) pairs p) ≡ put by_priority by_item pairs p
+    put-apart p held pairs sorted there apart =
+        let back : is_eq (by_priority held p.0) ≡ false = (eq_by_cmp_equiv u).symm held p.0 ∙ apart in
+        let other : is_eq (pair_order by_priority by_item (held, p.1) p) ≡ false = then-equal (by_priority held p.0) (by_item p.1 p.1) ∙ rw back refl in
+        remove_key-put pair_order-total (held, p.1) p pairs other sorted
+        ∙ ap (λ es. insert_key (pair_order by_priority by_item) es p) (remove_key-without p.1 p.1 held held pairs (tied_itself o p.1) (tied_itself u held) there)
+
+-- what two facts of either outcome give
+pub either : {A E P X Y Z W : Type 0} (result : Result A E) → OnOk result X → OnOk result Y → OnErr result Z → OnErr result W
+    → (X → Y → P) → (Z → W → P) → P
+either (Ok a) x y z w f g = f x y
+either (Err e) x y z w f g = g z w

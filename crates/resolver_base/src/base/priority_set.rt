@@ -1,0 +1,212 @@
+//! A set that is ordered by priority.
+
+ghost use Rattle.std.specs.Prelude.{◌≡◌, ◌↔◌, Bool, [], ◌∷◌, Some, length, slice_get, IfNone, IfOk, IfErr, IfSome, IsTrue, OnErr, OnOk};
+ghost use Rattle.std.specs.BTreeMap.{is_at};
+ghost use Rattle.std.specs.Fn.{FnReturnsAt};
+ghost use Rattle.std.specs.List.Sorted.{IsStrictlySortedBy};
+ghost use Rattle.std.specs.Map.{lookup};
+ghost use Rattle.std.specs.Map.Iter.{ShowsInOrder, deref};
+ghost use Rattle.resolver_base.specs.Priorities.{AnswersBy, IsIndexed, has_item, indexed, listed, pair_order, priorities_of, put, retained, without};
+ghost use Rattle.resolver_base.specs.declared.base.fault.Fault.TheVariants.{OutOfMemory};
+
+use crate::base::Fault;
+use std::alloc::Global;
+use std::cmp::Ordering;
+use std::collections::btree_set::Iter;
+use std::collections::{BTreeMap, BTreeSet};
+use std::marker::Model;
+use std::mem;
+
+/// Items with their priorities, each item once, ordered by priority and then by item.
+///
+/// Contracts see it as the list of its pairs of a priority and an item, in order. A call on one
+/// item takes time logarithmic in the number of items.
+#[derive(Debug, Drop)]
+pub struct PrioritySet<I: Ord, R: Ord> {
+    ordered: BTreeSet<(R, I)>,
+    priorities: BTreeMap<I, R>,
+}
+
+impl<I: Ord, R: Ord> Model for PrioritySet<I, R> {
+    ghost use Rattle.std.specs.Prelude.{List};
+    ghost use Rattle.resolver_base.specs.Priorities.{IsIndexed};
+
+    ghost Value = { List (R × I) };
+
+    ghost view = { λ a. a.ordered.keys };
+
+    ghost invariant = { λ a. IsIndexed R.cmp I.cmp a.ordered.keys a.priorities.entries };
+}
+
+impl<I: Ord, R: Ord> PrioritySet<I, R> {
+    /// No item.
+    pub fn new(alloc: Global) -> Self
+        ensures { result ≡ [] }
+    {
+        PrioritySet {
+            ordered: BTreeSet::new(alloc),
+            priorities: BTreeMap::new(alloc),
+        }
+    }
+
+    /// The least item with its priority, if there is any item.
+    pub fn peek(&self) -> Option<(&I, &R)>
+        ensures least { IfSome result
+            (λ entry. slice_get self.now 0 ≡ Some (entry.1.now, entry.0.now)) }
+        ensures none { IfNone result (self.now ≡ []) }
+    {
+        let pair = self.ordered.first()?;
+        Some((&pair.1, &pair.0))
+    }
+
+    /// Whether this item is there.
+    pub fn contains(&self, item: &I) -> bool
+        ensures { result ≡ has_item I.cmp self.now item.now }
+    {
+        self.priorities.contains_key(item)
+    }
+
+    /// How many items there are.
+    pub fn len(&self) -> usize
+        ensures { result ≡ length self.now }
+    {
+        self.ordered.len()
+    }
+
+    /// Whether there is no item.
+    pub fn is_empty(&self) -> bool
+        ensures { IsTrue result ↔ (self.now ≡ []) }
+    {
+        self.ordered.is_empty()
+    }
+
+    /// The priorities with their items, in order.
+    pub fn iter(&self) -> Iter<'_, (R, I)>
+        ensures rest { result ≡ self.now }
+        ensures ordered { IsStrictlySortedBy (pair_order R.cmp I.cmp) self.now }
+        ensures runs { ShowsInOrder (deref {X = R × I}) }
+    {
+        self.ordered.iter()
+    }
+}
+
+impl<I: Ord + Drop, R: Ord + Drop> PrioritySet<I, R> {
+    /// Puts an item at its place. An equal item that is there gives way to it, with its priority.
+    /// Where memory is wanting, nothing changes.
+    ///
+    /// The item and the priority are cloned; clones are to equal their sources.
+    pub fn put(&mut self, item: I, priority: R) -> Result<(), Fault>
+    where
+        I: Clone,
+        R: Clone,
+        requires items_clone { (x y : I) → I.is_clone x y → y ≡ x }
+        requires priorities_clone { (x y : R) → R.is_clone x y → y ≡ x }
+        ensures ok { OnOk result (self.new ≡ put R.cmp I.cmp self.old (priority, item)) }
+        ensures err { OnErr result (self.new ≡ self.old) }
+        ensures only { IfErr result (λ fault. fault ≡ OutOfMemory) }
+    {
+        let pair = (priority.clone()?, item.clone()?);
+        if let Some(held) = self.priorities.get_mut(&item) {
+            return move_item(&mut self.ordered, held, pair, item, priority);
+        }
+        self.priorities.insert(item, priority)?;
+        if let Err(refused) = self.ordered.insert(pair) {
+            self.priorities.remove(&refused.value.1);
+            return Err(Fault::OutOfMemory);
+        }
+        Ok(())
+    }
+
+    /// Takes the least item out, with its priority, if there is any item.
+    pub fn pop(&mut self) -> Option<(I, R)>
+        ensures least { IfSome result (λ entry. self.old ≡ (entry.1, entry.0) ∷ self.new) }
+        ensures none { IfNone result ((self.old ≡ []) × (self.new ≡ [])) }
+    {
+        let (priority, item) = self.ordered.pop_first()?;
+        self.priorities.remove(&item);
+        Some((item, priority))
+    }
+
+    /// Takes this item out, and answers whether it was there.
+    pub fn remove(&mut self, item: &I) -> bool
+        ensures after { self.new ≡ without I.cmp item.now self.old }
+        ensures was_there { result ≡ has_item I.cmp self.old item.now }
+    {
+        let Some((held, priority)) = self.priorities.remove_entry(item) else {
+            return false;
+        };
+        self.ordered.remove(&(priority, held));
+        true
+    }
+
+    /// Lets the items go that aren't kept, with a look-up for each item. `keep` is pure.
+    pub fn retain<F: Fn(&I) -> bool>(&mut self, keep: F)
+        requires { F.IsAlwaysCallable keep }
+        ensures { (test : I → Bool) → AnswersBy F.Fn keep test
+            → self.new ≡ retained test self.old }
+    {
+        forget(&self.ordered, &mut self.priorities, &keep);
+        let priorities = &self.priorities;
+        self.ordered.retain(|pair| priorities.contains_key(&pair.1));
+    }
+}
+
+/// Takes the items that aren't kept out of the index.
+fn forget<I: Ord + Drop, R: Ord + Drop, F: Fn(&I) -> bool>(
+    ordered: &BTreeSet<(R, I)>,
+    priorities: &mut BTreeMap<I, R>,
+    keep: &F,
+)
+    requires callable { F.IsAlwaysCallable keep.now }
+    requires before { IsIndexed R.cmp I.cmp ordered.now.keys priorities.old.entries }
+    ensures after { (item : I) → priorities_of I.cmp (indexed I.cmp priorities.new.entries ordered.now.keys) item
+        ≡ listed (lookup (is_at (I.cmp item)) priorities.new.entries) }
+    ensures kept { (test : I → Bool) → AnswersBy F.Fn keep.now test
+        → indexed I.cmp priorities.new.entries ordered.now.keys ≡ retained test ordered.now.keys }
+{
+    for pair in ordered {
+        if !keeps(keep, &pair.1) {
+            priorities.remove(&pair.1);
+        }
+    }
+}
+
+/// What a test answers of an item.
+fn keeps<I, F: Fn(&I) -> bool>(keep: &F, item: &I) -> bool
+    requires { F.IsAlwaysCallable keep.now }
+    ensures { FnReturnsAt F.Fn keep.now item.now result }
+{
+    keep(item)
+}
+
+/// Gives an item that is there, and has the priority `held` so far, another one.
+fn move_item<I: Ord + Drop, R: Ord + Drop>(
+    ordered: &mut BTreeSet<(R, I)>,
+    held: &mut R,
+    pair: (R, I),
+    item: I,
+    priority: R,
+) -> Result<(), Fault>
+    requires same { pair ≡ (priority, item) }
+    requires sorted { IsStrictlySortedBy (pair_order R.cmp I.cmp) ordered.old.keys }
+    requires there { priorities_of I.cmp ordered.old.keys item ≡ held.old ∷ [] }
+    ensures ok { OnOk result (ordered.new.keys ≡ put R.cmp I.cmp ordered.old.keys (priority, item)) }
+    ensures moved { OnOk result (held.new ≡ priority) }
+    ensures err { OnErr result (ordered.new.keys ≡ ordered.old.keys) }
+    ensures stays { OnErr result (held.new ≡ held.old) }
+    ensures sorted { IsStrictlySortedBy (pair_order R.cmp I.cmp) ordered.new.keys }
+    ensures only { IfErr result (λ fault. fault ≡ OutOfMemory) }
+{
+    if priority.cmp(held) == Ordering::Equal {
+        ordered.replace(pair)?;
+        *held = priority;
+    } else {
+        ordered.insert(pair)?;
+        let left = mem::replace(held, priority);
+        ordered.remove(&(left, item));
+    }
+    Ok(())
+}
+
+#[cfg(test)]
+mod tests;

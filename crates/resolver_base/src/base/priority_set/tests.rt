@@ -1,0 +1,73 @@
+use super::*;
+use std::test::Fail;
+
+/// These items with their priorities, put one after another.
+fn set_of(rt: HostRuntime, entries: &[(u8, u16)]) -> Result<PrioritySet<u8, u16>, Fail> {
+    let mut set = PrioritySet::new(rt.alloc());
+    for entry in entries {
+        set.put(entry.0, entry.1)?;
+    }
+    Ok(set)
+}
+
+/// What a set gives, least first, up to nine items.
+fn drained(rt: HostRuntime, mut set: PrioritySet<u8, u16>) -> Result<Vec<(u8, u16)>, Fail> {
+    let mut given = Vec::new(rt.alloc());
+    for _ in 0..9 {
+        if let Some(entry) = set.pop() {
+            given.push(entry)?;
+        }
+    }
+    Ok(given)
+}
+
+#[test]
+fn gives_by_priority_and_then_by_item(rt: HostRuntime) -> Result<(), Fail> {
+    let set = set_of(rt, &[(3, 20), (1, 20), (2, 30), (4, 10)])?;
+    assert_eq!(rt; set.peek(), Some((&4, &10)));
+    let given = drained(rt, set)?;
+    assert_eq!(rt;
+        given.as_slice(),
+        [(4, 10), (1, 20), (3, 20), (2, 30)].as_slice()
+    );
+    Ok(())
+}
+
+#[test]
+fn replaces_a_priority(rt: HostRuntime) -> Result<(), Fail> {
+    let set = set_of(rt, &[(1, 10), (2, 20), (1, 30), (2, 20), (3, 5), (3, 25)])?;
+    assert_eq!(rt; set.len(), 3);
+    let mut listed = Vec::new(rt.alloc());
+    for pair in set.iter() {
+        listed.push(*pair)?;
+    }
+    assert_eq!(rt; listed.as_slice(), [(20, 2), (25, 3), (30, 1)].as_slice());
+    Ok(())
+}
+
+#[test]
+fn takes_items_out(rt: HostRuntime) -> Result<(), Fail> {
+    let mut set = set_of(rt, &[(1, 10), (2, 20), (3, 30)])?;
+    assert!(rt; set.remove(&2));
+    assert!(rt; !set.remove(&2));
+    assert!(rt; !set.contains(&2));
+    assert!(rt; set.contains(&3));
+    let given = drained(rt, set)?;
+    assert_eq!(rt; given.as_slice(), [(1, 10), (3, 30)].as_slice());
+    let mut empty = set_of(rt, &[])?;
+    assert!(rt; empty.is_empty());
+    assert!(rt; empty.peek().is_none());
+    assert!(rt; empty.pop().is_none());
+    Ok(())
+}
+
+#[test]
+fn keeps_what_passes(rt: HostRuntime) -> Result<(), Fail> {
+    let mut set = set_of(rt, &[(1, 40), (2, 30), (3, 20), (4, 10)])?;
+    set.retain(|item| item % 2 == 0);
+    assert!(rt; !set.contains(&3));
+    set.put(3, 35)?;
+    let given = drained(rt, set)?;
+    assert_eq!(rt; given.as_slice(), [(4, 10), (2, 30), (3, 35)].as_slice());
+    Ok(())
+}
