@@ -45,6 +45,7 @@ module _ {K V S : Type 0} (n : Names K S) (keys : IsEquivalence (same_key n)) (o
   event-lawful (events.Fetch items) = items-lawful items.items
   event-lawful (events.Fetched attempt value) = tt
   event-lawful (events.Verdict number outcome) = tt
+  event-lawful events.End = tt
 
   -- what the code takes is lawful by its types
   pub inputs-lawful : (inputs : List (CodeInput K V S)) → AllLawful (map input_of inputs)

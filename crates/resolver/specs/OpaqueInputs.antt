@@ -5,7 +5,7 @@ use Rattle.resolver.specs.declared.opaque.actor.Event.{Event as CodeEvent}
 use Rattle.resolver.specs.declared.opaque.actor.Event.TheVariants as events
 use Rattle.resolver.specs.declared.opaque.actor.Input.{Input as CodeInput}
 use Rattle.resolver.specs.OpaqueSteps.{Input}
-use Rattle.resolver.specs.Opaque.{Event, Item, Fetch, Fetched, Verdict}
+use Rattle.resolver.specs.Opaque.{Event, Item, Fetch, Fetched, Verdict, End}
 
 module _ {K S : Type 0} where
   abbrev pub item_of : FetchKey K S (Unit {0}) → Item K S
@@ -16,6 +16,7 @@ module _ {K V S : Type 0} where
   event_of (events.Fetch items) = Fetch (map item_of items.items)
   event_of (events.Fetched attempt value) = Fetched attempt value
   event_of (events.Verdict number outcome) = Verdict number outcome
+  event_of events.End = End
 
   abbrev pub input_of : CodeInput K V S → Input K V S
   input_of input = record { now = input.now; event = event_of input.event }

@@ -1,6 +1,8 @@
 //! The actor's machine: inputs, effects, and one step after another.
 
-ghost use Rattle.std.specs.Prelude.{◌≡◌, ◌<◌, ◌^◌};
+ghost use Rattle.std.specs.Prelude.{◌≡◌, ◌<◌, ◌^◌, ◌++◌, OnOk, map};
+ghost use Rattle.resolver.specs.Opaque.{called_off, all_called_off};
+ghost use Rattle.resolver.specs.OpaqueActor.{phase_of, entry_of};
 ghost use Rattle.resolver.specs.Steps.{stops};
 
 use super::attached::{sorted, without};
@@ -9,7 +11,7 @@ use crate::ruling::{Ruling, rule_on};
 use resolver_base::base::{Fault, NonEmptyVec, Numbers};
 use resolver_base::root::{Delivery, Outcome};
 use resolver_demand::ingress::FetchKey;
-use std::alloc::Global;
+use std::alloc::{AllocError, Global};
 use std::collections::BTreeMap;
 use std::marker::Model;
 
@@ -29,6 +31,8 @@ pub enum Event<K, V, S> {
         number: u64,
         outcome: Option<Outcome>,
     },
+    /// No key is wanted any more, and none will be: every later input is refused.
+    End,
 }
 
 /// An event, and when it came, in nanoseconds: below 2^94.
@@ -72,6 +76,13 @@ struct Open<K, S> {
     delivery: Delivery<K, S>,
 }
 
+#[derive(Clone, Copy)]
+enum Status {
+    Running,
+    Ended,
+    Failed,
+}
+
 /// Fetches keys from one opaque source, each by one attempt at a time, until no subscriber wants
 /// it.
 ///
@@ -84,7 +95,7 @@ pub struct Actor<K: Ord, V, S> {
     attempts: Numbers,
     numbers: Numbers,
     delay: u128,
-    has_failed: bool,
+    status: Status,
     alloc: Global,
 }
 
@@ -102,12 +113,12 @@ impl<K: Ord, V, S> Model for Actor<K, V, S> {
 }
 
 impl<K: Ord + Clone, V: Clone, S: Ord + Clone> Actor<K, V, S> {
-    ghost use Rattle.std.specs.Prelude.{◌+◌, None, Some, Err, map, unwrap_or, IfSome, IfOk, IfErr, is_none, false};
+    ghost use Rattle.std.specs.Prelude.{◌+◌, None, Some, Err, unwrap_or, IfSome, IfOk, IfErr, is_none, false};
     ghost use Rattle.std.specs.Map.{lookup};
     ghost use Rattle.std.specs.Ordering.{nat_cmp};
     ghost use Rattle.std.specs.BTreeMap.{is_at};
     ghost use Rattle.resolver_base.specs.Names.{names};
-    ghost use Rattle.resolver.specs.Opaque.{opening, start_new, fetch_one, fetch, hand_out, fetched, verdict_at, verdict, does, retry, without_row, row_of, next_retry};
+    ghost use Rattle.resolver.specs.Opaque.{opening, start_new, fetch_one, fetch, hand_out, fetched, verdict_at, verdict, does, retry, without_row, row_of, next_retry, end};
     ghost use Rattle.resolver.specs.OpaqueSteps.{Goes, Takes, Runs, answer_of, takes_no_memory};
     ghost use Rattle.resolver.specs.OpaqueInputs.{item_of, event_of, input_of};
     ghost use Rattle.resolver.specs.OpaqueActor.{handed_of};
@@ -126,7 +137,7 @@ impl<K: Ord + Clone, V: Clone, S: Ord + Clone> Actor<K, V, S> {
             attempts: Numbers::new(),
             numbers: Numbers::new(),
             delay,
-            has_failed: false,
+            status: Status::Running,
             alloc,
         }
     }
@@ -134,7 +145,7 @@ impl<K: Ord + Clone, V: Clone, S: Ord + Clone> Actor<K, V, S> {
     /// Takes one input and answers with its effects, in order.
     ///
     /// `OutOfMemory` and `Exhausted` fail the actor for good: each later step answers `Failed` and
-    /// changes nothing. A verdict that is passed over takes no memory. Finding the row of an
+    /// changes nothing, as after `End` each answers `Ended`. A verdict that is passed over takes no memory. Finding the row of an
     /// attempt takes time linear in the demanded keys.
     pub fn step(&mut self, input: Input<K, V, S>) -> Result<Vec<Effect<K, V, S>>, Fault>
         requires keys_clone { (x y : K) → K.is_clone x y → y ≡ x }
@@ -142,14 +153,16 @@ impl<K: Ord + Clone, V: Clone, S: Ord + Clone> Actor<K, V, S> {
         requires subscribers_clone { (x y : S) → S.is_clone x y → y ≡ x }
         ensures { Takes (names K.cmp S.cmp) self.old (input_of input) (answer_of result) self.new }
     {
-        if self.has_failed {
-            return Err(Fault::Failed);
+        match self.status {
+            Status::Running => {}
+            Status::Ended => return Err(Fault::Ended),
+            Status::Failed => return Err(Fault::Failed),
         }
         let mut effects = Vec::new(self.alloc);
         match self.advance(input.now, input.event, &mut effects) {
             Ok(()) => Ok(effects),
             Err(fault) => {
-                self.has_failed = true;
+                self.status = Status::Failed;
                 Err(fault)
             }
         }
@@ -218,6 +231,7 @@ impl<K: Ord + Clone, V: Clone, S: Ord + Clone> Actor<K, V, S> {
             Event::Fetch(items) => self.fetch(items, effects),
             Event::Fetched { attempt, value } => self.fetched(now, attempt, value, effects),
             Event::Verdict { number, outcome } => self.verdict(now, number, outcome, effects),
+            Event::End => self.end(effects),
         }
     }
 
@@ -447,6 +461,16 @@ impl<K: Ord + Clone, V: Clone, S: Ord + Clone> Actor<K, V, S> {
         }
     }
 
+    fn end(&mut self, effects: &mut Vec<Effect<K, V, S>>) -> Result<(), Fault>
+        ensures { Goes (Some (end self.old)) effects.old.items effects.new.items self.new result }
+    {
+        call_off_all(&self.rows, effects)?;
+        self.rows.clear();
+        self.deliveries.clear();
+        self.status = Status::Ended;
+        Ok(())
+    }
+
     /// The key waits until the delay is over.
     fn wait(&mut self, now: u128, key: &K)
         requires moment { now < 2 ^ 94 }
@@ -460,6 +484,33 @@ impl<K: Ord + Clone, V: Clone, S: Ord + Clone> Actor<K, V, S> {
         ensures { self.new ≡ without_row (names K.cmp S.cmp) self.old key.now }
     {
         self.rows.remove(key);
+    }
+}
+
+/// Calls off what is being done for each key.
+fn call_off_all<K: Ord + Drop, V: Drop, S: Drop>(
+    rows: &BTreeMap<K, Entry<V, S>>,
+    effects: &mut Vec<Effect<K, V, S>>,
+) -> Result<(), AllocError>
+    ensures { OnOk result (effects.new.items ≡ effects.old.items ++ all_called_off (map entry_of rows.now.entries)) }
+{
+    for (_, row) in rows {
+        call_off(&row.stage, effects)?;
+    }
+    Ok(())
+}
+
+/// Calls off what is being done for a key.
+fn call_off<K: Drop, V: Drop, S: Drop>(
+    stage: &Stage<V>,
+    effects: &mut Vec<Effect<K, V, S>>,
+) -> Result<(), AllocError>
+    ensures { OnOk result (effects.new.items ≡ effects.old.items ++ called_off (phase_of stage.now)) }
+{
+    match stage {
+        Stage::Waiting { .. } => Ok(()),
+        Stage::Asked { attempt } => Ok(effects.push(Effect::Abort { attempt: *attempt })?),
+        Stage::Judged { number, .. } => Ok(effects.push(Effect::Cancel { number: *number })?),
     }
 }
 

@@ -103,3 +103,28 @@ fn a_run_waits_for_the_delay(rt: HostRuntime) -> Result<(), Fail> {
     assert_eq!(rt; rows[0].phase, Phase::Waiting { due: 105 });
     Ok(())
 }
+
+// The row ends: what was asked and what was judged are called off by key, and a later step is
+// refused.
+#[test]
+fn ends(rt: HostRuntime) -> Result<(), Fail> {
+    let alloc = rt.alloc();
+    let mut actor: Actor<u8, u32, u16> = Actor::new(alloc, 100);
+    let _ = actor.step(at(0, fetch(alloc, 2, 20, 0)?))?;
+    let _ = actor.step(at(0, fetch(alloc, 1, 10, 0)?))?;
+    let value = Event::Fetched {
+        attempt: 0,
+        value: Some(0x6869),
+    };
+    let _ = actor.step(at(0, value))?;
+    let effects = actor.step(at(0, Event::End))?;
+    let is_called_off = matches!(
+        effects.as_slice(),
+        [Effect::Abort { attempt: 1 }, Effect::Cancel { number: 0 }]
+    );
+    assert!(rt; is_called_off);
+    assert_eq!(rt; actor.rows()?.len(), 0);
+    let refused = actor.step(at(0, fetch(alloc, 3, 30, 0)?)).err();
+    assert_eq!(rt; refused, Some(Fault::Ended));
+    Ok(())
+}
