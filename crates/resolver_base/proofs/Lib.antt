@@ -1,2 +1,3 @@
 pub mod MappedInPart
 pub mod Lexicographic
+pub mod KeepsAny
