@@ -29,7 +29,7 @@ status_of statuses.Running = Running
 status_of statuses.Ended = Ended
 status_of statuses.Failed = Failed
 
-abbrev pub machine_of : {K V S : Type 0} → Inside K V S → Machine K V S
+abbrev pub machine_of : {K V S Q : Type 0} → Inside K V S Q → Machine K V S
 machine_of a = record {
   rows = map entry_of a.rows.entries;
   deliveries = map (λ e. (e.0, handed_of e.1)) a.deliveries.entries;
