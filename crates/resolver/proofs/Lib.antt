@@ -11,3 +11,4 @@ pub mod Marks
 pub mod Pairs
 pub mod Bridge
 pub mod OpaqueKept
+pub mod Kept

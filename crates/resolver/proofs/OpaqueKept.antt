@@ -1,5 +1,5 @@
 -- In each run of the opaque machine that did not fail, the rows have the demand of the run.
-use Rattle.std.proofs.Common.{sym, subst, ℕ, ◌<◌, length, List, [], ◌∷◌, map, Result, Ok, Err}
+use Rattle.std.proofs.Common.{sym, subst, ℕ, ◌<◌, Bool, length, List, [], ◌∷◌, map, Result, Ok, Err}
 use Rattle.std.specs.Cmp.{IsEquivalence, IsTotalOrder}
 use Rattle.resolver_base.specs.Names.{Names, same_key, same_subscriber}
 use Rattle.resolver_base.specs.Demand.{all_pairs_of, IsSameDemand}
@@ -15,6 +15,7 @@ use Rattle.resolver.specs.Opaque.{Machine}
 use Rattle.resolver.specs.OpaqueSteps.{Input, Runs}
 use Rattle.resolver.specs.OpaqueLaws.{change_of, taken, KeepsDemand}
 use Rattle.resolver.proofs.Deliveries.{Each}
+use Rattle.resolver.proofs.Pairs.{AnswersAlike}
 use Rattle.resolver.proofs.OpaqueDemand.{table_is_kept}
 use Rattle.resolver.proofs.Bridge.{IsLawful, demand_is_told}
 
@@ -41,12 +42,15 @@ module _ {K V S : Type 0} (n : Names K S) (keys : IsEquivalence (same_key n)) (o
       (sym (table_is_kept n keys delay inputs answers new (subst (λ m. Runs n m inputs answers new) opens runs) sound))
       (demand_is_told n keys order subscribers (taken inputs answers) (taken-lawful inputs answers lawful))
 
-  event-lawful : (event : CodeEvent K V S) → IsLawful n keys order subscribers (change_of (event_of event))
-  event-lawful (events.Fetch items) = items-lawful items.items
-  event-lawful (events.Fetched attempt value) = tt
-  event-lawful (events.Verdict number outcome) = tt
+  module _ {Q : Type 0} (keeps : Q → K → S → Bool) (alike : (q : Q) → AnswersAlike n (keeps q)) where
+    event-lawful : (event : CodeEvent K V S Q) → IsLawful n keys order subscribers (change_of (event_of keeps event))
+    event-lawful (events.Fetch items) = items-lawful items.items
+    event-lawful (events.Retain keep) = alike keep
+    event-lawful (events.Fetched attempt value) = tt
+    event-lawful (events.Verdict number outcome) = tt
+    event-lawful events.End = tt
 
-  -- what the code takes is lawful by its types
-  pub inputs-lawful : (inputs : List (CodeInput K V S)) → AllLawful (map input_of inputs)
-  inputs-lawful [] = tt
-  inputs-lawful (input ∷ inputs) = (event-lawful input.event, inputs-lawful inputs)
+    -- what the code takes is lawful by its types
+    pub inputs-lawful : (inputs : List (CodeInput K V S Q)) → AllLawful (map (input_of keeps) inputs)
+    inputs-lawful [] = tt
+    inputs-lawful (input ∷ inputs) = (event-lawful input.event, inputs-lawful inputs)

@@ -103,12 +103,16 @@ module _ {K V S : Type 0} where
   abbrev pub has_subscribers : K × Row V S → Bool
   has_subscribers r = nat_lt 0 (length r.1.subscribers)
 
+  -- the rows that a subscriber is kept of
+  abbrev pub kept : (K → S → Bool) → List (K × Row V S) → List (K × Row V S)
+  kept keep rows = filter has_subscribers (map (pruned keep) rows)
+
+  -- the rows that no subscriber is kept of
+  abbrev pub unkept : (K → S → Bool) → List (K × Row V S) → List (K × Row V S)
+  unkept keep rows = filter (λ r. not (has_subscribers r)) (map (pruned keep) rows)
+
   abbrev pub retain : Machine K V S → (K → S → Bool) → Done K V S
-  retain m keep =
-      let rows = map (pruned keep) m.rows in record {
-        machine = record m { rows = filter has_subscribers rows };
-        effects = all_called_off (filter (λ r. not (has_subscribers r)) rows);
-      }
+  retain m keep = record { machine = record m { rows = kept keep m.rows }; effects = all_called_off (unkept keep m.rows) }
 
   abbrev pub closed : Machine K V S → ℕ → Machine K V S
   closed m number = record m { deliveries = remove_entry (is_at (nat_cmp number)) m.deliveries }

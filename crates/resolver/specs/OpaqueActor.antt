@@ -1,12 +1,14 @@
 -- What an actor is as a machine.
-use Rattle.std.specs.Prelude.{map, if◌then◌else◌}
+use Rattle.std.specs.Prelude.{map}
 use Rattle.resolver.specs.declared.opaque.rows.Stage.{Stage}
 use Rattle.resolver.specs.declared.opaque.rows.Stage.TheVariants as stages
 use Rattle.resolver.specs.declared.opaque.rows.Entry.{Entry}
 use Rattle.resolver.specs.declared.opaque.actor.Open.{Open}
+use Rattle.resolver.specs.declared.opaque.actor.Status.{Status as CodeStatus}
+use Rattle.resolver.specs.declared.opaque.actor.Status.TheVariants as statuses
 use Rattle.resolver.specs.declared.opaque.actor.Actor.TheInside.{Inside}
 use Rattle.resolver.specs.Account.{Handed}
-use Rattle.resolver.specs.Opaque.{Machine, Row, Phase, Waiting, Asked, Judged, Running, Failed}
+use Rattle.resolver.specs.Opaque.{Machine, Row, Phase, Waiting, Asked, Judged, Status, Running, Ended, Failed}
 
 abbrev pub phase_of : {V : Type 0} → Stage V → Phase V
 phase_of (stages.Waiting due) = Waiting due
@@ -22,12 +24,17 @@ entry_of e = (e.0, row_of e.1)
 abbrev pub handed_of : {K S : Type 0} → Open K S → Handed K S
 handed_of h = record { response = h.response; key = h.delivery.key; subscribers = h.delivery.subscribers }
 
-abbrev pub machine_of : {K V S : Type 0} → Inside K V S → Machine K V S
+abbrev pub status_of : CodeStatus → Status
+status_of statuses.Running = Running
+status_of statuses.Ended = Ended
+status_of statuses.Failed = Failed
+
+abbrev pub machine_of : {K V S Q : Type 0} → Inside K V S Q → Machine K V S
 machine_of a = record {
   rows = map entry_of a.rows.entries;
   deliveries = map (λ e. (e.0, handed_of e.1)) a.deliveries.entries;
   next_attempt = a.attempts;
   next_number = a.numbers;
   delay = a.delay;
-  status = (if a.has_failed then Failed else Running);
+  status = status_of a.status;
 }

@@ -1,5 +1,5 @@
 -- Worked runs of the opaque machine, with keys, subscribers and values that are numbers or lists of numbers.
-use Rattle.std.specs.Prelude.{◌≡◌, ℕ, Bool, not, ◌==◌, List, [], ◌∷◌, Option, None, Some, Result, Ok, Err}
+use Rattle.std.specs.Prelude.{◌≡◌, ℕ, not, ◌==◌, List, [], ◌∷◌, Option, None, Some, Result, Ok, Err}
 use Rattle.std.specs.Ordering.{nat_cmp}
 use Rattle.resolver_base.specs.declared.base.fault.Fault.{Fault}
 use Rattle.resolver_base.specs.declared.base.fault.Fault.TheVariants as faults
@@ -11,7 +11,7 @@ use Rattle.resolver_base.specs.Demand.{Pair}
 use Rattle.resolver.specs.declared.opaque.actor.Effect.{Effect}
 use Rattle.resolver.specs.declared.opaque.actor.Effect.TheVariants.{Start, Abort, Deliver, Cancel}
 use Rattle.resolver.specs.Account.{pairs, nothing_asked, account_of}
-use Rattle.resolver.specs.Opaque.{Machine, Row, Event, Fetch, Retain, Fetched, Verdict, RetriesDue, End, Asked, Judged, Waiting, opening, step, next_retry}
+use Rattle.resolver.specs.Opaque.{Machine, Row, Event, Fetch, Retain, Fetched, Verdict, RetriesDue, End, Asked, Waiting, opening, step, next_retry}
 use Rattle.resolver.specs.OpaqueSteps.{Input}
 use Rattle.resolver.specs.OpaqueLaws.{taken}
 

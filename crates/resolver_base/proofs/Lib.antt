@@ -3,3 +3,4 @@ pub mod Lexicographic
 pub mod Ordered
 pub mod Priorities
 pub mod Forgotten
+pub mod KeepsAny

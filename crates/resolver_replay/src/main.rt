@@ -5,6 +5,7 @@
 //! can't be read, and with 1 after a fault, which standard error names.
 #![tactic(auto)]
 
+mod kept;
 mod print;
 mod replay;
 mod script;

@@ -3,6 +3,7 @@
 ghost use Rattle.std.specs.Prelude.{◌≡◌};
 ghost use Rattle.resolver_replay.specs.declared.replay.Fault.TheVariants.{Memory};
 
+use crate::kept::Kept;
 use crate::print;
 use crate::script::{Command, Moment, Unread, is_skipped, parse};
 use bytes::Bytes;
@@ -72,7 +73,7 @@ fn written(done: io::Result<()>) -> Result<(), Fault> {
 /// The machine that a script feeds, and the moment of its next input.
 #[derive(Drop)]
 struct Session {
-    actor: Actor<Key, Bytes, u16>,
+    actor: Actor<Key, Bytes, u16, Kept>,
     now: Moment,
     alloc: Global,
 }
@@ -169,12 +170,19 @@ impl Session {
             Command::Verdict { number, outcome } => {
                 self.step(Event::Verdict { number, outcome }, output)?
             }
+            Command::Retain(kept) => self.step(Event::Retain(kept), output)?,
+            Command::Stop => self.step(Event::End, output)?,
             Command::Show => self.show(output)?,
         }
         Ok(true)
     }
 
-    fn fetch(&self, key: u8, subscriber: u16, mark: u64) -> Result<Event<Key, Bytes, u16>, Fault> {
+    fn fetch(
+        &self,
+        key: u8,
+        subscriber: u16,
+        mark: u64,
+    ) -> Result<Event<Key, Bytes, u16, Kept>, Fault> {
         let item = FetchKey {
             key: Key(key),
             subscribers: NonEmptyVec::new(self.alloc, (subscriber, mark))?,
@@ -188,7 +196,7 @@ impl Session {
     /// Feeds an input, and prints its effects or its refusal.
     fn step<W: Write>(
         &mut self,
-        event: Event<Key, Bytes, u16>,
+        event: Event<Key, Bytes, u16, Kept>,
         output: &mut W,
     ) -> Result<(), Fault> {
         let now = self.now.nanoseconds;

@@ -3,6 +3,7 @@
 ghost use Rattle.std.specs.Prelude.{◌≡◌, ◌≤◌, ◌<◌, ◌^◌, IfOk};
 ghost use Rattle.resolver_replay.specs.declared.script.Unread.TheVariants.{OutOfMemory};
 
+use crate::kept::Kept;
 use bytes::Bytes;
 use resolver::{Outcome, Resolution};
 use std::alloc::{AllocError, AllocFailed, Global};
@@ -41,6 +42,10 @@ pub enum Command {
         number: u64,
         outcome: Option<Outcome>,
     },
+    /// `keep-sub S` and `drop-key K`: subscribers want their keys no more.
+    Retain(Kept),
+    /// `stop`: nothing is wanted any more.
+    Stop,
     /// `show`: prints the rows and the wake-up.
     Show,
 }
@@ -86,6 +91,9 @@ pub fn parse(alloc: Global, line: &[u8]) -> Result<Command, Unread> {
         Some("fetch") => fetch(&mut fields)?,
         Some("fetched") => fetched(alloc, &mut fields)?,
         Some("verdict") => verdict(&mut fields)?,
+        Some("keep-sub") => Command::Retain(Kept::Subscriber(subscriber(fields.next())?)),
+        Some("drop-key") => Command::Retain(Kept::AllBut(key(fields.next())?)),
+        Some("stop") => Command::Stop,
         Some("show") => Command::Show,
         _ => return Err(Unread::Unreadable),
     };
@@ -96,8 +104,8 @@ pub fn parse(alloc: Global, line: &[u8]) -> Result<Command, Unread> {
 }
 
 fn fetch(fields: &mut Split<'_, char>) -> Result<Command, Unread> {
-    let key = number(fields.next(), u128::from(u8::MAX))? as u8;
-    let subscriber = number(fields.next(), u128::from(u16::MAX))? as u16;
+    let key = key(fields.next())?;
+    let subscriber = subscriber(fields.next())?;
     let mark = number(fields.next(), u128::from(u64::MAX))? as u64;
     Ok(Command::Fetch {
         key,
@@ -127,6 +135,14 @@ fn verdict(fields: &mut Split<'_, char>) -> Result<Command, Unread> {
         _ => return Err(Unread::Unreadable),
     };
     Ok(Command::Verdict { number, outcome })
+}
+
+fn key(field: Option<&str>) -> Result<u8, Unread> {
+    Ok(number(field, u128::from(u8::MAX))? as u8)
+}
+
+fn subscriber(field: Option<&str>) -> Result<u16, Unread> {
+    Ok(number(field, u128::from(u16::MAX))? as u16)
 }
 
 /// A decimal number up to `most`, without sign or leading zeros.

@@ -1,23 +1,30 @@
 //! The actor's machine: inputs, effects, and one step after another.
 
-ghost use Rattle.std.specs.Prelude.{◌≡◌, ◌<◌, ◌^◌};
+ghost use Rattle.std.specs.Prelude.{◌≡◌, ◌<◌, ◌^◌, ◌++◌, OnOk, map};
+ghost use Rattle.resolver.specs.Opaque.{called_off, all_called_off, unkept};
+ghost use Rattle.resolver.specs.OpaqueActor.{phase_of, entry_of};
 ghost use Rattle.resolver.specs.Steps.{stops};
 
 use super::attached::{sorted, without};
-use super::rows::{Entry, Row, Stage, asked_by, attach_to, first_due, listed, set_row, set_stage};
+use super::rows::{
+    Entry, Row, Stage, asked_by, attach_to, first_due, listed, prune, set_row, set_stage,
+};
 use crate::ruling::{Ruling, rule_on};
-use resolver_base::base::{Fault, NonEmptyVec, Numbers};
+use resolver_base::base::{Fault, NonEmptyVec, Numbers, Predicate};
 use resolver_base::root::{Delivery, Outcome};
 use resolver_demand::ingress::FetchKey;
-use std::alloc::Global;
+use std::alloc::{AllocError, Global};
 use std::collections::BTreeMap;
-use std::marker::Model;
+use std::marker::{Model, PhantomData};
 
 /// What the actor takes.
 #[derive(Debug, Drop)]
-pub enum Event<K, V, S> {
+pub enum Event<K, V, S, Q> {
     /// Subscribers want keys. A new key is asked for, and a demanded one takes the subscribers.
     Fetch(Vec<FetchKey<K, S, ()>>),
+    /// Subscribers that the predicate doesn't keep want their keys no more. A key without a
+    /// subscriber is called off.
+    Retain(Q),
     /// The source's answer to an attempt: a value, or none. An old attempt's is passed over.
     Fetched {
         attempt: u64,
@@ -29,13 +36,15 @@ pub enum Event<K, V, S> {
         number: u64,
         outcome: Option<Outcome>,
     },
+    /// No key is wanted any more, and none will be: every later input is refused.
+    End,
 }
 
 /// An event, and when it came, in nanoseconds: below 2^94.
 #[derive(Debug, Drop)]
-pub struct Input<K, V, S> {
+pub struct Input<K, V, S, Q> {
     pub now: u128,
-    pub event: Event<K, V, S>,
+    pub event: Event<K, V, S, Q>,
     ghost in_range: { now < 2 ^ 94 },
 }
 
@@ -72,23 +81,31 @@ struct Open<K, S> {
     delivery: Delivery<K, S>,
 }
 
+#[derive(Clone, Copy)]
+enum Status {
+    Running,
+    Ended,
+    Failed,
+}
+
 /// Fetches keys from one opaque source, each by one attempt at a time, until no subscriber wants
 /// it.
 ///
 /// Contracts see it as the opaque machine: one map from key to row, beside the open deliveries and
 /// the next numbers.
 #[derive(Drop)]
-pub struct Actor<K: Ord, V, S> {
+pub struct Actor<K: Ord, V, S, Q> {
     rows: BTreeMap<K, Entry<V, S>>,
     deliveries: BTreeMap<u64, Open<K, S>>,
     attempts: Numbers,
     numbers: Numbers,
     delay: u128,
-    has_failed: bool,
+    status: Status,
     alloc: Global,
+    predicate: PhantomData<Q>,
 }
 
-impl<K: Ord, V, S> Model for Actor<K, V, S> {
+impl<K: Ord, V, S, Q> Model for Actor<K, V, S, Q> {
     ghost use Rattle.std.specs.Prelude.{◌<◌, ◌^◌};
     ghost use Rattle.resolver.specs.Opaque.{Machine};
 
@@ -101,13 +118,13 @@ impl<K: Ord, V, S> Model for Actor<K, V, S> {
     ghost invariant = { λ a. a.delay < 2 ^ 94 };
 }
 
-impl<K: Ord + Clone, V: Clone, S: Ord + Clone> Actor<K, V, S> {
-    ghost use Rattle.std.specs.Prelude.{◌+◌, None, Some, Err, map, unwrap_or, IfSome, IfOk, IfErr, is_none, false};
+impl<K: Ord + Clone, V: Clone, S: Ord + Clone, Q: Predicate<K, S> + Drop> Actor<K, V, S, Q> {
+    ghost use Rattle.std.specs.Prelude.{◌+◌, None, Some, Err, unwrap_or, IfSome, IfOk, IfErr, is_none, false};
     ghost use Rattle.std.specs.Map.{lookup};
     ghost use Rattle.std.specs.Ordering.{nat_cmp};
     ghost use Rattle.std.specs.BTreeMap.{is_at};
     ghost use Rattle.resolver_base.specs.Names.{names};
-    ghost use Rattle.resolver.specs.Opaque.{opening, start_new, fetch_one, fetch, hand_out, fetched, verdict_at, verdict, does, retry, without_row, row_of, next_retry};
+    ghost use Rattle.resolver.specs.Opaque.{opening, start_new, fetch_one, fetch, hand_out, fetched, verdict_at, verdict, does, retry, without_row, row_of, next_retry, end, retain};
     ghost use Rattle.resolver.specs.OpaqueSteps.{Goes, Takes, Runs, answer_of, takes_no_memory};
     ghost use Rattle.resolver.specs.OpaqueInputs.{item_of, event_of, input_of};
     ghost use Rattle.resolver.specs.OpaqueActor.{handed_of};
@@ -126,30 +143,33 @@ impl<K: Ord + Clone, V: Clone, S: Ord + Clone> Actor<K, V, S> {
             attempts: Numbers::new(),
             numbers: Numbers::new(),
             delay,
-            has_failed: false,
+            status: Status::Running,
             alloc,
+            predicate: PhantomData,
         }
     }
 
     /// Takes one input and answers with its effects, in order.
     ///
     /// `OutOfMemory` and `Exhausted` fail the actor for good: each later step answers `Failed` and
-    /// changes nothing. A verdict that is passed over takes no memory. Finding the row of an
+    /// changes nothing, as after `End` each answers `Ended`. A verdict that is passed over takes no memory. Finding the row of an
     /// attempt takes time linear in the demanded keys.
-    pub fn step(&mut self, input: Input<K, V, S>) -> Result<Vec<Effect<K, V, S>>, Fault>
+    pub fn step(&mut self, input: Input<K, V, S, Q>) -> Result<Vec<Effect<K, V, S>>, Fault>
         requires keys_clone { (x y : K) → K.is_clone x y → y ≡ x }
         requires values_clone { (x y : V) → V.is_clone x y → y ≡ x }
         requires subscribers_clone { (x y : S) → S.is_clone x y → y ≡ x }
-        ensures { Takes (names K.cmp S.cmp) self.old (input_of input) (answer_of result) self.new }
+        ensures { Takes (names K.cmp S.cmp) self.old (input_of Q.keeps input) (answer_of result) self.new }
     {
-        if self.has_failed {
-            return Err(Fault::Failed);
+        match self.status {
+            Status::Running => {}
+            Status::Ended => return Err(Fault::Ended),
+            Status::Failed => return Err(Fault::Failed),
         }
         let mut effects = Vec::new(self.alloc);
         match self.advance(input.now, input.event, &mut effects) {
             Ok(()) => Ok(effects),
             Err(fault) => {
-                self.has_failed = true;
+                self.status = Status::Failed;
                 Err(fault)
             }
         }
@@ -162,13 +182,13 @@ impl<K: Ord + Clone, V: Clone, S: Ord + Clone> Actor<K, V, S> {
     /// input was taken and nothing has changed.
     pub fn run(
         &mut self,
-        inputs: Vec<Input<K, V, S>>,
+        inputs: Vec<Input<K, V, S, Q>>,
     ) -> Result<Vec<Result<Vec<Effect<K, V, S>>, Fault>>, Fault>
         requires keys_clone { (x y : K) → K.is_clone x y → y ≡ x }
         requires values_clone { (x y : V) → V.is_clone x y → y ≡ x }
         requires subscribers_clone { (x y : S) → S.is_clone x y → y ≡ x }
-        ensures runs { IfOk result (λ answers. Runs (names K.cmp S.cmp) self.old (map input_of inputs.items) (map answer_of answers.items) self.new) }
-        ensures demand { IfOk result (λ answers. KeepsDemand (names K.cmp S.cmp) self.old (map input_of inputs.items) (map answer_of answers.items) self.new) }
+        ensures runs { IfOk result (λ answers. Runs (names K.cmp S.cmp) self.old (map (input_of Q.keeps) inputs.items) (map answer_of answers.items) self.new) }
+        ensures demand { IfOk result (λ answers. KeepsDemand (names K.cmp S.cmp) self.old (map (input_of Q.keeps) inputs.items) (map answer_of answers.items) self.new) }
         ensures err { IfErr result (λ fault. (fault ≡ Fault.OutOfMemory) × (self.new ≡ self.old)) }
     {
         let mut answers = Vec::with_capacity(self.alloc, inputs.len())?;
@@ -204,20 +224,22 @@ impl<K: Ord + Clone, V: Clone, S: Ord + Clone> Actor<K, V, S> {
     fn advance(
         &mut self,
         now: u128,
-        event: Event<K, V, S>,
+        event: Event<K, V, S, Q>,
         effects: &mut Vec<Effect<K, V, S>>,
     ) -> Result<(), Fault>
         requires keys_clone { (x y : K) → K.is_clone x y → y ≡ x }
         requires values_clone { (x y : V) → V.is_clone x y → y ≡ x }
         requires subscribers_clone { (x y : S) → S.is_clone x y → y ≡ x }
         requires moment { now < 2 ^ 94 }
-        ensures goes { Goes (does (names K.cmp S.cmp) self.old now (event_of event)) effects.old.items effects.new.items self.new result }
-        ensures memory { result ≡ Err Fault.OutOfMemory → takes_no_memory self.old now (event_of event) ≡ false }
+        ensures goes { Goes (does (names K.cmp S.cmp) self.old now (event_of Q.keeps event)) effects.old.items effects.new.items self.new result }
+        ensures memory { result ≡ Err Fault.OutOfMemory → takes_no_memory self.old now (event_of Q.keeps event) ≡ false }
     {
         match event {
             Event::Fetch(items) => self.fetch(items, effects),
+            Event::Retain(keep) => self.retain(&keep, effects),
             Event::Fetched { attempt, value } => self.fetched(now, attempt, value, effects),
             Event::Verdict { number, outcome } => self.verdict(now, number, outcome, effects),
+            Event::End => self.end(effects),
         }
     }
 
@@ -277,6 +299,14 @@ impl<K: Ord + Clone, V: Clone, S: Ord + Clone> Actor<K, V, S> {
                 stage: Stage::Asked { attempt },
             },
         )?;
+        Ok(())
+    }
+
+    fn retain(&mut self, keep: &Q, effects: &mut Vec<Effect<K, V, S>>) -> Result<(), Fault>
+        ensures { Goes (Some (retain self.old (Q.keeps keep.now))) effects.old.items effects.new.items self.new result }
+    {
+        call_off_unkept(&self.rows, keep, effects)?;
+        prune(&mut self.rows, keep);
         Ok(())
     }
 
@@ -447,6 +477,16 @@ impl<K: Ord + Clone, V: Clone, S: Ord + Clone> Actor<K, V, S> {
         }
     }
 
+    fn end(&mut self, effects: &mut Vec<Effect<K, V, S>>) -> Result<(), Fault>
+        ensures { Goes (Some (end self.old)) effects.old.items effects.new.items self.new result }
+    {
+        call_off_all(&self.rows, effects)?;
+        self.rows.clear();
+        self.deliveries.clear();
+        self.status = Status::Ended;
+        Ok(())
+    }
+
     /// The key waits until the delay is over.
     fn wait(&mut self, now: u128, key: &K)
         requires moment { now < 2 ^ 94 }
@@ -460,6 +500,49 @@ impl<K: Ord + Clone, V: Clone, S: Ord + Clone> Actor<K, V, S> {
         ensures { self.new ≡ without_row (names K.cmp S.cmp) self.old key.now }
     {
         self.rows.remove(key);
+    }
+}
+
+/// Calls off what is being done for each key.
+fn call_off_all<K: Ord + Drop, V: Drop, S: Drop>(
+    rows: &BTreeMap<K, Entry<V, S>>,
+    effects: &mut Vec<Effect<K, V, S>>,
+) -> Result<(), AllocError>
+    ensures { OnOk result (effects.new.items ≡ effects.old.items ++ all_called_off (map entry_of rows.now.entries)) }
+{
+    for (_, row) in rows {
+        call_off(&row.stage, effects)?;
+    }
+    Ok(())
+}
+
+/// Calls off what is being done for each key that no subscriber is kept of.
+fn call_off_unkept<K: Ord + Drop, V: Drop, S: Ord + Drop, Q: Predicate<K, S>>(
+    rows: &BTreeMap<K, Entry<V, S>>,
+    keep: &Q,
+    effects: &mut Vec<Effect<K, V, S>>,
+) -> Result<(), AllocError>
+    ensures { OnOk result (effects.new.items ≡ effects.old.items ++ all_called_off (unkept (Q.keeps keep.now) (map entry_of rows.now.entries))) }
+{
+    for (key, row) in rows {
+        if !row.subscribers.keeps_any(key, keep) {
+            call_off(&row.stage, effects)?;
+        }
+    }
+    Ok(())
+}
+
+/// Calls off what is being done for a key.
+fn call_off<K: Drop, V: Drop, S: Drop>(
+    stage: &Stage<V>,
+    effects: &mut Vec<Effect<K, V, S>>,
+) -> Result<(), AllocError>
+    ensures { OnOk result (effects.new.items ≡ effects.old.items ++ called_off (phase_of stage.now)) }
+{
+    match stage {
+        Stage::Waiting { .. } => Ok(()),
+        Stage::Asked { attempt } => Ok(effects.push(Effect::Abort { attempt: *attempt })?),
+        Stage::Judged { number, .. } => Ok(effects.push(Effect::Cancel { number: *number })?),
     }
 }
 

@@ -1,16 +1,16 @@
 //! The demanded keys of the actor: who wants each, and what is being done for it.
 
-ghost use Rattle.std.specs.Prelude.{◌≡◌, IfSome, OnOk, IfOk, find, map};
+ghost use Rattle.std.specs.Prelude.{◌≡◌, IfSome, OnOk, IfOk, MatchBool, find, map};
 ghost use Rattle.std.specs.Option.{option_map};
 ghost use Rattle.std.specs.Map.{set_value};
 ghost use Rattle.std.specs.BTreeMap.{get, is_at};
-ghost use Rattle.resolver_base.specs.Subscribers.{attached_all};
-ghost use Rattle.resolver.specs.Opaque.{is_asked_by, next_retry};
+ghost use Rattle.resolver_base.specs.Subscribers.{all_kept, attached_all, keeps_any};
+ghost use Rattle.resolver.specs.Opaque.{is_asked_by, next_retry, kept};
 ghost use Rattle.resolver.specs.OpaqueActor.{phase_of, entry_of};
 ghost use Rattle.resolver.specs.OpaqueListed.{listed, listed_phase};
 
 use super::attached::attach_all;
-use resolver_base::base::NonEmptyVec;
+use resolver_base::base::{NonEmptyVec, Predicate};
 use std::alloc::{AllocError, Global};
 use std::collections::BTreeMap;
 
@@ -155,4 +155,27 @@ pub fn attach_to<K: Ord, V: Drop, S: Ord + Drop>(
         attach_all(&mut row.subscribers, more)?;
     }
     Ok(())
+}
+
+/// Removes the subscribers that aren't kept, and the keys that have none then.
+pub fn prune<K: Ord + Drop, V: Drop, S: Ord + Drop, Q: Predicate<K, S>>(
+    rows: &mut BTreeMap<K, Entry<V, S>>,
+    keep: &Q,
+)
+    ensures { map entry_of rows.new.entries ≡ kept (Q.keeps keep.now) (map entry_of rows.old.entries) }
+{
+    rows.retain(|key, row| prune_row(key, row, keep));
+}
+
+/// Removes the subscribers of a key that aren't kept, and answers whether one is. Where none is,
+/// all of them stay.
+fn prune_row<K: Ord, V, S: Ord + Drop, Q: Predicate<K, S>>(
+    key: &K,
+    row: &mut Entry<V, S>,
+    keep: &Q,
+) -> bool
+    ensures some { result ≡ keeps_any (Q.keeps keep.now key.now) row.old.subscribers }
+    ensures after { MatchBool result (row.new ≡ record row.old { subscribers = all_kept (Q.keeps keep.now key.now) row.old.subscribers }) (row.new ≡ row.old) }
+{
+    row.subscribers.retain_kept(key, keep)
 }

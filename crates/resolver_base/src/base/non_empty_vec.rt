@@ -1,11 +1,13 @@
 //! A list that is never empty.
 
-ghost use Rattle.std.specs.Prelude.{◌≡◌, ◌<◌, ◌≤◌, ◌-◌, insert, [], ◌∷◌, ◌++◌, length, IfOk, IfErr, OnOk, OnErr, slice_get, Some, IsOk};
+ghost use Rattle.std.specs.Prelude.{◌≡◌, ◌<◌, ◌≤◌, ◌-◌, insert, [], ◌∷◌, ◌++◌, length, IfOk, IfErr, OnOk, OnErr, slice_get, Some, IsOk, MatchBool};
 ghost use Rattle.std.specs.Iterator.Adapters.{IterYieldsInOrder};
 ghost use Rattle.std.specs.List.{list_any};
 ghost use Rattle.std.specs.Slice.Iter.{iter_rest};
 ghost use Rattle.resolver_base.specs.Mapped.{MapsInTurn};
+ghost use Rattle.resolver_base.specs.Subscribers.{keeps_any, all_kept};
 
+use crate::base::predicate::Predicate;
 use std::alloc::{AllocError, AllocFailed, Global};
 use std::marker::Model;
 use std::slice::Iter;
@@ -138,6 +140,28 @@ impl<T> NonEmptyVec<T> {
         ensures runs { IterYieldsInOrder T }
     {
         self.items.iter()
+    }
+}
+
+impl<S: Eq + Drop> NonEmptyVec<(S, u64)> {
+    /// Whether one of these subscribers of a key is kept.
+    pub fn keeps_any<K: Eq, Q: Predicate<K, S>>(&self, key: &K, keep: &Q) -> bool
+        ensures { result ≡ keeps_any (Q.keeps keep.now key.now) self.now }
+    {
+        self.as_slice().iter().any(|one| keep.keep(key, &one.0))
+    }
+
+    /// Removes the subscribers of a key that aren't kept, and answers whether one is. Where none
+    /// is, all of them stay.
+    pub fn retain_kept<K: Eq, Q: Predicate<K, S>>(&mut self, key: &K, keep: &Q) -> bool
+        ensures some { result ≡ keeps_any (Q.keeps keep.now key.now) self.old }
+        ensures after { MatchBool result (self.new ≡ all_kept (Q.keeps keep.now key.now) self.old) (self.new ≡ self.old) }
+    {
+        let is_left = self.keeps_any(key, keep);
+        if is_left {
+            self.items.retain(|one| keep.keep(key, &one.0));
+        }
+        is_left
     }
 }
 

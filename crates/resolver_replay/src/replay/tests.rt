@@ -13,7 +13,7 @@ fn replayed(alloc: Global, script: &[u8]) -> Result<(Vec<u8>, Result<Ending, Fau
 // Worked rows, and what they leave out.
 #[test]
 fn scripts(rt: HostRuntime) -> Result<(), Fail> {
-    let cases: [(&str, &[u8], &[u8]); 14] = [
+    let cases: [(&str, &[u8], &[u8]); 19] = [
         (
             "opaque_first_run",
             b"opaque 100\nfetch 1 10 7\nfetched 0 x6869\nverdict 0 complete\nshow\n",
@@ -70,6 +70,31 @@ fn scripts(rt: HostRuntime) -> Result<(), Fail> {
             b"start 0 1\nstart 1 2\ndeliver 0 1 1 xaa\ndeliver 1 2 2 xbb\nkey 2 subs 2:0 phase waiting 10\nwake 10\n",
         ),
         (
+            "dropped_then_fetched_again",
+            b"opaque 100\nfetch 1 10 7\nfetched 0 x6869\ndrop-key 1\nfetch 1 12 9\nverdict 0 complete\nshow\n",
+            b"start 0 1\ndeliver 0 1 10 x6869\ncancel 0\nstart 1 1\nkey 1 subs 12:9 phase asked 1\nwake none\n",
+        ),
+        (
+            "pruned_then_fetched_again",
+            b"opaque 100\nfetch 1 10 7\nfetch 1 11 8\nfetched 0 x6869\nkeep-sub 11\nfetch 1 10 9\nverdict 0 complete\nshow\n",
+            b"start 0 1\ndeliver 0 1 10,11 x6869\nwake none\n",
+        ),
+        (
+            "a retain that keeps no subscriber of a waiting, an asked and a judged key",
+            b"opaque 100\nfetch 3 1 0\nfetch 2 1 0\nfetch 1 1 0\nfetch 4 1 0\nfetch 4 2 5\nfetched 0 none\nfetched 1 x01\nkeep-sub 2\nshow\n",
+            b"start 0 3\nstart 1 2\nstart 2 1\nstart 3 4\ndeliver 0 2 1 x01\nabort 2\ncancel 0\nkey 4 subs 2:5 phase asked 3\nwake none\n",
+        ),
+        (
+            "a stop with a judged, an asked and a waiting key",
+            b"opaque 100\nfetch 2 20 0\nfetch 1 10 0\nfetch 3 30 0\nfetched 0 x6869\nfetched 2 none\nstop\nshow\n",
+            b"start 0 2\nstart 1 1\nstart 2 3\ndeliver 0 2 20 x6869\nabort 1\ncancel 0\nwake none\n",
+        ),
+        (
+            "lines after a stop, and a stop twice",
+            b"opaque 100\nstop\nat 5\nfetch 1 10 7\nfetched 0 x\nverdict 0 complete\nkeep-sub 1\ndrop-key 1\nstop\nshow\n",
+            b"refused 3 Ended\nrefused 3 Ended\nrefused 3 Ended\nrefused 3 Ended\nrefused 3 Ended\nrefused 3 Ended\nwake none\n",
+        ),
+        (
             "empty lines and comments, with any bytes",
             b"\n# first\n\nopaque 100\n#\xff\n\nshow\n#",
             b"wake none\n",
@@ -92,7 +117,7 @@ fn scripts(rt: HostRuntime) -> Result<(), Fail> {
 // The first line that can't be read ends the script, and is named.
 #[test]
 fn unreadable_lines(rt: HostRuntime) -> Result<(), Fail> {
-    let cases: [(&[u8], &[u8]); 39] = [
+    let cases: [(&[u8], &[u8]); 43] = [
         (b"show\n", b"line 1 unreadable\n"),
         (b"p2p 9 50 10\n", b"line 1 unreadable\n"),
         (b"\n# \nfetch 1 10 7\n", b"line 3 unreadable\n"),
@@ -143,7 +168,11 @@ fn unreadable_lines(rt: HostRuntime) -> Result<(), Fail> {
         (b"opaque 1\nverdict 0 Complete\n", b"line 2 unreadable\n"),
         (b"opaque 1\nverdict x complete\n", b"line 2 unreadable\n"),
         (b"opaque 1\nwake\n", b"line 2 unreadable\n"),
-        (b"opaque 1\nstop\n", b"line 2 unreadable\n"),
+        (b"opaque 1\nstop now\n", b"line 2 unreadable\n"),
+        (b"opaque 1\nkeep-sub\n", b"line 2 unreadable\n"),
+        (b"opaque 1\nkeep-sub 65536\n", b"line 2 unreadable\n"),
+        (b"opaque 1\ndrop-key 256\n", b"line 2 unreadable\n"),
+        (b"opaque 1\nnet 4 x00\n", b"line 2 unreadable\n"),
     ];
     for (script, printed) in cases {
         let (output, ended) = replayed(rt.alloc(), script)?;

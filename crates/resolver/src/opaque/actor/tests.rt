@@ -1,11 +1,33 @@
+ghost use Rattle.std.specs.Prelude.{not, ◌==◌};
+ghost use Rattle.std.proofs.Common.{rules};
+
 use super::*;
 use crate::opaque::Phase;
 use resolver_base::root::Resolution;
 use std::test::Fail;
 
+/// Keeps the subscribers of every key but one.
+#[derive(Drop)]
+struct AllBut(u8);
+
+impl Predicate<u8, u16> for AllBut {
+    ghost keeps = { λ q key _. not (key == q.0) };
+
+    fn keep(&self, key: &u8, _subscriber: &u16) -> bool {
+        *key != self.0
+    }
+
+    ghost alike = { λ q k l s t same_key same_subscriber. Prim.search rules };
+}
+
 type Effects = Vec<Effect<u8, u32, u16>>;
 
-fn fetch(alloc: Global, key: u8, subscriber: u16, mark: u64) -> Result<Event<u8, u32, u16>, Fault> {
+fn fetch(
+    alloc: Global,
+    key: u8,
+    subscriber: u16,
+    mark: u64,
+) -> Result<Event<u8, u32, u16, AllBut>, Fault> {
     let subscribers = NonEmptyVec::new(alloc, (subscriber, mark))?;
     let item = FetchKey {
         key,
@@ -17,7 +39,7 @@ fn fetch(alloc: Global, key: u8, subscriber: u16, mark: u64) -> Result<Event<u8,
     Ok(Event::Fetch(items))
 }
 
-fn at<V>(now: u64, event: Event<u8, V, u16>) -> Input<u8, V, u16> {
+fn at<V>(now: u64, event: Event<u8, V, u16, AllBut>) -> Input<u8, V, u16, AllBut> {
     Input {
         now: u128::from(now),
         event,
@@ -52,7 +74,7 @@ fn delivered(effects: &Effects) -> Option<(u64, u64, u8, (u16, u64), u32)> {
 #[test]
 fn opaque_first_run(rt: HostRuntime) -> Result<(), Fail> {
     let alloc = rt.alloc();
-    let mut actor: Actor<u8, u32, u16> = Actor::new(alloc, 100);
+    let mut actor: Actor<u8, u32, u16, AllBut> = Actor::new(alloc, 100);
     let effects = actor.step(at(0, fetch(alloc, 1, 10, 7)?))?;
     assert_eq!(rt; started(&effects), Some((0, 1)));
     let value = Event::Fetched {
@@ -81,7 +103,7 @@ fn opaque_first_run(rt: HostRuntime) -> Result<(), Fail> {
 #[test]
 fn a_run_waits_for_the_delay(rt: HostRuntime) -> Result<(), Fail> {
     let alloc = rt.alloc();
-    let mut actor: Actor<u8, u32, u16> = Actor::new(alloc, 100);
+    let mut actor: Actor<u8, u32, u16, AllBut> = Actor::new(alloc, 100);
     let mut inputs = Vec::new(alloc);
     inputs.push(at(0, fetch(alloc, 1, 10, 7)?))?;
     inputs.push(at(
@@ -101,5 +123,58 @@ fn a_run_waits_for_the_delay(rt: HostRuntime) -> Result<(), Fail> {
     let rows = actor.rows()?;
     assert_eq!(rt; rows.len(), 1);
     assert_eq!(rt; rows[0].phase, Phase::Waiting { due: 105 });
+    Ok(())
+}
+
+// The row ends: what was asked and what was judged are called off by key, and a later step is
+// refused.
+#[test]
+fn ends(rt: HostRuntime) -> Result<(), Fail> {
+    let alloc = rt.alloc();
+    let mut actor: Actor<u8, u32, u16, AllBut> = Actor::new(alloc, 100);
+    let _ = actor.step(at(0, fetch(alloc, 2, 20, 0)?))?;
+    let _ = actor.step(at(0, fetch(alloc, 1, 10, 0)?))?;
+    let value = Event::Fetched {
+        attempt: 0,
+        value: Some(0x6869),
+    };
+    let _ = actor.step(at(0, value))?;
+    let effects = actor.step(at(0, Event::End))?;
+    let is_called_off = matches!(
+        effects.as_slice(),
+        [Effect::Abort { attempt: 1 }, Effect::Cancel { number: 0 }]
+    );
+    assert!(rt; is_called_off);
+    assert_eq!(rt; actor.rows()?.len(), 0);
+    let refused = actor.step(at(0, fetch(alloc, 3, 30, 0)?)).err();
+    assert_eq!(rt; refused, Some(Fault::Ended));
+    Ok(())
+}
+
+// The row dropped_then_fetched_again: what was judged is called off, and its verdict is passed
+// over when the key is wanted again.
+#[test]
+fn dropped_then_fetched_again(rt: HostRuntime) -> Result<(), Fail> {
+    let alloc = rt.alloc();
+    let mut actor: Actor<u8, u32, u16, AllBut> = Actor::new(alloc, 100);
+    let _ = actor.step(at(0, fetch(alloc, 1, 10, 7)?))?;
+    let value = Event::Fetched {
+        attempt: 0,
+        value: Some(0x6869),
+    };
+    let _ = actor.step(at(0, value))?;
+    let effects = actor.step(at(0, Event::Retain(AllBut(1))))?;
+    assert!(rt; matches!(effects.as_slice(), [Effect::Cancel { number: 0 }]));
+    let effects = actor.step(at(0, fetch(alloc, 1, 12, 9)?))?;
+    assert_eq!(rt; started(&effects), Some((1, 1)));
+    let verdict = Event::Verdict {
+        number: 0,
+        outcome: Some(Outcome::Resolved(Resolution::Complete)),
+    };
+    assert_eq!(rt; actor.step(at(0, verdict))?.len(), 0);
+    let rows = actor.rows()?;
+    assert_eq!(rt; rows.len(), 1);
+    assert_eq!(rt; *rows[0].subscribers.first(), (12, 9));
+    assert_eq!(rt; rows[0].phase, Phase::Asked { attempt: 1 });
     Ok(())
 }

@@ -1,3 +1,6 @@
+ghost use Rattle.std.specs.Prelude.{nat_le};
+ghost use Rattle.std.proofs.Common.{rules};
+
 use super::*;
 use std::test::Fail;
 
@@ -39,5 +42,31 @@ fn gives_its_items(rt: HostRuntime) -> Result<(), Fail> {
     assert_eq!(rt; list.clone()?.as_slice(), [5, 6].as_slice());
     let halves = list.map_into(rt.alloc(), |item| u16::from(item) / 2)?;
     assert_eq!(rt; halves.as_slice(), [2, 3].as_slice());
+    Ok(())
+}
+
+/// Keeps the subscribers up to a bound.
+struct UpTo(u16);
+
+impl Predicate<u8, u16> for UpTo {
+    ghost keeps = { λ q _ subscriber. nat_le subscriber q.0 };
+
+    fn keep(&self, _key: &u8, subscriber: &u16) -> bool {
+        *subscriber <= self.0
+    }
+
+    ghost alike = { λ q k l s t same_key same_subscriber. Prim.search rules };
+}
+
+#[test]
+fn keeps_subscribers_or_all(rt: HostRuntime) -> Result<(), Fail> {
+    let mut list = NonEmptyVec::new(rt.alloc(), (10u16, 7))?;
+    list.push((11, 8))?;
+    assert!(rt; !list.keeps_any(&1, &UpTo(9)));
+    assert!(rt; !list.retain_kept(&1, &UpTo(9)));
+    assert_eq!(rt; list.len(), 2);
+    assert!(rt; list.keeps_any(&1, &UpTo(10)));
+    assert!(rt; list.retain_kept(&1, &UpTo(10)));
+    assert_eq!(rt; list.as_slice(), [(10, 7)].as_slice());
     Ok(())
 }

@@ -11,6 +11,6 @@ abbrev pub invariant-loop-input : goal.invariant-loop-input
 invariant-loop-input g l =
     let n = names g.K.Ord.cmp g.S.Ord.cmp in
     record {
-      rest : (more : _) (new : _) → Runs n l.self (map input_of (into_iter_items l.input-iterator)) more new → Runs n l.fn.self (map input_of l.fn.inputs.items) (map answer_of l.answers.items ++ more) new;
+      rest : (more : _) (new : _) → Runs n l.self (map (input_of g.Q.Predicate.keeps) (into_iter_items l.input-iterator)) more new → Runs n l.fn.self (map (input_of g.Q.Predicate.keeps) l.fn.inputs.items) (map answer_of l.answers.items ++ more) new;
       room : vec_len l.answers + length (into_iter_items l.input-iterator) ≤ vec_capacity l.answers;
     }

@@ -1,0 +1,29 @@
+//! Which subscribers a line of a script keeps.
+
+ghost use Rattle.std.proofs.Common.{rules};
+ghost use Rattle.resolver_replay.specs.Kept.{is_kept};
+
+use resolver::base::Predicate;
+use resolver::p2p::mocks::Key;
+
+/// What a line keeps.
+#[derive(Clone, Copy, Debug, PartialEq, Eq)]
+pub enum Kept {
+    /// This subscriber, of every key.
+    Subscriber(u16),
+    /// The subscribers of every key but this one.
+    AllBut(u8),
+}
+
+impl Predicate<Key, u16> for Kept {
+    ghost keeps = { is_kept };
+
+    fn keep(&self, key: &Key, subscriber: &u16) -> bool {
+        match self {
+            Kept::Subscriber(kept) => *subscriber == *kept,
+            Kept::AllBut(dropped) => key.0 != *dropped,
+        }
+    }
+
+    ghost alike = { λ q k l s t same_key same_subscriber. Prim.search rules };
+}
