@@ -1,5 +1,5 @@
 -- The pairs of a set that is ordered by priority, and the map that has each item with its priority.
-use Rattle.std.proofs.Common.{◌≡◌, refl, ap, sym, ◌∙◌, true, false, ◌&&◌, List, [], ◌∷◌, Option, None, Some, is_some, Result, Ok, Err, OnOk, OnErr, cond, rules, arith}
+use Rattle.std.proofs.Common.{◌≡◌, refl, ap, sym, ◌∙◌, true, false, ◌&&◌, List, [], ◌∷◌, length, ◌≤◌, Option, None, Some, is_some, Result, Ok, Err, OnOk, OnErr, cond, rules, arith}
 use Rattle.std.proofs.lemmas.Grind.{common_steps}
 use Rattle.std.proofs.lemmas.Cmp.{alike_right, eq_by_cmp_equiv, on_total, then_total, tied_itself}
 use Rattle.std.specs.Cmp.{IsTotalOrder, Equal-is}
@@ -13,6 +13,11 @@ use Rattle.std.specs.Map.{lookup}
 use Rattle.std.specs.Set.{remove_key}
 use Rattle.resolver_base.specs.Priorities.{IsIndexed, has_item, is_of, listed, pair_order, priorities_of, put, without}
 use Rattle.resolver_base.proofs.Ordered.{remove_key-put, replace_key-put}
+
+-- what there is, is one at most
+pub length-listed : {R : Type 0} (found : Option R) → length (listed found) ≤ 1
+length-listed None = search rules
+length-listed (Some r) = search rules
 
 -- two pairs are equal where both parts are
 pub then-equal : (a b : Ordering) → is_eq (ordering_then a b) ≡ (is_eq a && is_eq b)

@@ -1,5 +1,6 @@
-//! Names, refusals, tests of subscribers, lists that are never empty, numbers that are given once,
-//! and what the caller lends to a machine: a way to the peers, and numbers that are drawn.
+//! Names, refusals, tests of subscribers, lists that are never empty, sets ordered by priority,
+//! numbers that are given once, and what the caller lends to a machine: a way to the peers, and
+//! numbers that are drawn.
 
 pub mod check;
 pub mod draws;

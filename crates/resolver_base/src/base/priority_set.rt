@@ -1,6 +1,6 @@
 //! A set that is ordered by priority.
 
-ghost use Rattle.std.specs.Prelude.{◌≡◌, ◌↔◌, Bool, [], ◌∷◌, Some, length, slice_get, IfNone, IfOk, IfErr, IfSome, IsTrue, OnErr, OnOk};
+ghost use Rattle.std.specs.Prelude.{◌≡◌, ◌≤◌, ◌↔◌, Bool, [], ◌∷◌, Some, length, slice_get, IfNone, IfOk, IfErr, IfSome, IsTrue, OnErr, OnOk};
 ghost use Rattle.std.specs.BTreeMap.{is_at};
 ghost use Rattle.std.specs.Fn.{FnReturnsAt};
 ghost use Rattle.std.specs.List.Sorted.{IsStrictlySortedBy};
@@ -84,6 +84,7 @@ impl<I: Ord, R: Ord> PrioritySet<I, R> {
     pub fn iter(&self) -> Iter<'_, (R, I)>
         ensures rest { result ≡ self.now }
         ensures ordered { IsStrictlySortedBy (pair_order R.cmp I.cmp) self.now }
+        ensures once { (item : I) → length (priorities_of I.cmp self.now item) ≤ 1 }
         ensures runs { ShowsInOrder (deref {X = R × I}) }
     {
         self.ordered.iter()
