@@ -23,7 +23,7 @@ use Rattle.std.specs.BTreeMap.{insert_entry, is_at}
 use Rattle.resolver_base.specs.Names.{Names}
 use Rattle.resolver.specs.declared.opaque.actor.Effect.{Effect}
 use Rattle.resolver.specs.declared.opaque.actor.Effect.TheVariants.{Start, Deliver}
-use Rattle.resolver.specs.Opaque.{Machine, Row, Asked, start_new}
+use Rattle.resolver.specs.Opaque.{Machine, Row, Asked, start_new, start_again}
 use Rattle.resolver.specs.OpaqueSteps.{onto}
 use Rattle.resolver.specs.Verdicts.{ruling}
 
@@ -221,3 +221,15 @@ module _ {K V S : Type 0} (n : Names K S) where
       → is_none (lookup (is_at (nat_cmp number)) m.deliveries) ≡ false
   found-open m ds number opened are found =
       ap is_none (ap (lookup (is_at (nat_cmp number))) are ∙ lookup-map_values handed_of (is_at (nat_cmp number)) ds ∙ ap (option_map handed_of) (sym found))
+
+module _ {K V S : Type 0} (n : Names K S) where
+  -- a number is left: the key's row is asked for under it
+  pub start_again_goes : (m : Machine K V S) (key : K) (subscribers : List (S × ℕ)) (before after : List (Effect K V S)) (es fs : List (K × Entry V S)) (attempt next : ℕ)
+      → m.rows ≡ seen code_row_of es
+      → attempt ≡ m.next_attempt → attempt < 2 ^ 64 → next ≡ m.next_attempt + 1
+      → after ≡ before ++ Start attempt key ∷ []
+      → fs ≡ set_value (same_key n key) es (record { subscribers = subscribers; stage = stages.Asked attempt })
+      → onto before (start_again n m key subscribers) ≡ Some (record { machine = record m { rows = seen code_row_of fs; next_attempt = next }; effects = after })
+  start_again_goes m key subscribers before after es fs attempt next are is_next fits counted told put =
+      let room : m.next_attempt < 2 ^ 64 = rw is_next at fits in
+      rw (lt-ltb m.next_attempt (2 ^ 64) room, put, ← set_value-seen code_row_of (same_key n key) es (record { subscribers = subscribers; stage = stages.Asked attempt }), are, counted, told, is_next) refl
