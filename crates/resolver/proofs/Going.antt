@@ -23,8 +23,10 @@ use Rattle.std.specs.BTreeMap.{insert_entry, is_at}
 use Rattle.resolver_base.specs.Names.{Names}
 use Rattle.resolver.specs.declared.opaque.actor.Effect.{Effect}
 use Rattle.resolver.specs.declared.opaque.actor.Effect.TheVariants.{Start, Deliver}
-use Rattle.resolver.specs.Opaque.{Machine, Row, Asked, start_new}
+use Rattle.resolver.specs.Opaque.{Machine, Row, Asked, start_new, start_again, without_row}
 use Rattle.resolver.specs.OpaqueSteps.{onto}
+use Rattle.resolver.specs.OpaqueLeft.{LeftOver}
+use Rattle.std.specs.Prelude.{MatchOption}
 use Rattle.resolver.specs.Verdicts.{ruling}
 
 module _ {K V S : Type 0} (n : Names K S) where
@@ -221,3 +223,24 @@ module _ {K V S : Type 0} (n : Names K S) where
       → is_none (lookup (is_at (nat_cmp number)) m.deliveries) ≡ false
   found-open m ds number opened are found =
       ap is_none (ap (lookup (is_at (nat_cmp number))) are ∙ lookup-map_values handed_of (is_at (nat_cmp number)) ds ∙ ap (option_map handed_of) (sym found))
+
+module _ {K V S : Type 0} (n : Names K S) where
+  -- a number is left: the key's row is asked for under it
+  pub start_again_goes : (m : Machine K V S) (key : K) (subscribers : List (S × ℕ)) (before after : List (Effect K V S)) (es fs : List (K × Entry V S)) (attempt next : ℕ)
+      → m.rows ≡ seen code_row_of es
+      → attempt ≡ m.next_attempt → attempt < 2 ^ 64 → next ≡ m.next_attempt + 1
+      → after ≡ before ++ Start attempt key ∷ []
+      → fs ≡ set_value (same_key n key) es (record { subscribers = subscribers; stage = stages.Asked attempt })
+      → onto before (start_again n m key subscribers) ≡ Some (record { machine = record m { rows = seen code_row_of fs; next_attempt = next }; effects = after })
+  start_again_goes m key subscribers before after es fs attempt next are is_next fits counted told put =
+      let room : m.next_attempt < 2 ^ 64 = rw is_next at fits in
+      rw (lt-ltb m.next_attempt (2 ^ 64) room, put, ← set_value-seen code_row_of (same_key n key) es (record { subscribers = subscribers; stage = stages.Asked attempt }), are, counted, told, is_next) refl
+
+module _ {K V S : Type 0} (n : Names K S) where
+  -- those who are left get the response again, or the key is retired
+  pub served-left : (m : Machine K V S) (h : Handed K S) (j : Judging V) (accepted : Bool) (rest : List (S × ℕ)) (left : Option (List (S × ℕ) × V)) (P : Option (Done K V S) → Type 0)
+      → LeftOver rest j.value left
+      → MatchOption left (P (quiet (without_row n m h.key))) (λ l. P (hand_out n m h.key l.0 j.response l.1 accepted))
+      → P (served n m h j accepted rest)
+  served-left m h j accepted rest None P is goes = rw is goes
+  served-left m h j accepted rest (Some l) P is goes = rw (← is.0, served-rest n m h j accepted l.0 is.2, ← is.1) goes

@@ -12,3 +12,4 @@ pub mod Pairs
 pub mod Bridge
 pub mod OpaqueKept
 pub mod Kept
+pub mod ByDue

@@ -48,6 +48,7 @@ module _ {K V S : Type 0} (n : Names K S) (keys : IsEquivalence (same_key n)) (o
     event-lawful (events.Retain keep) = alike keep
     event-lawful (events.Fetched attempt value) = tt
     event-lawful (events.Verdict number outcome) = tt
+    event-lawful events.RetriesDue = tt
     event-lawful events.End = tt
 
     -- what the code takes is lawful by its types

@@ -5,7 +5,7 @@ use Rattle.resolver.specs.declared.opaque.actor.Event.{Event as CodeEvent}
 use Rattle.resolver.specs.declared.opaque.actor.Event.TheVariants as events
 use Rattle.resolver.specs.declared.opaque.actor.Input.{Input as CodeInput}
 use Rattle.resolver.specs.OpaqueSteps.{Input}
-use Rattle.resolver.specs.Opaque.{Event, Item, Fetch, Retain, Fetched, Verdict, End}
+use Rattle.resolver.specs.Opaque.{Event, Item, Fetch, Retain, Fetched, Verdict, RetriesDue, End}
 
 module _ {K S : Type 0} where
   abbrev pub item_of : FetchKey K S (Unit {0}) → Item K S
@@ -18,6 +18,7 @@ module _ {K V S Q : Type 0} (keeps : Q → K → S → Bool) where
   event_of (events.Retain keep) = Retain (keeps keep)
   event_of (events.Fetched attempt value) = Fetched attempt value
   event_of (events.Verdict number outcome) = Verdict number outcome
+  event_of events.RetriesDue = RetriesDue
   event_of events.End = End
 
   abbrev pub input_of : CodeInput K V S Q → Input K V S

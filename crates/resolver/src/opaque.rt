@@ -4,6 +4,7 @@
 
 mod actor;
 mod attached;
+mod overdue;
 mod rows;
 
 pub use actor::{Actor, Effect, Event, Input};

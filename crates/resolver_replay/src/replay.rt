@@ -171,6 +171,7 @@ impl Session {
                 self.step(Event::Verdict { number, outcome }, output)?
             }
             Command::Retain(kept) => self.step(Event::Retain(kept), output)?,
+            Command::Wake => self.step(Event::RetriesDue, output)?,
             Command::Stop => self.step(Event::End, output)?,
             Command::Show => self.show(output)?,
         }

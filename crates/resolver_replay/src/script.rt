@@ -44,6 +44,8 @@ pub enum Command {
     },
     /// `keep-sub S` and `drop-key K`: subscribers want their keys no more.
     Retain(Kept),
+    /// `wake`: the waiting keys that are due are asked for again.
+    Wake,
     /// `stop`: nothing is wanted any more.
     Stop,
     /// `show`: prints the rows and the wake-up.
@@ -93,6 +95,7 @@ pub fn parse(alloc: Global, line: &[u8]) -> Result<Command, Unread> {
         Some("verdict") => verdict(&mut fields)?,
         Some("keep-sub") => Command::Retain(Kept::Subscriber(subscriber(fields.next())?)),
         Some("drop-key") => Command::Retain(Kept::AllBut(key(fields.next())?)),
+        Some("wake") => Command::Wake,
         Some("stop") => Command::Stop,
         Some("show") => Command::Show,
         _ => return Err(Unread::Unreadable),

@@ -1,11 +1,14 @@
 //! The actor's machine: inputs, effects, and one step after another.
 
-ghost use Rattle.std.specs.Prelude.{◌≡◌, ◌<◌, ◌^◌, ◌++◌, OnOk, map};
+ghost use Rattle.std.specs.Prelude.{◌≡◌, ◌<◌, ◌^◌, ◌++◌, OnOk, IfOk, IfErr, map};
 ghost use Rattle.resolver.specs.Opaque.{called_off, all_called_off, unkept};
 ghost use Rattle.resolver.specs.OpaqueActor.{phase_of, entry_of};
+ghost use Rattle.resolver.specs.OpaqueLeft.{LeftOver};
+ghost use Rattle.resolver_base.specs.Subscribers.{without};
 ghost use Rattle.resolver.specs.Steps.{stops};
 
 use super::attached::{sorted, without};
+use super::overdue::{by_due, is_any_due};
 use super::rows::{
     Entry, Row, Stage, asked_by, attach_to, first_due, listed, prune, set_row, set_stage,
 };
@@ -36,6 +39,8 @@ pub enum Event<K, V, S, Q> {
         number: u64,
         outcome: Option<Outcome>,
     },
+    /// The waiting keys that are due are asked for again, from the earliest due on.
+    RetriesDue,
     /// No key is wanted any more, and none will be: every later input is refused.
     End,
 }
@@ -119,12 +124,12 @@ impl<K: Ord, V, S, Q> Model for Actor<K, V, S, Q> {
 }
 
 impl<K: Ord + Clone, V: Clone, S: Ord + Clone, Q: Predicate<K, S> + Drop> Actor<K, V, S, Q> {
-    ghost use Rattle.std.specs.Prelude.{◌+◌, None, Some, Err, unwrap_or, IfSome, IfOk, IfErr, is_none, false};
+    ghost use Rattle.std.specs.Prelude.{◌+◌, None, Some, Err, unwrap_or, IfSome, MatchOption, is_none, false, length, ◌==◌};
     ghost use Rattle.std.specs.Map.{lookup};
     ghost use Rattle.std.specs.Ordering.{nat_cmp};
     ghost use Rattle.std.specs.BTreeMap.{is_at};
     ghost use Rattle.resolver_base.specs.Names.{names};
-    ghost use Rattle.resolver.specs.Opaque.{opening, start_new, fetch_one, fetch, hand_out, fetched, verdict_at, verdict, does, retry, without_row, row_of, next_retry, end, retain};
+    ghost use Rattle.resolver.specs.Opaque.{opening, start_new, fetch_one, fetch, hand_out, fetched, verdict_at, verdict, does, retry, without_row, row_of, next_retry, end, retain, start_again, start_all, waiting_by_due, quiet};
     ghost use Rattle.resolver.specs.OpaqueSteps.{Goes, Takes, Runs, answer_of, takes_no_memory};
     ghost use Rattle.resolver.specs.OpaqueInputs.{item_of, event_of, input_of};
     ghost use Rattle.resolver.specs.OpaqueActor.{handed_of};
@@ -239,6 +244,7 @@ impl<K: Ord + Clone, V: Clone, S: Ord + Clone, Q: Predicate<K, S> + Drop> Actor<
             Event::Retain(keep) => self.retain(&keep, effects),
             Event::Fetched { attempt, value } => self.fetched(now, attempt, value, effects),
             Event::Verdict { number, outcome } => self.verdict(now, number, outcome, effects),
+            Event::RetriesDue => self.start_due(now, effects),
             Event::End => self.end(effects),
         }
     }
@@ -449,22 +455,10 @@ impl<K: Ord + Clone, V: Clone, S: Ord + Clone, Q: Predicate<K, S> + Drop> Actor<
         }
         match rule_on(outcome, *accepted) {
             Ruling::Serve { accepted } => {
-                let rest = without(
-                    self.alloc,
-                    subscribers.as_slice(),
-                    row.subscribers.as_slice(),
-                )?;
-                match NonEmptyVec::try_from(rest) {
-                    Err(_) => {
-                        self.retire(&key);
-                        Ok(())
-                    }
-                    Ok(rest) => {
-                        let response = *response;
-                        let value = value.clone()?;
-                        self.hand_out(key, rest, Some(response), value, accepted, effects)
-                    }
-                }
+                let response = *response;
+                let all = row.subscribers.as_slice();
+                let left = left_over(self.alloc, subscribers.as_slice(), all, value)?;
+                self.serve(key, left, response, accepted, effects)
             }
             Ruling::Retry => {
                 self.wait(now, &key);
@@ -477,6 +471,36 @@ impl<K: Ord + Clone, V: Clone, S: Ord + Clone, Q: Predicate<K, S> + Drop> Actor<
         }
     }
 
+    fn start_due(&mut self, now: u128, effects: &mut Vec<Effect<K, V, S>>) -> Result<(), Fault>
+        requires keys_clone { (x y : K) → K.is_clone x y → y ≡ x }
+        requires subscribers_clone { (x y : S) → S.is_clone x y → y ≡ x }
+        ensures goes { Goes (start_all (names K.cmp S.cmp) self.old (waiting_by_due now self.old.rows)) effects.old.items effects.new.items self.new result }
+        ensures memory { result ≡ Err Fault.OutOfMemory → (length (waiting_by_due now self.old.rows) == 0) ≡ false }
+    {
+        if !is_any_due(&self.rows, now) {
+            return Ok(());
+        }
+        for one in by_due(self.alloc, &self.rows, now)? {
+            self.start_again(one.key, one.subscribers, effects)?;
+        }
+        Ok(())
+    }
+
+    fn start_again(
+        &mut self,
+        key: K,
+        subscribers: NonEmptyVec<(S, u64)>,
+        effects: &mut Vec<Effect<K, V, S>>,
+    ) -> Result<(), Fault>
+        ensures { Goes (start_again (names K.cmp S.cmp) self.old key subscribers) effects.old.items effects.new.items self.new result }
+    {
+        let attempt = self.attempts.take().ok_or(Fault::Exhausted)?;
+        let stage = Stage::Asked { attempt };
+        set_row(&mut self.rows, &key, Entry { subscribers, stage });
+        effects.push(Effect::Start { attempt, key })?;
+        Ok(())
+    }
+
     fn end(&mut self, effects: &mut Vec<Effect<K, V, S>>) -> Result<(), Fault>
         ensures { Goes (Some (end self.old)) effects.old.items effects.new.items self.new result }
     {
@@ -485,6 +509,31 @@ impl<K: Ord + Clone, V: Clone, S: Ord + Clone, Q: Predicate<K, S> + Drop> Actor<
         self.deliveries.clear();
         self.status = Status::Ended;
         Ok(())
+    }
+
+    /// Hands the response out to those who are left, or retires the key where nobody is.
+    fn serve(
+        &mut self,
+        key: K,
+        left: Option<(NonEmptyVec<(S, u64)>, V)>,
+        response: u64,
+        accepted: bool,
+        effects: &mut Vec<Effect<K, V, S>>,
+    ) -> Result<(), Fault>
+        requires keys_clone { (x y : K) → K.is_clone x y → y ≡ x }
+        requires values_clone { (x y : V) → V.is_clone x y → y ≡ x }
+        requires subscribers_clone { (x y : S) → S.is_clone x y → y ≡ x }
+        ensures { MatchOption left (Goes (quiet (without_row (names K.cmp S.cmp) self.old key)) effects.old.items effects.new.items self.new result) (λ l. Goes (hand_out (names K.cmp S.cmp) self.old key l.0 response l.1 accepted) effects.old.items effects.new.items self.new result) }
+    {
+        match left {
+            None => {
+                self.retire(&key);
+                Ok(())
+            }
+            Some((rest, value)) => {
+                self.hand_out(key, rest, Some(response), value, accepted, effects)
+            }
+        }
     }
 
     /// The key waits until the delay is over.
@@ -500,6 +549,25 @@ impl<K: Ord + Clone, V: Clone, S: Ord + Clone, Q: Predicate<K, S> + Drop> Actor<
         ensures { self.new ≡ without_row (names K.cmp S.cmp) self.old key.now }
     {
         self.rows.remove(key);
+    }
+}
+
+/// The subscribers that are not among the named ones, with a copy of the value for them. None
+/// where nobody is left.
+fn left_over<V: Clone, S: Ord + Clone>(
+    alloc: Global,
+    named: &[(S, u64)],
+    all: &[(S, u64)],
+    value: &V,
+) -> Result<Option<(NonEmptyVec<(S, u64)>, V)>, Fault>
+    requires values_clone { (x y : V) → V.is_clone x y → y ≡ x }
+    requires subscribers_clone { (x y : S) → S.is_clone x y → y ≡ x }
+    ensures left { IfOk result (λ left. LeftOver (without S.cmp named.now all.now) value.now left) }
+    ensures only { IfErr result (λ fault. fault ≡ Fault.OutOfMemory) }
+{
+    match NonEmptyVec::try_from(without(alloc, named, all)?) {
+        Err(_) => Ok(None),
+        Ok(rest) => Ok(Some((rest, value.clone()?))),
     }
 }
 

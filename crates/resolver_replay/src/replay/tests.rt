@@ -13,7 +13,7 @@ fn replayed(alloc: Global, script: &[u8]) -> Result<(Vec<u8>, Result<Ending, Fau
 // Worked rows, and what they leave out.
 #[test]
 fn scripts(rt: HostRuntime) -> Result<(), Fail> {
-    let cases: [(&str, &[u8], &[u8]); 19] = [
+    let cases: [(&str, &[u8], &[u8]); 21] = [
         (
             "opaque_first_run",
             b"opaque 100\nfetch 1 10 7\nfetched 0 x6869\nverdict 0 complete\nshow\n",
@@ -70,6 +70,16 @@ fn scripts(rt: HostRuntime) -> Result<(), Fail> {
             b"start 0 1\nstart 1 2\ndeliver 0 1 1 xaa\ndeliver 1 2 2 xbb\nkey 2 subs 2:0 phase waiting 10\nwake 10\n",
         ),
         (
+            "opaque_retry",
+            b"opaque 100\nfetch 1 10 7\nfetched 0 none\nshow\nat 99\nwake\nat 100\nwake\nfetched 0 xaa\nfetch 1 10 9\nshow\n",
+            b"start 0 1\nkey 1 subs 10:7 phase waiting 100\nwake 100\nstart 1 1\nkey 1 subs 10:7 phase asked 1\nwake none\n",
+        ),
+        (
+            "keys due at one moment in key order, after one that is due earlier",
+            b"opaque 10\nfetch 1 1 0\nfetch 2 2 0\nfetch 3 3 0\nfetch 4 4 0\nfetched 3 none\nat 5\nfetched 2 none\nfetched 0 none\nat 6\nfetched 1 none\nat 15\nwake\nshow\n",
+            b"start 0 1\nstart 1 2\nstart 2 3\nstart 3 4\nstart 4 4\nstart 5 1\nstart 6 3\nkey 1 subs 1:0 phase asked 5\nkey 2 subs 2:0 phase waiting 16\nkey 3 subs 3:0 phase asked 6\nkey 4 subs 4:0 phase asked 4\nwake 16\n",
+        ),
+        (
             "dropped_then_fetched_again",
             b"opaque 100\nfetch 1 10 7\nfetched 0 x6869\ndrop-key 1\nfetch 1 12 9\nverdict 0 complete\nshow\n",
             b"start 0 1\ndeliver 0 1 10 x6869\ncancel 0\nstart 1 1\nkey 1 subs 12:9 phase asked 1\nwake none\n",
@@ -91,8 +101,8 @@ fn scripts(rt: HostRuntime) -> Result<(), Fail> {
         ),
         (
             "lines after a stop, and a stop twice",
-            b"opaque 100\nstop\nat 5\nfetch 1 10 7\nfetched 0 x\nverdict 0 complete\nkeep-sub 1\ndrop-key 1\nstop\nshow\n",
-            b"refused 3 Ended\nrefused 3 Ended\nrefused 3 Ended\nrefused 3 Ended\nrefused 3 Ended\nrefused 3 Ended\nwake none\n",
+            b"opaque 100\nstop\nat 5\nfetch 1 10 7\nfetched 0 x\nverdict 0 complete\nkeep-sub 1\ndrop-key 1\nwake\nstop\nshow\n",
+            b"refused 3 Ended\nrefused 3 Ended\nrefused 3 Ended\nrefused 3 Ended\nrefused 3 Ended\nrefused 3 Ended\nrefused 3 Ended\nwake none\n",
         ),
         (
             "empty lines and comments, with any bytes",
@@ -167,7 +177,7 @@ fn unreadable_lines(rt: HostRuntime) -> Result<(), Fail> {
         (b"opaque 1\nverdict 0\n", b"line 2 unreadable\n"),
         (b"opaque 1\nverdict 0 Complete\n", b"line 2 unreadable\n"),
         (b"opaque 1\nverdict x complete\n", b"line 2 unreadable\n"),
-        (b"opaque 1\nwake\n", b"line 2 unreadable\n"),
+        (b"opaque 1\nwake 5\n", b"line 2 unreadable\n"),
         (b"opaque 1\nstop now\n", b"line 2 unreadable\n"),
         (b"opaque 1\nkeep-sub\n", b"line 2 unreadable\n"),
         (b"opaque 1\nkeep-sub 65536\n", b"line 2 unreadable\n"),

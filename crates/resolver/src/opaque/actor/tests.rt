@@ -178,3 +178,43 @@ fn dropped_then_fetched_again(rt: HostRuntime) -> Result<(), Fail> {
     assert_eq!(rt; rows[0].phase, Phase::Asked { attempt: 1 });
     Ok(())
 }
+
+/// The inputs of the row opaque_retry.
+fn retry_inputs(alloc: Global) -> Result<Vec<Input<u8, u32, u16, AllBut>>, Fault> {
+    let mut inputs = Vec::new(alloc);
+    inputs.push(at(0, fetch(alloc, 1, 10, 7)?))?;
+    let none = Event::Fetched {
+        attempt: 0,
+        value: None,
+    };
+    inputs.push(at(0, none))?;
+    inputs.push(at(99, Event::RetriesDue))?;
+    inputs.push(at(100, Event::RetriesDue))?;
+    let old = Event::Fetched {
+        attempt: 0,
+        value: Some(0xaa),
+    };
+    inputs.push(at(100, old))?;
+    inputs.push(at(100, fetch(alloc, 1, 10, 9)?))?;
+    Ok(inputs)
+}
+
+#[test]
+fn opaque_retry(rt: HostRuntime) -> Result<(), Fail> {
+    let alloc = rt.alloc();
+    let mut actor: Actor<u8, u32, u16, AllBut> = Actor::new(alloc, 100);
+    let answers = actor.run(retry_inputs(alloc)?)?;
+    assert_eq!(rt; answers.len(), 6);
+    let mut starts = Vec::new(alloc);
+    for answer in answers {
+        starts.push(started(&answer?))?;
+    }
+    let expected = [Some((0, 1)), None, None, Some((1, 1)), None, None];
+    assert_eq!(rt; starts.as_slice(), expected.as_slice());
+    let rows = actor.rows()?;
+    assert_eq!(rt; rows.len(), 1);
+    assert_eq!(rt; *rows[0].subscribers.first(), (10, 7));
+    assert_eq!(rt; rows[0].phase, Phase::Asked { attempt: 1 });
+    assert_eq!(rt; actor.next_retry(), None);
+    Ok(())
+}

@@ -2,7 +2,8 @@ use Rattle.std.proofs.Common.{ap, sym, ◌∙◌}
 use Rattle.resolver_base.specs.Names.{names}
 use Rattle.resolver.specs.OpaqueActor.{handed_of}
 use Rattle.resolver.specs.Opaque.{without_row}
-use Rattle.resolver.proofs.Going.{served-rest, row_of-at, quiet_goes, verdict_at-absent, verdict_at-idle, verdict_at-old, verdict_at-judged}
+use Rattle.resolver.specs.OpaqueSteps.{Goes}
+use Rattle.resolver.proofs.Going.{served-left, row_of-at, quiet_goes, verdict_at-absent, verdict_at-idle, verdict_at-old, verdict_at-judged}
 use Rattle.resolver.proofs.opaque.actor.Actor.judge.Goals as goal
 
 pub returns-in_default : goal.returns-in_default
@@ -43,32 +44,17 @@ returns-in-Retire g c =
       verdict_at-judged n c.args.self.now c.self.inside.rows.entries c.args.now c.args.number (handed_of c.args.opened) c.args.outcome c.in-Some.row.now _ _ _ _
           (ap (λ m. m.rows) (sym c.self.view_is)) c.in-Some.ensures.value c.in-Judged.is c.if-number-current.false,
       ← c.in-Retire.ensures,
-      c.retire-in-Retire.ensures,
-    )
-    (quiet_goes n (without_row n c.args.self.now c.args.opened.delivery.key) c.args.effects.now.items)
-
-pub returns-in-Err : goal.returns-in-Err
-returns-in-Err g c =
-    let n = names g.K.Ord.cmp g.S.Ord.cmp in
-    let rest = rw (c.as_slice.ensures.value, c.as_slice-in-Serve.ensures.value) at c.in_ok-rest-in-Serve.ensures in
-    rw (
-      verdict_at-judged n c.args.self.now c.self.inside.rows.entries c.args.now c.args.number (handed_of c.args.opened) c.args.outcome c.in-Some.row.now _ _ _ _
-          (ap (λ m. m.rows) (sym c.self.view_is)) c.in-Some.ensures.value c.in-Judged.is c.if-number-current.false,
-      ← c.in-Serve.ensures,
-      sym rest ∙ c.in-Err.ensures.empty.1,
       c.retire.ensures,
     )
     (quiet_goes n (without_row n c.args.self.now c.args.opened.delivery.key) c.args.effects.now.items)
 
-pub returns-in_ok-value-in-Ok : goal.returns-in_ok-value-in-Ok
-returns-in_ok-value-in-Ok g c =
+pub returns-in_ok-left-in-Serve : goal.returns-in_ok-left-in-Serve
+returns-in_ok-left-in-Serve g c =
     let n = names g.K.Ord.cmp g.S.Ord.cmp in
-    let rest = rw (c.as_slice.ensures.value, c.as_slice-in-Serve.ensures.value) at c.in_ok-rest-in-Serve.ensures in
+    let left = rw (c.as_slice.ensures.value, c.as_slice-all.ensures.value) at c.in_ok-left-in-Serve.ensures.left in
     rw (
       verdict_at-judged n c.args.self.now c.self.inside.rows.entries c.args.now c.args.number (handed_of c.args.opened) c.args.outcome c.in-Some.row.now _ _ _ _
           (ap (λ m. m.rows) (sym c.self.view_is)) c.in-Some.ensures.value c.in-Judged.is c.if-number-current.false,
       ← c.in-Serve.ensures,
-      sym rest ∙ sym c.in-Ok.ensures.ok,
-      served-rest n c.args.self.now (handed_of c.args.opened) _ c.in-Serve.accepted c.in-Ok.rest (rw c.rest.view_is at c.rest.invariant),
     )
-    (rw (c.requires.values_clone _ _ c.in_ok-value-in-Ok.ensures.cases) at c.hand_out.ensures)
+    (served-left n c.args.self.now (handed_of c.args.opened) (record { number = c.args.number; response = _; value = _; accepted = c.in-Serve.accepted }) c.in-Serve.accepted _ c.in_ok-left-in-Serve.left (λ d. Goes d c.args.effects.now.items c.serve.new.effects.items c.serve.new.self c.serve.result) left c.serve.ensures)
