@@ -11,7 +11,8 @@ use Rattle.std.specs.declared.cmp.Ordering.{Ordering}
 use Rattle.std.specs.declared.cmp.Ordering.TheVariants.{Equal}
 use Rattle.std.specs.BTreeMap.{is_at}
 use Rattle.std.specs.Map.{lookup}
-use Rattle.resolver_base.specs.Priorities.{AnswersBy, IsIndexed, has_item, indexed, is_of, listed, priorities_of, retained}
+use Rattle.resolver_base.specs.Answering.{AnswersBy}
+use Rattle.resolver_base.specs.Priorities.{IsIndexed, has_item, indexed, is_of, listed, priorities_of, retained}
 use Rattle.resolver_base.proofs.Priorities.{has_item-some}
 
 filter-append : {X : Type 0} (p : X → Bool) (xs ys : List X) → filter p (xs ++ ys) ≡ filter p xs ++ filter p ys

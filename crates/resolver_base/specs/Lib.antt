@@ -8,3 +8,4 @@ pub mod Outcomes
 pub mod Sending
 pub mod Drawn
 pub mod Priorities
+pub mod Answering

@@ -1,7 +1,4 @@
 -- A set that is ordered by priority, as its pairs of a priority and an item: each item once, in the order of the pairs.
-use denote.Param.Members.{Shared}
-use Rattle.std.specs.Borrow.{Bor}
-use Rattle.std.specs.Fn.{FnReturnsAt}
 use Rattle.std.specs.Prelude.{◌≡◌, Bool, not, List, [], ◌∷◌, filter, map, Option, None, Some, is_some}
 use Rattle.std.specs.List.{list_any}
 use Rattle.std.specs.List.Sorted.{IsStrictlySortedBy}
@@ -14,10 +11,6 @@ use Rattle.std.specs.Map.{lookup}
 -- by priority, and then by item
 abbrev pub pair_order : {I R : Type 0} → (R → R → Ordering) → (I → I → Ordering) → R × I → R × I → Ordering
 pair_order by_priority by_item p q = ordering_then (by_priority p.0 q.0) (by_item p.1 q.1)
-
--- a closure answers by a test of items
-pub record AnswersBy {F I : Type 0} (g : Shared F (Bor I × Unit {0}) Bool) (f : F) (test : I → Bool) : Type 0 where
-  pub by : (item : I) (b : Bool) → FnReturnsAt g f item b → b ≡ test item
 
 -- what there is, as a list
 abbrev pub listed : {R : Type 0} → Option R → List R

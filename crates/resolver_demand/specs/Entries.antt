@@ -1,7 +1,4 @@
 -- Tracked keys and their deliveries, which are numbered.
-use denote.Param.Members.{Shared}
-use Rattle.std.specs.Borrow.{Bor}
-use Rattle.std.specs.Fn.{FnReturnsAt}
 use Rattle.std.specs.Prelude.{◌≡◌, ℕ, ◌+◌, Bool, true, false, List, filter, Option, None, Some, is_some, option_map, option_and_then, Result, Ok, Err, if◌then◌else◌, ◌==◌, ◌^◌, nat_lt}
 use Rattle.resolver_base.specs.declared.base.fault.Fault.{Fault}
 use Rattle.resolver_base.specs.declared.base.fault.Fault.TheVariants.{OutOfMemory, Exhausted}
@@ -54,10 +51,6 @@ module _ {V C State : Type 0} where
 
 abbrev pub accepted : {V C : Type 0} → Response V C → Response V C
 accepted r = record r { accepted = true }
-
--- a closure answers by a test
-pub record AnswersBy {F K : Type 0} (g : Shared F (Bor K × Unit {0}) Bool) (f : F) (test : K → Bool) : Type 0 where
-  pub by : (key : K) (b : Bool) → FnReturnsAt g f key b → b ≡ test key
 
 -- only the keys that pass
 abbrev pub retained : {K S V C State : Type 0} → (K → Bool) → Numbered K S V C State → Numbered K S V C State

@@ -6,7 +6,8 @@ ghost use Rattle.std.specs.Fn.{FnReturnsAt};
 ghost use Rattle.std.specs.List.Sorted.{IsStrictlySortedBy};
 ghost use Rattle.std.specs.Map.{lookup};
 ghost use Rattle.std.specs.Map.Iter.{ShowsInOrder, deref};
-ghost use Rattle.resolver_base.specs.Priorities.{AnswersBy, IsIndexed, has_item, indexed, listed, pair_order, priorities_of, put, retained, without};
+ghost use Rattle.resolver_base.specs.Answering.{AnswersBy};
+ghost use Rattle.resolver_base.specs.Priorities.{IsIndexed, has_item, indexed, listed, pair_order, priorities_of, put, retained, without};
 ghost use Rattle.resolver_base.specs.declared.base.fault.Fault.TheVariants.{OutOfMemory};
 
 use crate::base::Fault;

@@ -46,7 +46,8 @@ impl<K: Ord, S, V, Context, State> Model for Entries<K, S, V, Context, State> {
 }
 
 impl<K: Ord + Drop, S: Drop, V: Drop, Context: Drop, State: Drop> Entries<K, S, V, Context, State> {
-    ghost use Rattle.resolver_demand.specs.Entries.{AnswersBy, accepted, changed, delivered, inserted, is_accepted, is_tracked, number_of, redelivered, refusal_at, removed, response_changed, response_of, retained, state_of, with_response};
+    ghost use Rattle.resolver_base.specs.Answering.{AnswersBy};
+    ghost use Rattle.resolver_demand.specs.Entries.{accepted, changed, delivered, inserted, is_accepted, is_tracked, number_of, redelivered, refusal_at, removed, response_changed, response_of, retained, state_of, with_response};
 
     /// No key and no delivery. The first delivery will have the number 0.
     pub fn new(alloc: Global) -> Self

@@ -1,4 +1,4 @@
-use Rattle.std.proofs.Common.{ap, sym, ◌∙◌}
+use Rattle.std.proofs.Common.{ap, sym}
 use Rattle.resolver_base.specs.Names.{names}
 use Rattle.resolver.specs.OpaqueActor.{handed_of}
 use Rattle.resolver.specs.Opaque.{without_row}
