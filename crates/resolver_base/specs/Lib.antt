@@ -5,3 +5,5 @@ pub mod Faults
 pub mod Mapped
 pub mod Table
 pub mod Outcomes
+pub mod Joined
+pub mod Targets

@@ -1,0 +1,46 @@
+use super::*;
+use std::test::Fail;
+
+type Targets = Option<NonEmptyVec<u16>>;
+
+fn targets(alloc: Global, peers: &[u16]) -> Result<Targets, Fail> {
+    Ok(NonEmptyVec::try_from(peers.to_vec(alloc)?).ok())
+}
+
+fn merged<M: Metadata + Drop>(earlier: M, later: M) -> Result<M, Fail> {
+    let mut all = earlier;
+    all.merge(later)?;
+    Ok(all)
+}
+
+#[test]
+fn overflow_targets(rt: HostRuntime) -> Result<(), Fail> {
+    let alloc = rt.alloc();
+    let joined = merged(targets(alloc, &[2, 3])?, targets(alloc, &[3, 4])?)?;
+    let joined = joined.ok_or("targets that are named")?;
+    assert_eq!(rt; joined.as_slice(), [2, 3, 4].as_slice());
+
+    let any = merged(targets(alloc, &[2])?, None)?;
+    assert!(rt; merged(any, targets(alloc, &[3])?)?.is_none());
+    Ok(())
+}
+
+#[test]
+fn nothing_said_stays(rt: HostRuntime) -> Result<(), Fail> {
+    assert_eq!(rt; merged((), ())?, ());
+    Ok(())
+}
+
+#[test]
+fn fetch_of_one_subscriber(rt: HostRuntime) -> Result<(), Fail> {
+    let fetch = Fetch {
+        key: 1u16,
+        subscriber: 20u16,
+        mark: 7,
+    };
+    let item: FetchKey<u16, u16, Targets> = FetchKey::from_fetch(rt.alloc(), fetch)?;
+    assert_eq!(rt; item.key, 1);
+    assert_eq!(rt; item.subscribers.as_slice(), [(20, 7)].as_slice());
+    assert!(rt; item.metadata.is_none());
+    Ok(())
+}
