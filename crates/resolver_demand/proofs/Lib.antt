@@ -1,2 +1,4 @@
 pub mod ListedRows
 pub mod Emptied
+pub mod Marks
+pub mod Right

@@ -1,5 +1,6 @@
 //! What a resolver is asked, as its machine takes it.
 
+pub mod laws;
 mod metadata;
 
 ghost use Rattle.std.specs.Prelude.{◌≡◌, ◌<◌, [], ◌∷◌, length, IfOk, IfErr, OnOk, OnErr};
