@@ -2,3 +2,4 @@ pub mod ListedRows
 pub mod Emptied
 pub mod Marks
 pub mod Right
+pub mod Queue

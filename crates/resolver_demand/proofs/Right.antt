@@ -133,7 +133,7 @@ module _ {K S M : Type 0} (n : Names K S) (merged : M → M → M)
     B = mark_of n (pairs_of later.key later.subscribers) k s
 
     cases : mark_of n (asked_by (queued n merged batch later)) k s ≡ or_else R B → (b : Bool) → same_key n later.key item.key ≡ b
-        → mark_of n (asked_by (cond b (merged_item n merged item later ∷ batch) (item ∷ queued n merged batch later))) k s
+        → mark_of n (asked_by (cond b (merged_item n.subscriber merged item later ∷ batch) (item ∷ queued n merged batch later))) k s
         ≡ or_else (mark_of n (asked_by (item ∷ batch)) k s) B
     cases after true is =
         let same : same_key n k item.key ≡ same_key n k later.key = flips k item.key ∙ sym (follows later.key item.key k is) ∙ flips later.key k in
@@ -158,7 +158,7 @@ module _ {K S M : Type 0} (n : Names K S) (merged : M → M → M)
   absent-queued [] later a h g = rw (g) refl
   absent-queued (item ∷ batch) later a h g = cases (λ f. absent-queued batch later a f g) (same_key n a item.key) refl h (same_key n later.key item.key) where
     cases : (list_any (λ (other : Item K S M). same_key n a other.key) batch ≡ false → list_any (λ (other : Item K S M). same_key n a other.key) (queued n merged batch later) ≡ false) → (b : Bool) → same_key n a item.key ≡ b → (b || list_any (λ (other : Item K S M). same_key n a other.key) batch) ≡ false → (t : Bool)
-        → list_any (λ (other : Item K S M). same_key n a other.key) (cond t (merged_item n merged item later ∷ batch) (item ∷ queued n merged batch later)) ≡ false
+        → list_any (λ (other : Item K S M). same_key n a other.key) (cond t (merged_item n.subscriber merged item later ∷ batch) (item ∷ queued n merged batch later)) ≡ false
     cases after true is f t = absurd (let wrong = f in cc)
     cases after false is f true = rw is f
     cases after false is f false = rw is (after f)
@@ -166,7 +166,7 @@ module _ {K S M : Type 0} (n : Names K S) (merged : M → M → M)
   pub apart-queued : (batch : List (Item K S M)) (later : Item K S M) → IsApart n batch → IsApart n (queued n merged batch later)
   apart-queued [] later apart = (refl, apart)
   apart-queued (item ∷ batch) later apart = cases (apart-queued batch later apart.1) (same_key n later.key item.key) refl where
-    cases : IsApart n (queued n merged batch later) → (b : Bool) → same_key n later.key item.key ≡ b → IsApart n (cond b (merged_item n merged item later ∷ batch) (item ∷ queued n merged batch later))
+    cases : IsApart n (queued n merged batch later) → (b : Bool) → same_key n later.key item.key ≡ b → IsApart n (cond b (merged_item n.subscriber merged item later ∷ batch) (item ∷ queued n merged batch later))
     cases after true is = apart
     cases after false is = (absent-queued batch later item.key apart.0 (flips item.key later.key ∙ is), after)
 

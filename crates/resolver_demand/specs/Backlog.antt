@@ -1,6 +1,8 @@
 -- What waits while a mailbox is full: tests of subscribers, and then fetches as one batch.
-use Rattle.std.specs.Prelude.{◌≡◌, ℕ, Bool, true, false, not, List, [], ◌∷◌, ◌++◌, if◌then◌else◌, filter, map, length, nat_lt}
+use Rattle.std.specs.Prelude.{◌≡◌, ℕ, Bool, true, false, not, List, [], ◌∷◌, ◌++◌, if◌then◌else◌, filter, map, length, nat_lt, ◌-◌, Option, None, Some, set, take}
+use Rattle.std.specs.declared.cmp.Ordering.{Ordering}
 use Rattle.std.specs.List.{list_any}
+use Rattle.resolver_demand.specs.declared.ingress.FetchKey.{FetchKey}
 use Rattle.resolver_base.specs.Names.{Names, same_key}
 use Rattle.resolver_base.specs.Subscribers.{joined_subscribers}
 use Rattle.resolver_base.specs.Demand.{Act, Adds, Keeps, Pair, acts, pairs_of, IsSameDemand}
@@ -21,6 +23,28 @@ pub data Told (K S M Q : Type 0) : Type 0 where
   Retains : Q → Told K S M Q
 
 module _ {K S M : Type 0} where
+  abbrev pub item_of : FetchKey K S M → Item K S M
+  item_of fetch = record { key = fetch.key; subscribers = fetch.subscribers; metadata = fetch.metadata }
+
+  abbrev pub backlog_of : {Q : Type 0} → List Q → List (FetchKey K S M) → Backlog K S M Q
+  backlog_of retains fetches = record { retains = retains; batch = map item_of fetches }
+
+  abbrev pub no_backlog : {Q : Type 0} → Backlog K S M Q
+  no_backlog = record { retains = []; batch = [] }
+
+  abbrev pub keys_of_items : List (FetchKey K S M) → List K
+  keys_of_items fetches = map (λ fetch. fetch.key) fetches
+
+  -- a batch as it was before its last change: the last item goes, or an item is as it was
+  abbrev pub undone : Option (ℕ × FetchKey K S M) → List (FetchKey K S M) → List (FetchKey K S M)
+  undone None batch = take (length batch - 1) batch
+  undone (Some (place, was)) batch = set batch place was
+
+  -- before some changes, of which the last is undone first
+  abbrev pub undone_all : List (Option (ℕ × FetchKey K S M)) → List (FetchKey K S M) → List (FetchKey K S M)
+  undone_all [] batch = batch
+  undone_all (change ∷ changes) batch = undone change (undone_all changes batch)
+
   -- the batch as one message, if it has any item
   abbrev pub batch_told : {Q : Type 0} → List (Item K S M) → List (Told K S M Q)
   batch_told [] = []
@@ -50,18 +74,19 @@ module _ {K S M : Type 0} where
   abbrev pub kept : (K → S → Bool) → List (Item K S M) → List (Item K S M)
   kept keep batch = filter has_subscribers (map (pruned keep) batch)
 
-module _ {K S M : Type 0} (n : Names K S) (merged : M → M → M) where
+module _ {K S M : Type 0} (subscriber : S → S → Ordering) (merged : M → M → M) where
   -- a fetch with what a later one of its key asks for
   abbrev pub merged_item : Item K S M → Item K S M → Item K S M
   merged_item item later = record item {
-    subscribers = joined_subscribers n.subscriber item.subscribers later.subscribers;
+    subscribers = joined_subscribers subscriber item.subscribers later.subscribers;
     metadata = merged item.metadata later.metadata;
   }
 
+module _ {K S M : Type 0} (n : Names K S) (merged : M → M → M) where
   -- A fetch joins the one of its key, or goes last.
   abbrev pub queued : List (Item K S M) → Item K S M → List (Item K S M)
   queued [] later = later ∷ []
-  queued (item ∷ batch) later = if same_key n later.key item.key then merged_item item later ∷ batch else item ∷ queued batch later
+  queued (item ∷ batch) later = if same_key n later.key item.key then merged_item n.subscriber merged item later ∷ batch else item ∷ queued batch later
 
   abbrev pub queued_all : List (Item K S M) → List (Item K S M) → List (Item K S M)
   queued_all batch [] = batch
@@ -84,3 +109,8 @@ module _ {K S M : Type 0} (n : Names K S) where
   -- On every demand the messages left do what those that were there do.
   abbrev pub IsRight : {Q : Type 0} → (Q → K → S → Bool) → List (Told K S M Q) → List (Told K S M Q) → Type 0
   IsRight keeps was left = (d : List (Pair K S)) → IsSameDemand n (acts n (map (act_of keeps) left) d) (acts n (map (act_of keeps) was) d)
+
+  -- each key stands once, and these are the keys in their order
+  pub record IsFiled (keys : List K) (fetches : List (FetchKey K S M)) : Type 0 where
+    pub keys_are : keys ≡ keys_of_items fetches
+    pub apart : IsApart (map item_of fetches)

@@ -1,11 +1,14 @@
 //! What a resolver is asked, as its machine takes it.
 
+mod batch;
 pub mod laws;
 mod metadata;
+mod pending;
 
 ghost use Rattle.std.specs.Prelude.{◌≡◌, ◌<◌, [], ◌∷◌, length, IfOk, IfErr, OnOk, OnErr};
 
 pub use metadata::Metadata;
+pub use pending::Pending;
 use resolver_base::base::NonEmptyVec;
 pub use resolver_base::base::Predicate;
 use resolver_base::root::Fetch;

@@ -1,3 +1,6 @@
+ghost use Rattle.std.specs.Prelude.{true};
+ghost use Rattle.std.proofs.Common.{rules};
+
 use super::*;
 use std::test::Fail;
 
@@ -42,5 +45,42 @@ fn fetch_of_one_subscriber(rt: HostRuntime) -> Result<(), Fail> {
     assert_eq!(rt; item.key, 1);
     assert_eq!(rt; item.subscribers.as_slice(), [(20, 7)].as_slice());
     assert!(rt; item.metadata.is_none());
+    Ok(())
+}
+
+/// Keeps every subscriber.
+#[derive(Drop)]
+struct All;
+
+impl Predicate<u16, u16> for All {
+    ghost keeps = { λ _ _ _. true };
+
+    fn keep(&self, _key: &u16, _subscriber: &u16) -> bool {
+        true
+    }
+
+    ghost alike = { λ q k l s t same_key same_subscriber. Prim.search rules };
+}
+
+fn one(alloc: Global, key: u16, subscriber: u16) -> Result<Vec<FetchKey<u16, u16, ()>>, Fail> {
+    let fetch = Fetch {
+        key,
+        subscriber,
+        mark: 0,
+    };
+    let mut items = Vec::new(alloc);
+    items.push(FetchKey::from_fetch(alloc, fetch)?)?;
+    Ok(items)
+}
+
+#[test]
+fn queues_ten_thousand_keys(rt: HostRuntime) -> Result<(), Fail> {
+    let alloc = rt.alloc();
+    let mut pending: Pending<u16, u16, (), All> = Pending::new(alloc);
+    assert!(rt; pending.is_empty());
+    for key in 0..10_000u16 {
+        pending.fetch(one(alloc, key, 10)?)?;
+    }
+    assert!(rt; !pending.is_empty());
     Ok(())
 }
