@@ -3,3 +3,4 @@ pub mod Emptied
 pub mod Marks
 pub mod Right
 pub mod Queue
+pub mod Pruned

@@ -1,13 +1,11 @@
 -- What a list of fetches asks for, by look-ups of marks.
-use Rattle.std.proofs.Common.{◌≡◌, ◌∙◌, sym, ap, refl, Bool, true, false, ℕ, List, [], ◌∷◌, ◌++◌, Option, None, Some, cond, arith, rules}
-use Rattle.std.proofs.lemmas.Grind.{common_steps}
-use Rattle.std.specs.Prelude.{if◌then◌else◌, is_some, ◌&&◌, ◌||◌, map, filter}
+use Rattle.std.proofs.Common.{◌≡◌, ◌∙◌, sym, ap, refl, Bool, true, false, ℕ, List, [], ◌∷◌, ◌++◌, Option, None, Some, cond}
+use Rattle.std.specs.Prelude.{is_some, ◌&&◌, ◌||◌}
 use Rattle.std.specs.List.{list_any}
 use Rattle.resolver_base.specs.Names.{Names, same_key, same_subscriber}
-use Rattle.resolver_base.specs.Joined.{joined_one, joined}
+use Rattle.resolver_base.specs.Joined.{joined_one}
 use Rattle.resolver_base.specs.Subscribers.{joined_subscribers}
-use Rattle.resolver_base.specs.Demand.{Pair, Act, Adds, Keeps, acts, added, added_all, mark_of, is_pair, pairs_of}
-use Rattle.resolver_demand.specs.Backlog.{Item, IsApart, asked_by, queued, queued_all, merged_item}
+use Rattle.resolver_base.specs.Demand.{Pair, added, added_all, mark_of, is_pair, pairs_of}
 
 -- the first, or else the second
 abbrev pub or_else : Option ℕ → Option ℕ → Option ℕ

@@ -1,6 +1,6 @@
 -- Merging and pruning a batch are right on every demand.
-use Rattle.std.proofs.Common.{◌≡◌, ◌∙◌, sym, ap, refl, Bool, true, false, ℕ, List, [], ◌∷◌, ◌++◌, Option, None, Some, cond, arith, rules}
-use Rattle.std.specs.Prelude.{if◌then◌else◌, is_some, ◌&&◌, ◌||◌, length, map, filter, nat_lt}
+use Rattle.std.proofs.Common.{◌≡◌, ◌∙◌, sym, ap, refl, Bool, true, false, ℕ, List, [], ◌∷◌, ◌++◌, Option, None, Some, cond, arith}
+use Rattle.std.specs.Prelude.{◌||◌, length, map, filter, nat_lt}
 use Rattle.std.specs.List.{list_any}
 use Rattle.std.specs.Cmp.{IsTotalOrder}
 use Rattle.std.specs.Ordering.{is_eq, ordering_reverse}
@@ -8,7 +8,7 @@ use Rattle.std.specs.declared.cmp.Ordering.{Ordering}
 use Rattle.std.specs.declared.cmp.Ordering.TheVariants.{Less, Equal, Greater}
 use Rattle.resolver_base.specs.Names.{Names, same_key, same_subscriber}
 use Rattle.resolver_base.specs.Subscribers.{joined_subscribers}
-use Rattle.resolver_base.specs.Demand.{Pair, Act, Adds, Keeps, acts, added_all, mark_of, is_pair, pairs_of, IsSameDemand}
+use Rattle.resolver_base.specs.Demand.{Pair, acts, added_all, mark_of, is_pair, pairs_of}
 use Rattle.resolver_base.specs.Demand.{kept as kept_pairs}
 use Rattle.resolver_demand.specs.Backlog.{Item, Backlog, Told, Fetches, Retains, IsApart, IsRight, act_of, asked_by, batch_told, handled, has_subscribers, kept, merged_item, pruned, queued, queued_all, waiting}
 use Rattle.resolver_demand.proofs.Marks.{both-true, or_else, or_else-none, or_else-assoc, mark_of-added_all, mark_of-append, mark_of-joined, mark_of-pairs-like, mark_of-pairs-other}

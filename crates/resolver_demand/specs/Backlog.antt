@@ -1,8 +1,10 @@
 -- What waits while a mailbox is full: tests of subscribers, and then fetches as one batch.
-use Rattle.std.specs.Prelude.{◌≡◌, ℕ, Bool, true, false, not, List, [], ◌∷◌, ◌++◌, if◌then◌else◌, filter, map, length, nat_lt, ◌-◌, Option, None, Some, set, take}
+use Rattle.std.specs.Prelude.{◌≡◌, ℕ, Bool, false, List, [], ◌∷◌, ◌++◌, if◌then◌else◌, filter, map, length, nat_lt, ◌-◌, Option, None, Some, set, take}
 use Rattle.std.specs.declared.cmp.Ordering.{Ordering}
 use Rattle.std.specs.List.{list_any}
 use Rattle.resolver_demand.specs.declared.ingress.FetchKey.{FetchKey}
+use Rattle.resolver_demand.specs.declared.ingress.Message.{Message}
+use Rattle.resolver_demand.specs.declared.ingress.Message.TheVariants as messages
 use Rattle.resolver_base.specs.Names.{Names, same_key}
 use Rattle.resolver_base.specs.Subscribers.{joined_subscribers}
 use Rattle.resolver_base.specs.Demand.{Act, Adds, Keeps, Pair, acts, pairs_of, IsSameDemand}
@@ -25,6 +27,10 @@ pub data Told (K S M Q : Type 0) : Type 0 where
 module _ {K S M : Type 0} where
   abbrev pub item_of : FetchKey K S M → Item K S M
   item_of fetch = record { key = fetch.key; subscribers = fetch.subscribers; metadata = fetch.metadata }
+
+  abbrev pub told_of : {Q : Type 0} → Message K S M Q → Told K S M Q
+  told_of (messages.Fetch items) = Fetches (map item_of items.items)
+  told_of (messages.Retain test) = Retains test
 
   abbrev pub backlog_of : {Q : Type 0} → List Q → List (FetchKey K S M) → Backlog K S M Q
   backlog_of retains fetches = record { retains = retains; batch = map item_of fetches }
@@ -73,6 +79,11 @@ module _ {K S M : Type 0} where
   -- only the subscribers that are kept, and the fetches that have any then
   abbrev pub kept : (K → S → Bool) → List (Item K S M) → List (Item K S M)
   kept keep batch = filter has_subscribers (map (pruned keep) batch)
+
+module _ {K S M : Type 0} where
+  -- the keys of the fetches that have a subscriber that is kept
+  abbrev pub keys_kept : (K → S → Bool) → List (FetchKey K S M) → List K
+  keys_kept keep fetches = map (λ item. item.key) (kept keep (map item_of fetches))
 
 module _ {K S M : Type 0} (subscriber : S → S → Ordering) (merged : M → M → M) where
   -- a fetch with what a later one of its key asks for

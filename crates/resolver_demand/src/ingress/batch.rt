@@ -1,13 +1,17 @@
 //! Fetches that wait, one for each key, and their places by key.
 
-ghost use Rattle.std.specs.Prelude.{◌≡◌, map, IfOk, OnOk, OnErr};
-ghost use Rattle.indexmap.specs.IndexSet.{insert_key};
+ghost use Rattle.std.specs.Prelude.{◌≡◌, ◌≤◌, [], ◌∷◌, length, map, IfOk, OnOk, OnErr};
+ghost use Rattle.std.specs.List.{list_any};
+ghost use Rattle.std.specs.Vec.{vec_capacity};
+ghost use Rattle.std.specs.Option.{option_to_list};
+ghost use Rattle.indexmap.specs.IndexSet.{insert_all, insert_key};
 ghost use Rattle.resolver_base.specs.Names.{names};
-ghost use Rattle.resolver_demand.specs.Backlog.{item_of, keys_of_items, merged_item, queued, queued_all, undone, undone_all};
+ghost use Rattle.resolver_demand.specs.Backlog.{item_of, kept, keys_kept, keys_of_items, merged_item, queued, queued_all, undone, undone_all};
 
 use crate::ingress::FetchKey;
 use crate::ingress::metadata::Metadata;
 use indexmap::IndexSet;
+use resolver_base::base::{NonEmptyVec, Predicate};
 use std::alloc::{AllocError, Global};
 use std::hash::Hash;
 use std::mem;
@@ -123,4 +127,74 @@ fn take_back_one<K: Drop, S: Drop, M: Drop>(
     if place < batch.len() {
         batch[place] = was;
     }
+}
+
+/// The keys of the fetches that have a subscriber that is kept.
+pub(super) fn kept_places<K: Ord + Hash + Clone + Drop, S: Ord, M, Q: Predicate<K, S>>(
+    alloc: Global,
+    batch: &[FetchKey<K, S, M>],
+    keep: &Q,
+) -> Result<IndexSet<K>, AllocError>
+    requires keys_clone { (x y : K) → K.is_clone x y → y ≡ x }
+    ensures { IfOk result (λ places. places.keys
+        ≡ insert_all K.eq [] (keys_kept (Q.keeps keep.now) batch.now)) }
+{
+    let mut places = IndexSet::new(alloc);
+    for item in batch {
+        if keeps_any(item, keep) {
+            places.insert(item.key.clone()?)?;
+        }
+    }
+    Ok(places)
+}
+
+/// Whether a subscriber of this fetch is kept.
+fn keeps_any<K: Eq, S: Eq, M, Q: Predicate<K, S>>(item: &FetchKey<K, S, M>, keep: &Q) -> bool
+    ensures { result ≡ list_any (λ one. Q.keeps keep.now item.now.key one.0) item.now.subscribers }
+{
+    let listed = item.subscribers.as_slice();
+    listed.iter().any(|one| keep.keep(&item.key, &one.0))
+}
+
+/// This fetch for the subscribers that are kept, if any is.
+fn pruned_item<K: Eq + Drop, S: Eq + Drop, M: Drop, Q: Predicate<K, S>>(
+    item: FetchKey<K, S, M>,
+    keep: &Q,
+) -> Option<FetchKey<K, S, M>>
+    ensures { map item_of (option_to_list result)
+        ≡ kept (Q.keeps keep.now) (item_of item ∷ []) }
+{
+    let FetchKey {
+        key,
+        subscribers,
+        metadata,
+    } = item;
+    let mut left = subscribers.into_vec();
+    left.retain(|one| keep.keep(&key, &one.0));
+    let Ok(subscribers) = NonEmptyVec::try_from(left) else {
+        return None;
+    };
+    Some(FetchKey {
+        key,
+        subscribers,
+        metadata,
+    })
+}
+
+/// The fetches for the subscribers that are kept, without those that have none then.
+pub(super) fn prune_all<K: Eq + Drop, S: Eq + Drop, M: Drop, Q: Predicate<K, S>>(
+    mut room: Vec<FetchKey<K, S, M>>,
+    batch: Vec<FetchKey<K, S, M>>,
+    keep: &Q,
+) -> Vec<FetchKey<K, S, M>>
+    requires empty { room.items ≡ [] }
+    requires room { length batch.items ≤ vec_capacity room }
+    ensures { map item_of result.items ≡ kept (Q.keeps keep.now) (map item_of batch.items) }
+{
+    for item in batch {
+        if let Some(item) = pruned_item(item, keep) {
+            room.push_reserved(item);
+        }
+    }
+    room
 }

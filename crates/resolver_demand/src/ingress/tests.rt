@@ -79,8 +79,9 @@ fn queues_ten_thousand_keys(rt: HostRuntime) -> Result<(), Fail> {
     let mut pending: Pending<u16, u16, (), All> = Pending::new(alloc);
     assert!(rt; pending.is_empty());
     for key in 0..10_000u16 {
-        pending.fetch(one(alloc, key, 10)?)?;
+        pending.handle(Message::Fetch(one(alloc, key, 10)?))?;
     }
+    pending.handle(Message::Retain(All))?;
     assert!(rt; !pending.is_empty());
     Ok(())
 }

@@ -1,7 +1,7 @@
-use Rattle.std.proofs.Common.{◌≡◌, ◌∙◌, sym, ap, rules, false, Some, get_or, map, List, ◌∷◌, ◌++◌, [], set}
+use Rattle.std.proofs.Common.{◌≡◌, ◌∙◌, sym, ap, rules, false, Some, ◌∷◌, ◌++◌, []}
 use Rattle.std.specs.List.{list_any, position}
 use Rattle.resolver_base.specs.Names.{names}
-use Rattle.resolver_demand.specs.Backlog.{Item, item_of, keys_of_items, merged_item}
+use Rattle.resolver_demand.specs.Backlog.{item_of, keys_of_items}
 use Rattle.resolver_demand.proofs.Queue.{keys-present, queued-absent, queued-present, set-back}
 use Rattle.resolver_demand.proofs.ingress.batch.put.Goals as goal
 

@@ -1,4 +1,4 @@
-use Rattle.std.proofs.Common.{◌≡◌, ◌∙◌, sym, ap, rules, ◌∷◌, ◌++◌, [], map}
+use Rattle.std.proofs.Common.{map}
 use Rattle.resolver_base.specs.Names.{names}
 use Rattle.resolver_demand.specs.Backlog.{backlog_of, item_of}
 use Rattle.resolver_demand.proofs.Right.{apart-queued_all, flips-by, follows-by, right-fetch}
