@@ -9,3 +9,5 @@ pub mod Sending
 pub mod Drawn
 pub mod Priorities
 pub mod Answering
+pub mod Joined
+pub mod Targets

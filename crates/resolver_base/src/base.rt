@@ -4,6 +4,7 @@
 
 pub mod check;
 pub mod draws;
+pub mod faithful;
 pub mod fault;
 pub mod feedback;
 pub mod non_empty_vec;
@@ -18,6 +19,7 @@ pub mod unreliable;
 
 pub use check::Check;
 pub use draws::Draws;
+pub use faithful::Faithful;
 pub use fault::Fault;
 pub use feedback::Feedback;
 pub use non_empty_vec::NonEmptyVec;

@@ -1,2 +1,6 @@
 pub mod ListedRows
 pub mod Emptied
+pub mod Marks
+pub mod Right
+pub mod Queue
+pub mod Pruned

@@ -1,12 +1,22 @@
 //! What a resolver is asked, as its machine takes it.
 
-ghost use Rattle.std.specs.Prelude.{◌<◌, length};
+mod batch;
+pub mod laws;
+mod metadata;
+mod pending;
 
+ghost use Rattle.std.specs.Prelude.{◌≡◌, ◌<◌, [], ◌∷◌, length, IfOk, IfErr, OnOk, OnErr};
+
+pub use metadata::Metadata;
+pub use pending::Pending;
 use resolver_base::base::NonEmptyVec;
+pub use resolver_base::base::Predicate;
+use resolver_base::root::Fetch;
+use std::alloc::{AllocError, Global};
 
 /// A key to fetch and who wants it, with what else is said of the fetch.
 ///
-/// `M` is `()` where nothing is said, and a list of targets where peers may be named.
+/// `M` is `()` where nothing is said, and an optional list of targets where peers may be named.
 #[derive(Debug, Drop)]
 pub struct FetchKey<K, S, M> {
     /// The data that is wanted.
@@ -17,3 +27,33 @@ pub struct FetchKey<K, S, M> {
     pub metadata: M,
     pub ghost wanted: { 0 < length subscribers },
 }
+
+impl<K: Drop, S: Drop, M: Default> FetchKey<K, S, M> {
+    /// A fetch of this key for its one subscriber, of which nothing else is said. Where memory is
+    /// wanting, the fetch is dropped.
+    pub fn from_fetch(alloc: Global, fetch: Fetch<K, S>) -> Result<Self, AllocError>
+        ensures key { IfOk result (λ item. item.key ≡ fetch.key) }
+        ensures one { IfOk result
+            (λ item. item.subscribers ≡ (fetch.subscriber, fetch.mark) ∷ []) }
+        ensures default { IfOk result (λ item. M.is_default item.metadata) }
+    {
+        let subscribers = NonEmptyVec::new(alloc, (fetch.subscriber, fetch.mark))?;
+        Ok(FetchKey {
+            key: fetch.key,
+            subscribers,
+            metadata: M::default(),
+        })
+    }
+}
+
+/// What a resolver is told.
+#[derive(Debug, Drop)]
+pub enum Message<K, S, M, Q> {
+    /// Fetch these.
+    Fetch(Vec<FetchKey<K, S, M>>),
+    /// Keep the subscribers that this test keeps, and no other.
+    Retain(Q),
+}
+
+#[cfg(test)]
+mod tests;

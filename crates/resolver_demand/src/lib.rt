@@ -1,7 +1,8 @@
 //! Who wants which data: the fetches that a resolver is asked for, and who waits for which key.
 //!
-//! `ingress::FetchKey` is a fetch of one key for its subscribers, and `subscribers::Tracker` is
-//! the demand: each key with the subscribers that wait for it.
+//! `ingress::FetchKey` is a fetch of one key for its subscribers, `ingress::Pending` is what waits
+//! while a mailbox is full, and `subscribers::Tracker` is the demand: each key with the
+//! subscribers that wait for it.
 #![tactic(auto)]
 
 pub mod delivery;

@@ -3,9 +3,11 @@
 ghost use Rattle.std.specs.Prelude.{◌≡◌, ◌<◌, ◌≤◌, ◌-◌, insert, [], ◌∷◌, ◌++◌, length, IfOk, IfErr, OnOk, OnErr, slice_get, Some, IsOk, MatchBool};
 ghost use Rattle.std.specs.Iterator.Adapters.{IterYieldsInOrder};
 ghost use Rattle.std.specs.List.{list_any};
+ghost use Rattle.std.specs.Ordering.{is_eq};
 ghost use Rattle.std.specs.Slice.Iter.{iter_rest};
+ghost use Rattle.resolver_base.specs.Joined.{joined};
 ghost use Rattle.resolver_base.specs.Mapped.{MapsInTurn};
-ghost use Rattle.resolver_base.specs.Subscribers.{keeps_any, all_kept};
+ghost use Rattle.resolver_base.specs.Subscribers.{all_kept, joined_subscribers, keeps_any};
 
 use crate::base::predicate::Predicate;
 use std::alloc::{AllocError, AllocFailed, Global};
@@ -95,6 +97,23 @@ impl<T: Drop> NonEmptyVec<T> {
         self.items.insert(index, item)
     }
 
+    /// Puts those of these items last, in their order, that aren't there yet. Where memory is
+    /// wanting, nothing changes. It takes time in proportion to both lengths.
+    pub fn join(&mut self, more: NonEmptyVec<T>) -> Result<(), AllocError>
+    where
+        T: PartialEq,
+        ensures ok { OnOk result (self.new ≡ joined T.eq self.old more) }
+        ensures err { OnErr result (self.new ≡ self.old) }
+    {
+        self.items.reserve(more.len())?;
+        for item in more.items {
+            if !has(&self.items, &item) {
+                self.items.push_reserved(item);
+            }
+        }
+        Ok(())
+    }
+
     /// What `f` gives for each item, in order. The new list's memory is made before the first
     /// call; where it is wanting, `f` isn't called and this list comes back in the error.
     pub fn map_into<U, F: FnMut(T) -> U>(
@@ -122,6 +141,24 @@ impl<T: Drop> NonEmptyVec<T> {
     {
         let NonEmptyVec { items } = self;
         items
+    }
+}
+
+impl<S: Ord + Drop> NonEmptyVec<(S, u64)> {
+    /// Puts those of these subscribers last, in their order, that aren't there yet. One that is
+    /// there keeps its mark. Where memory is wanting, nothing changes. It takes time in proportion
+    /// to both lengths.
+    pub fn join_subscribers(&mut self, more: NonEmptyVec<(S, u64)>) -> Result<(), AllocError>
+        ensures ok { OnOk result (self.new ≡ joined_subscribers S.cmp self.old more) }
+        ensures err { OnErr result (self.new ≡ self.old) }
+    {
+        self.items.reserve(more.len())?;
+        for one in more.items {
+            if !is_listed(&self.items, &one.0) {
+                self.items.push_reserved(one);
+            }
+        }
+        Ok(())
     }
 }
 
@@ -174,6 +211,20 @@ impl<T: Clone> NonEmptyVec<T> {
         let items = self.items.clone()?;
         Ok(NonEmptyVec { items })
     }
+}
+
+/// Whether an item equals this one.
+fn has<T: PartialEq>(items: &[T], item: &T) -> bool
+    ensures { result ≡ list_any (λ other. T.eq other item.now) items.now }
+{
+    items.contains(item)
+}
+
+/// Whether this subscriber is one of these.
+fn is_listed<S: Ord>(list: &[(S, u64)], subscriber: &S) -> bool
+    ensures { result ≡ list_any (λ one. is_eq (S.cmp subscriber.now one.0)) list.now }
+{
+    list.iter().any(|one| subscriber.cmp(&one.0).is_eq())
 }
 
 #[cfg(test)]

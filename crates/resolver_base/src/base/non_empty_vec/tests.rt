@@ -70,3 +70,18 @@ fn keeps_subscribers_or_all(rt: HostRuntime) -> Result<(), Fail> {
     assert_eq!(rt; list.as_slice(), [(10, 7)].as_slice());
     Ok(())
 }
+
+#[test]
+fn joins_without_repeats(rt: HostRuntime) -> Result<(), Fail> {
+    let alloc = rt.alloc();
+    let mut peers = NonEmptyVec::new(alloc, 5u8)?;
+    let more = NonEmptyVec::try_from([6u8, 5, 6].to_vec(alloc)?);
+    peers.join(more.ok().ok_or("three items")?)?;
+    assert_eq!(rt; peers.as_slice(), [5, 6].as_slice());
+
+    let mut subscribers = NonEmptyVec::new(alloc, (5u8, 1u64))?;
+    let more = NonEmptyVec::try_from([(4u8, 2u64), (5, 3), (4, 4)].to_vec(alloc)?);
+    subscribers.join_subscribers(more.ok().ok_or("three items")?)?;
+    assert_eq!(rt; subscribers.as_slice(), [(5, 1), (4, 2)].as_slice());
+    Ok(())
+}

@@ -1,0 +1,19 @@
+use Rattle.std.proofs.Common.{◌≡◌, ◌<◌, ◌+◌, ◌≤◌, ◌∷◌, ◌++◌, [], length, false, rules, arith}
+use Rattle.std.proofs.lemmas.Grind.{common_steps}
+use Rattle.std.specs.List.{list_any}
+use Rattle.std.specs.Ordering.{is_eq}
+use Rattle.std.specs.Vec.{vec_len, vec_capacity}
+use Rattle.std.specs.Vec.Iter.{into_iter_items}
+use Rattle.resolver_base.proofs.base.non_empty_vec.NonEmptyVec+tuple2+S+u64.join_subscribers.Goals as goal
+
+pub loop-one-preserved-then-not-is_listed : goal.loop-one-preserved-then-not-is_listed
+loop-one-preserved-then-not-is_listed g c =
+    let pushed : c.push_reserved.new.self.items ≡ c.loop-one.self-inside.items.items ++ c.in-Some.one ∷ [] = search rules in
+    let new : list_any (λ other. is_eq (g.S.Ord.cmp c.in-Some.one.0 other.0)) c.loop-one.self-inside.items.items ≡ false = search rules in
+    let left : into_iter_items c.loop-one.one-iterator ≡ c.in-Some.one ∷ into_iter_items c.next.new.self = search rules in
+    let before = c.loop-one.invariant.makes in
+    record {
+      some = rw pushed (search rules);
+      room = search rules;
+      makes = grind (arith, common_steps, pushed, new, left, before);
+    }

@@ -1,0 +1,9 @@
+-- The peers that a fetch may ask: any of them, or those of a list.
+use Rattle.std.specs.Prelude.{Bool, List, Option, None, Some}
+use Rattle.resolver_base.specs.Joined.{joined}
+
+-- Two fetches of one key, in turn: any peer will do where one of them names none.
+abbrev pub merged_targets : {P : Type 0} → (P → P → Bool) → Option (List P) → Option (List P) → Option (List P)
+merged_targets same None theirs = None
+merged_targets same (Some mine) None = None
+merged_targets same (Some mine) (Some theirs) = Some (joined same mine theirs)

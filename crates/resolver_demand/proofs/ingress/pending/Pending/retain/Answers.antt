@@ -1,0 +1,34 @@
+use Rattle.std.proofs.Common.{◌≡◌, ◌∙◌, sym, ap, rules, ◌∷◌, ◌++◌, [], map}
+use Rattle.indexmap.specs.IndexSet.{insert_all}
+use Rattle.resolver_base.specs.Names.{names}
+use Rattle.resolver_demand.specs.Backlog.{backlog_of, item_of, kept, keys_kept}
+use Rattle.resolver_demand.proofs.Pruned.{apart-kept, insert_all-apart, keys-of-items}
+use Rattle.resolver_demand.proofs.Right.{flips-by, follows-by, right-retain}
+use Rattle.resolver_demand.proofs.ingress.pending.Pending.retain.Goals as goal
+
+pub invariant_of-self-2 : goal.invariant_of-self-2
+invariant_of-self-2 g c =
+    let n = names g.K.Ord.cmp g.S.Ord.cmp in
+    let keep = g.Q.Predicate.keeps c.args.keep in
+    let apart = apart-kept n keep (map item_of c.self.inside.batch.items) c.self.invariant.apart in
+    let pruned : map item_of c.prune_all.result.items ≡ kept keep (map item_of c.self.inside.batch.items) = search rules in
+    let places : c.in_ok-places.places.keys ≡ insert_all g.K.PartialEq.eq [] (keys_kept keep c.self.inside.batch.items) = search rules in
+    record {
+      keys_are = places
+          ∙ insert_all-apart n g.K.PartialEq.eq g.met.K.Ord.matches_eq (flips-by g.K.Ord.cmp g.met.K.Ord.total) (kept keep (map item_of c.self.inside.batch.items)) apart
+          ∙ ap (λ items. map (λ item. item.key) items) (sym pruned)
+          ∙ sym (keys-of-items c.prune_all.result.items);
+      apart = rw pruned apart;
+    }
+
+pub returns-clause-right : goal.returns-clause-right
+returns-clause-right g c =
+    let n = names g.K.Ord.cmp g.S.Ord.cmp in
+    let right = right-retain n g.M.Metadata.merged
+    (flips-by g.K.Ord.cmp g.met.K.Ord.total) (follows-by g.K.Ord.cmp g.met.K.Ord.total) (follows-by g.S.Ord.cmp g.met.S.Ord.total)
+    g.Q.Predicate.keeps
+    (λ test k l s t same same_too. g.met.Q.Predicate.alike test k l s t (g.met.K.Ord.matches_eq k l ∙ same) (g.met.S.Ord.matches_eq s t ∙ same_too))
+    (backlog_of c.self.inside.retains.items c.self.inside.batch.items) c.args.keep in
+    let pruned : map item_of c.prune_all.result.items ≡ kept (g.Q.Predicate.keeps c.args.keep) (map item_of c.self.inside.batch.items) = search rules in
+    let retains : c.push_back_reserved.new.self.items ≡ c.self.inside.retains.items ++ c.args.keep ∷ [] = search rules in
+    λ d k s. rw (← c.self.view_is, retains, pruned) (right d k s)

@@ -1,0 +1,125 @@
+//! What waits while a mailbox is full.
+
+ghost use Rattle.std.specs.Prelude.{◌≡◌, ◌∷◌, ◌++◌, [], map, length, IsTrue, IfErr, OnOk, OnErr, ◌↔◌};
+ghost use Rattle.resolver_base.specs.declared.base.fault.Fault.TheVariants.{OutOfMemory};
+ghost use Rattle.resolver_base.specs.Names.{names};
+ghost use Rattle.resolver_demand.specs.Backlog.{Fetches, Retains, IsRight, handled, item_of, no_backlog, told_of, waiting};
+
+use crate::ingress::batch::{kept_places, prune_all, put_all};
+use crate::ingress::metadata::Metadata;
+use crate::ingress::{FetchKey, Message};
+use indexmap::IndexSet;
+use resolver_base::base::{Fault, Predicate};
+use std::alloc::Global;
+use std::collections::VecDeque;
+use std::hash::Hash;
+use std::marker::Model;
+use std::mem;
+
+/// What waits: tests of subscribers, and then fetches as one batch, in which each key stands once.
+///
+/// Contracts see both lists.
+#[derive(Drop)]
+pub struct Pending<K: Ord + Hash, S: Ord, M, Q> {
+    retains: VecDeque<Q>,
+    batch: Vec<FetchKey<K, S, M>>,
+    places: IndexSet<K>,
+    alloc: Global,
+}
+
+impl<K: Ord + Hash, S: Ord, M, Q> Model for Pending<K, S, M, Q> {
+    ghost use Rattle.resolver_base.specs.Names.{names};
+    ghost use Rattle.resolver_demand.specs.Backlog.{Backlog, IsFiled, backlog_of};
+
+    ghost Value = { Backlog K S M Q };
+
+    ghost view = { λ a. backlog_of a.retains.items a.batch.items };
+
+    ghost invariant = { λ a. IsFiled (names K.cmp S.cmp) a.places.keys a.batch.items };
+}
+
+impl<
+    K: Ord + Hash + Clone + Drop,
+    S: Ord + Clone + Drop,
+    M: Metadata + Drop,
+    Q: Predicate<K, S> + Drop,
+> Pending<K, S, M, Q> {
+    /// Nothing waits.
+    pub fn new(alloc: Global) -> Self
+        ensures { result ≡ no_backlog }
+    {
+        Pending {
+            retains: VecDeque::new(alloc),
+            batch: Vec::new(alloc),
+            places: IndexSet::new(alloc),
+            alloc,
+        }
+    }
+
+    /// Whether nothing waits.
+    pub fn is_empty(&self) -> bool
+        ensures { IsTrue result ↔ (waiting self.now ≡ []) }
+    {
+        self.retains.is_empty() && self.batch.is_empty()
+    }
+
+    /// Takes a message. Where memory is wanting, nothing changes, and the message is dropped.
+    ///
+    /// A fetch joins the one of its key that waits: new subscribers go last, those that are there
+    /// keep their mark, and what else is said of both merges. A new key goes last. A test prunes
+    /// the fetches that wait at once, and is then queued.
+    ///
+    /// Keys are compared by hash, and the subscribers of a fetch with those of its key. To join a
+    /// fetch takes memory for the subscribers of both; a test takes linear time.
+    pub fn handle(&mut self, message: Message<K, S, M, Q>) -> Result<(), Fault>
+        requires keys_clone { (x y : K) → K.is_clone x y → y ≡ x }
+        requires subscribers_clone { (x y : S) → S.is_clone x y → y ≡ x }
+        ensures ok { OnOk result (self.new
+            ≡ handled (names K.cmp S.cmp) M.merged Q.keeps self.old (told_of message)) }
+        ensures right { OnOk result (IsRight (names K.cmp S.cmp) Q.keeps
+            (waiting self.old ++ told_of message ∷ []) (waiting self.new)) }
+        ensures err { OnErr result (self.new ≡ self.old) }
+        ensures only { IfErr result (λ fault. fault ≡ OutOfMemory) }
+    {
+        match message {
+            Message::Fetch(items) => self.fetch(items),
+            Message::Retain(keep) => self.retain(keep),
+        }
+    }
+
+    /// Queues fetches, one after another.
+    fn fetch(&mut self, items: Vec<FetchKey<K, S, M>>) -> Result<(), Fault>
+        requires keys_clone { (x y : K) → K.is_clone x y → y ≡ x }
+        requires subscribers_clone { (x y : S) → S.is_clone x y → y ≡ x }
+        ensures ok { OnOk result (self.new ≡ handled (names K.cmp S.cmp) M.merged Q.keeps
+            self.old (Fetches (map item_of items.items))) }
+        ensures right { OnOk result (IsRight (names K.cmp S.cmp) Q.keeps
+            (waiting self.old ++ Fetches (map item_of items.items) ∷ []) (waiting self.new)) }
+        ensures err { OnErr result (self.new ≡ self.old) }
+        ensures only { IfErr result (λ fault. fault ≡ OutOfMemory) }
+    {
+        put_all(self.alloc, &mut self.batch, &mut self.places, items)?;
+        Ok(())
+    }
+
+    /// Takes the subscribers that aren't kept from the fetches that wait, and the fetches that have
+    /// none then, and queues the test.
+    fn retain(&mut self, keep: Q) -> Result<(), Fault>
+        requires keys_clone { (x y : K) → K.is_clone x y → y ≡ x }
+        ensures ok { OnOk result (self.new
+            ≡ handled (names K.cmp S.cmp) M.merged Q.keeps self.old (Retains keep)) }
+        ensures right { OnOk result (IsRight (names K.cmp S.cmp) Q.keeps
+            (waiting self.old ++ Retains keep ∷ []) (waiting self.new)) }
+        ensures err { OnErr result (self.new ≡ self.old) }
+        ensures only { IfErr result (λ fault. fault ≡ OutOfMemory) }
+    {
+        self.retains.reserve(1)?;
+        let places = kept_places(self.alloc, self.batch.as_slice(), &keep)?;
+        let room = Vec::with_capacity(self.alloc, self.batch.len())?;
+        let batch = mem::replace(&mut self.batch, Vec::new(self.alloc));
+        self.batch = prune_all(room, batch, &keep);
+        self.places = places;
+        self.retains.push_back_reserved(keep);
+        Ok(())
+    }
+}
