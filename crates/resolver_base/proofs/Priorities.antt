@@ -1,17 +1,17 @@
 -- The pairs of a set that is ordered by priority, and the map that has each item with its priority.
-use Rattle.std.proofs.Common.{◌≡◌, refl, ap, sym, ◌∙◌, true, false, ◌&&◌, List, [], ◌∷◌, length, ◌≤◌, Option, None, Some, is_some, Result, Ok, Err, OnOk, OnErr, cond, rules, arith}
+use Rattle.std.proofs.Common.{◌≡◌, refl, ap, sym, ◌∙◌, true, false, ◌&&◌, List, [], ◌∷◌, length, ◌≤◌, Option, None, Some, is_some, find, Result, Ok, Err, OnOk, OnErr, cond, rules, arith}
 use Rattle.std.proofs.lemmas.Grind.{common_steps}
 use Rattle.std.proofs.lemmas.Cmp.{alike_right, eq_by_cmp_equiv, on_total, then_total, tied_itself}
 use Rattle.std.specs.Cmp.{IsTotalOrder, Equal-is}
 use Rattle.std.specs.List.Sorted.{IsStrictlySortedBy}
-use Rattle.std.specs.Ordering.{is_eq, ordering_then}
+use Rattle.std.specs.Ordering.{is_eq, ordering_reverse, ordering_then}
 use Rattle.std.specs.declared.cmp.Ordering.{Ordering}
 use Rattle.std.specs.declared.cmp.Ordering.TheVariants.{Less, Equal, Greater}
 use Rattle.std.specs.BTreeMap.{is_at}
 use Rattle.std.specs.BTreeSet.{insert_key, replace_key}
 use Rattle.std.specs.Map.{lookup}
 use Rattle.std.specs.Set.{remove_key}
-use Rattle.resolver_base.specs.Priorities.{IsIndexed, has_item, is_of, listed, pair_order, priorities_of, put, without}
+use Rattle.resolver_base.specs.Priorities.{IsIndexed, first_of, has_item, is_of, listed, pair_order, placed, priorities_of, put, without}
 use Rattle.resolver_base.proofs.Ordered.{remove_key-put, replace_key-put}
 
 -- what there is, is one at most
@@ -48,6 +48,27 @@ module _ {I R : Type 0} {by_item : I → I → Ordering} (o : IsTotalOrder by_it
   without-none x [] none = refl
   without-none x (p ∷ pairs) none = let rest = without-none x pairs in grind (arith, common_steps, rest)
 
+  -- equal items have the same priorities
+  pub priorities-same : (x q : I) (pairs : List (R × I)) → by_item x q ≡ Equal → priorities_of by_item pairs x ≡ priorities_of by_item pairs q
+  priorities-same x q [] same = refl
+  priorities-same x q (p ∷ pairs) same =
+      let rest = priorities-same x q pairs same in
+      let of = is_of-same x q p same in
+      grind (arith, common_steps, rest, of)
+
+  -- what is kept of an item equals it
+  pub first_of-tied : (x : I) (pairs : List (R × I)) → by_item x (first_of by_item pairs x) ≡ Equal
+  first_of-tied x [] = tied_itself o x
+  first_of-tied x (p ∷ pairs) =
+      let rest = first_of-tied x pairs in
+      let tied = Equal-is (by_item x p.1) in
+      grind (arith, common_steps, rest, tied)
+
+  -- an item that isn't there is kept itself
+  pub first_of-none : (x : I) (pairs : List (R × I)) → priorities_of by_item pairs x ≡ [] → first_of by_item pairs x ≡ x
+  first_of-none x [] none = refl
+  first_of-none x (p ∷ pairs) none = let rest = first_of-none x pairs in grind (arith, common_steps, rest)
+
   -- an item is there exactly where it has a priority
   pub has_item-some : (q : I) (pairs : List (R × I)) (found : Option R) → priorities_of by_item pairs q ≡ listed found → has_item by_item pairs q ≡ is_some found
   has_item-some q [] None is = refl
@@ -80,17 +101,47 @@ module _ {I R : Type 0} {by_item : I → I → Ordering} (o : IsTotalOrder by_it
         let both = then-equal (by_priority p.0 e.0) (by_item p.1 e.1) in
         grind (arith, common_steps, rest, of, here, tied, both, none)
 
+    -- a pair has its place: its item has its priority, and others have theirs
+    priorities-placed : (p : R × I) (q : I) (pairs : List (R × I))
+        → priorities_of by_item (placed by_priority by_item pairs p) q ≡ cond (is_eq (by_item p.1 q)) (p.0 ∷ []) (priorities_of by_item pairs q)
+    priorities-placed p q pairs =
+        let gone : priorities_of by_item (without by_item p.1 pairs) p.1 ≡ [] = rw (priorities-without p.1 p.1 pairs, tied_itself o p.1) refl in
+        let is = priorities-insert p q (without by_item p.1 pairs) gone in
+        let others = priorities-without p.1 q pairs in
+        grind (arith, common_steps, is, others)
+
+    -- an item is put: it has the priority, and others have theirs
+    pub priorities-put : (p : R × I) (q : I) (pairs : List (R × I))
+        → priorities_of by_item (put by_priority by_item pairs p) q ≡ cond (is_eq (by_item p.1 q)) (p.0 ∷ []) (priorities_of by_item pairs q)
+    priorities-put p q pairs =
+        let kept = first_of by_item pairs p.1 in
+        priorities-placed (p.0, kept) q pairs
+        ∙ ap (λ is. cond (is_eq is) (p.0 ∷ []) (priorities_of by_item pairs q)) (sym (o.congr p.1 kept q (first_of-tied p.1 pairs)))
+
     -- an item is put: the index gives its priority to it, and to no other
     pub indexed-put : (p : R × I) (pairs : List (R × I)) (index next : List (I × R)) → IsIndexed by_priority by_item pairs index
         → ((q : I) → lookup (is_at (by_item q)) next ≡ cond (is_eq (by_item p.1 q)) (Some p.0) (lookup (is_at (by_item q)) index))
         → (q : I) → priorities_of by_item (put by_priority by_item pairs p) q ≡ listed (lookup (is_at (by_item q)) next)
     indexed-put p pairs index next indexed updates q =
-        let gone : priorities_of by_item (without by_item p.1 pairs) p.1 ≡ [] = rw (priorities-without p.1 p.1 pairs, tied_itself o p.1) refl in
-        let is = priorities-insert p q (without by_item p.1 pairs) gone in
-        let others = priorities-without p.1 q pairs in
+        let is = priorities-put p q pairs in
         let before = indexed.same q in
         let after = updates q in
-        grind (arith, common_steps, is, others, before, after)
+        grind (arith, common_steps, is, before, after)
+
+    -- the pair of an item that is there is found by what equals it
+    pub found-pair : (x : I) (held : R) (pairs : List (R × I)) → priorities_of by_item pairs x ≡ held ∷ []
+        → find (is_at (pair_order by_priority by_item (held, x))) pairs ≡ find (is_of by_item x) pairs
+    found-pair x held [] there = refl
+    found-pair x held (p ∷ pairs) there =
+        let rest = found-pair x held pairs in
+        let both = then-equal (by_priority held p.0) (by_item x p.1) in
+        let at : p.0 ≡ held → is_eq (by_priority held p.0) ≡ true = λ is. rw (is, tied_itself u held) refl in
+        grind (arith, common_steps, rest, both, at)
+
+    -- an item that is there is found
+    pub found-some : (x : I) (held : R) (pairs : List (R × I)) → priorities_of by_item pairs x ≡ held ∷ [] → is_some (find (is_of by_item x) pairs) ≡ true
+    found-some x held [] there = cc
+    found-some x held (p ∷ pairs) there = let rest = found-some x held pairs in grind (arith, common_steps, rest)
 
     -- an item is taken out: the index forgets it, and no other
     pub indexed-without : (x : I) (pairs : List (R × I)) (index next : List (I × R)) → IsIndexed by_priority by_item pairs index
@@ -112,22 +163,28 @@ module _ {I R : Type 0} {by_item : I → I → Ordering} (o : IsTotalOrder by_it
     pair_order-total = then_total (on_total (λ p. p.0) u) (on_total (λ p. p.1) o)
 
     -- an item that is there with an equal priority is put again
-    pub put-level : (p : R × I) (held : R) (pairs : List (R × I)) → IsStrictlySortedBy (pair_order by_priority by_item) pairs
-        → priorities_of by_item pairs p.1 ≡ held ∷ [] → by_priority p.0 held ≡ Equal
-        → replace_key (pair_order by_priority by_item) pairs p ≡ put by_priority by_item pairs p
-    put-level p held pairs sorted there level =
-        replace_key-put pair_order-total p pairs sorted
-        ∙ ap (λ es. insert_key (pair_order by_priority by_item) es p) (remove_key-without p.1 p.1 p.0 held pairs (tied_itself o p.1) level there)
+    pub put-level : (x : I) (r held : R) (pairs : List (R × I)) → IsStrictlySortedBy (pair_order by_priority by_item) pairs
+        → priorities_of by_item pairs x ≡ held ∷ [] → by_priority r held ≡ Equal
+        → replace_key (pair_order by_priority by_item) pairs (r, first_of by_item pairs x) ≡ put by_priority by_item pairs (r, x)
+    put-level x r held pairs sorted there level =
+        let kept = first_of by_item pairs x in
+        replace_key-put pair_order-total (r, kept) pairs sorted
+        ∙ ap (λ es. insert_key (pair_order by_priority by_item) es (r, kept))
+        (remove_key-without kept kept r held pairs (tied_itself o kept) level (sym (priorities-same x kept pairs (first_of-tied x pairs)) ∙ there))
 
     -- an item that is there with another priority is put again
-    pub put-apart : (p : R × I) (held : R) (pairs : List (R × I)) → IsStrictlySortedBy (pair_order by_priority by_item) pairs
-        → priorities_of by_item pairs p.1 ≡ held ∷ [] → is_eq (by_priority p.0 held) ≡ false
-        → remove_key (is_at (pair_order by_priority by_item (held, p.1))) (insert_key (pair_order by_priority by_item) pairs p) ≡ put by_priority by_item pairs p
-    put-apart p held pairs sorted there apart =
-        let back : is_eq (by_priority held p.0) ≡ false = (eq_by_cmp_equiv u).symm held p.0 ∙ apart in
-        let other : is_eq (pair_order by_priority by_item (held, p.1) p) ≡ false = then-equal (by_priority held p.0) (by_item p.1 p.1) ∙ rw back refl in
-        remove_key-put pair_order-total (held, p.1) p pairs other sorted
-        ∙ ap (λ es. insert_key (pair_order by_priority by_item) es p) (remove_key-without p.1 p.1 held held pairs (tied_itself o p.1) (tied_itself u held) there)
+    pub put-apart : (x : I) (r held : R) (pairs : List (R × I)) → IsStrictlySortedBy (pair_order by_priority by_item) pairs
+        → priorities_of by_item pairs x ≡ held ∷ [] → is_eq (by_priority r held) ≡ false
+        → remove_key (is_at (pair_order by_priority by_item (held, x))) (insert_key (pair_order by_priority by_item) pairs (r, first_of by_item pairs x))
+        ≡ put by_priority by_item pairs (r, x)
+    put-apart x r held pairs sorted there apart =
+        let kept = first_of by_item pairs x in
+        let tied = first_of-tied x pairs in
+        let back : is_eq (by_priority held r) ≡ false = (eq_by_cmp_equiv u).symm held r ∙ apart in
+        let other : is_eq (pair_order by_priority by_item (held, x) (r, kept)) ≡ false = then-equal (by_priority held r) (by_item x kept) ∙ rw back refl in
+        remove_key-put pair_order-total (held, x) (r, kept) pairs other sorted
+        ∙ ap (λ es. insert_key (pair_order by_priority by_item) es (r, kept))
+        (remove_key-without kept x held held pairs (o.antisymm kept x ∙ ap ordering_reverse tied) (tied_itself u held) (sym (priorities-same x kept pairs tied) ∙ there))
 
 -- what two facts of either outcome give
 pub either : {A E P X Y Z W : Type 0} (result : Result A E) → OnOk result X → OnOk result Y → OnErr result Z → OnErr result W

@@ -1,6 +1,7 @@
 -- A set that is ordered by priority, as its pairs of a priority and an item: each item once, in the order of the pairs.
-use Rattle.std.specs.Prelude.{◌≡◌, Bool, not, List, [], ◌∷◌, filter, map, Option, None, Some, is_some}
+use Rattle.std.specs.Prelude.{◌≡◌, Bool, not, List, [], ◌∷◌, filter, map, Option, None, Some, is_some, find}
 use Rattle.std.specs.List.{list_any}
+use Rattle.std.specs.Option.{option_map_or}
 use Rattle.std.specs.List.Sorted.{IsStrictlySortedBy}
 use Rattle.std.specs.Ordering.{is_eq, ordering_then}
 use Rattle.std.specs.declared.cmp.Ordering.{Ordering}
@@ -32,6 +33,10 @@ module _ {I R : Type 0} (by_item : I → I → Ordering) where
   abbrev pub priorities_of : List (R × I) → I → List R
   priorities_of pairs item = map (λ p. p.0) (filter (is_of item) pairs)
 
+  -- an item as it is there, or else as it is given
+  abbrev pub first_of : List (R × I) → I → I
+  first_of pairs item = option_map_or (λ p. p.1) (find (is_of item) pairs) item
+
   -- the pairs whose item the index has
   abbrev pub indexed : List (I × R) → List (R × I) → List (R × I)
   indexed index pairs = filter (λ p. is_some (lookup (is_at (by_item p.1)) index)) pairs
@@ -42,8 +47,12 @@ retained test pairs = filter (λ p. test p.1) pairs
 
 module _ {I R : Type 0} (by_priority : R → R → Ordering) (by_item : I → I → Ordering) where
   -- a pair at its place, as the only one of its item
+  abbrev pub placed : List (R × I) → R × I → List (R × I)
+  placed pairs p = insert_key (pair_order by_priority by_item) (without by_item p.1 pairs) p
+
+  -- An item that is there stays, and takes the priority.
   abbrev pub put : List (R × I) → R × I → List (R × I)
-  put pairs p = insert_key (pair_order by_priority by_item) (without by_item p.1 pairs) p
+  put pairs p = placed pairs (p.0, first_of by_item pairs p.1)
 
   -- the pairs in order, and a map that has each item with its priority
   pub record IsIndexed (pairs : List (R × I)) (index : List (I × R)) : Type 0 where

@@ -16,7 +16,6 @@ use std::cmp::Ordering;
 use std::collections::btree_set::Iter;
 use std::collections::{BTreeMap, BTreeSet};
 use std::marker::Model;
-use std::mem;
 
 /// Items with their priorities, each item once, ordered by priority and then by item.
 ///
@@ -93,7 +92,7 @@ impl<I: Ord, R: Ord> PrioritySet<I, R> {
 }
 
 impl<I: Ord + Drop, R: Ord + Drop> PrioritySet<I, R> {
-    /// Puts an item at its place. An equal item that is there gives way to it, with its priority.
+    /// Puts an item at its place. An equal item that is there stays, and takes the priority.
     /// Where memory is wanting, nothing changes.
     ///
     /// The item and the priority are cloned; clones are to equal their sources.
@@ -107,10 +106,10 @@ impl<I: Ord + Drop, R: Ord + Drop> PrioritySet<I, R> {
         ensures err { OnErr result (self.new ≡ self.old) }
         ensures only { IfErr result (λ fault. fault ≡ OutOfMemory) }
     {
-        let pair = (priority.clone()?, item.clone()?);
         if let Some(held) = self.priorities.get_mut(&item) {
-            return move_item(&mut self.ordered, held, pair, item, priority);
+            return move_item(&mut self.ordered, held, item, priority);
         }
+        let pair = (priority.clone()?, item.clone()?);
         self.priorities.insert(item, priority)?;
         if let Err(refused) = self.ordered.insert(pair) {
             self.priorities.remove(&refused.value.1);
@@ -182,14 +181,14 @@ fn keeps<I, F: Fn(&I) -> bool>(keep: &F, item: &I) -> bool
 }
 
 /// Gives an item that is there, and has the priority `held` so far, another one.
-fn move_item<I: Ord + Drop, R: Ord + Drop>(
+fn move_item<I: Ord + Clone + Drop, R: Ord + Clone + Drop>(
     ordered: &mut BTreeSet<(R, I)>,
     held: &mut R,
-    pair: (R, I),
     item: I,
     priority: R,
 ) -> Result<(), Fault>
-    requires same { pair ≡ (priority, item) }
+    requires items_clone { (x y : I) → I.is_clone x y → y ≡ x }
+    requires priorities_clone { (x y : R) → R.is_clone x y → y ≡ x }
     requires sorted { IsStrictlySortedBy (pair_order R.cmp I.cmp) ordered.old.keys }
     requires there { priorities_of I.cmp ordered.old.keys item ≡ held.old ∷ [] }
     ensures ok { OnOk result (ordered.new.keys ≡ put R.cmp I.cmp ordered.old.keys (priority, item)) }
@@ -199,13 +198,18 @@ fn move_item<I: Ord + Drop, R: Ord + Drop>(
     ensures sorted { IsStrictlySortedBy (pair_order R.cmp I.cmp) ordered.new.keys }
     ensures only { IfErr result (λ fault. fault ≡ OutOfMemory) }
 {
+    let before = (held.clone()?, item);
+    let Some(there) = ordered.get(&before) else {
+        unreachable!()
+    };
+    let pair = (priority.clone()?, there.1.clone()?);
     if priority.cmp(held) == Ordering::Equal {
         ordered.replace(pair)?;
         *held = priority;
     } else {
         ordered.insert(pair)?;
-        let left = mem::replace(held, priority);
-        ordered.remove(&(left, item));
+        *held = priority;
+        ordered.remove(&before);
     }
     Ok(())
 }

@@ -1,4 +1,5 @@
 use super::*;
+use crate::root::Fetch;
 use std::test::Fail;
 
 /// These items with their priorities, put one after another.
@@ -42,6 +43,27 @@ fn replaces_a_priority(rt: HostRuntime) -> Result<(), Fail> {
         listed.push(*pair)?;
     }
     assert_eq!(rt; listed.as_slice(), [(20, 2), (25, 3), (30, 1)].as_slice());
+    Ok(())
+}
+
+/// Fetches that compare equal, whatever their marks.
+fn marked(mark: u64) -> Fetch<u8, u8> {
+    Fetch {
+        key: 1,
+        subscriber: 1,
+        mark,
+    }
+}
+
+#[test]
+fn an_item_that_is_there_stays(rt: HostRuntime) -> Result<(), Fail> {
+    let mut set = PrioritySet::new(rt.alloc());
+    set.put(marked(1), 10)?;
+    set.put(marked(2), 30)?;
+    set.put(marked(3), 30)?;
+    let kept = set.pop().map(|entry| (entry.0.mark, entry.1));
+    assert_eq!(rt; kept, Some((1, 30)));
+    assert!(rt; set.is_empty());
     Ok(())
 }
 

@@ -4,8 +4,8 @@ use Rattle.std.specs.BTreeSet.{insert_key}
 use Rattle.std.specs.Map.{lookup, set_value}
 use Rattle.std.specs.Ordering.{is_eq}
 use Rattle.std.proofs.lemmas.Map.Steps.{set_value_same}
-use Rattle.resolver_base.specs.Priorities.{listed, pair_order, put}
-use Rattle.resolver_base.proofs.Priorities.{either, indexed-put, without-none}
+use Rattle.resolver_base.specs.Priorities.{listed, pair_order, put, without}
+use Rattle.resolver_base.proofs.Priorities.{either, first_of-none, indexed-put, without-none}
 use Rattle.resolver_base.proofs.base.priority_set.PrioritySet.put.Goals as goal
 
 -- an item that is there was moved, or all is as it was
@@ -32,11 +32,14 @@ invariant_of-self g c =
 placed : (g : _) (c : goal.In_default-insert g) → c.insert-2.new.self.keys ≡ put g.R.Ord.cmp g.I.Ord.cmp c.self.inside.ordered.keys (c.args.priority, c.args.item)
 placed g c =
     let none : lookup (is_at (g.I.Ord.cmp c.args.item)) c.self.inside.priorities.entries ≡ None = search rules in
+    let keys = c.self.inside.ordered.keys in
+    let order = pair_order g.R.Ord.cmp g.I.Ord.cmp in
+    let gone = c.self.invariant.same c.args.item ∙ ap listed none in
     let first : c.in_ok-clone.field-0 ≡ c.args.priority = search rules in
     let second : c.in_ok-clone-2.field-0 ≡ c.args.item = search rules in
     rw (first, second) at c.in_default-insert.ensures.keys
-    ∙ ap (λ es. insert_key (pair_order g.R.Ord.cmp g.I.Ord.cmp) es (c.args.priority, c.args.item))
-    (sym (without-none g.met.I.Ord.total c.args.item c.self.inside.ordered.keys (c.self.invariant.same c.args.item ∙ ap listed none)))
+    ∙ ap (λ es. insert_key order es (c.args.priority, c.args.item)) (sym (without-none g.met.I.Ord.total c.args.item keys gone))
+    ∙ ap (λ kept. insert_key order (without g.I.Ord.cmp kept keys) (c.args.priority, kept)) (sym (first_of-none g.met.I.Ord.total c.args.item keys gone))
 
 pub invariant_of-self-in_default-insert : goal.invariant_of-self-in_default-insert
 invariant_of-self-in_default-insert g c = record {
