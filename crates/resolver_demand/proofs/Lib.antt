@@ -4,3 +4,7 @@ pub mod Marks
 pub mod Right
 pub mod Queue
 pub mod Pruned
+pub mod Drained
+pub mod Fetched
+pub mod Calls
+pub mod Desks

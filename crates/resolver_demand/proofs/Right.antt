@@ -15,7 +15,7 @@ use Rattle.resolver_demand.proofs.Marks.{both-true, or_else, or_else-none, or_el
 
 module _ {K S M Q : Type 0} (n : Names K S) (keeps : Q → K → S → Bool) where
   -- some messages and then others
-  acts-told : (xs ys : List (Told K S M Q)) (d : List (Pair K S)) → acts n (map (act_of keeps) (xs ++ ys)) d ≡ acts n (map (act_of keeps) ys) (acts n (map (act_of keeps) xs) d)
+  pub acts-told : (xs ys : List (Told K S M Q)) (d : List (Pair K S)) → acts n (map (act_of keeps) (xs ++ ys)) d ≡ acts n (map (act_of keeps) ys) (acts n (map (act_of keeps) xs) d)
   acts-told [] ys d = refl
   acts-told (Fetches items ∷ xs) ys d = acts-told xs ys (added_all n d (asked_by items))
   acts-told (Retains test ∷ xs) ys d = acts-told xs ys (kept_pairs (keeps test) d)
@@ -86,7 +86,7 @@ module _ {K S : Type 0} (keep : K → S → Bool) where
     one_kept false false true m d e same after = after
     one_kept false false false m d e same after = after
 
-    mark_of-kept : (d : List (Pair K S)) (k : K) (s : S) → mark_of n (kept_pairs keep d) k s ≡ cond (keep k s) (mark_of n d k s) None
+    pub mark_of-kept : (d : List (Pair K S)) (k : K) (s : S) → mark_of n (kept_pairs keep d) k s ≡ cond (keep k s) (mark_of n d k s) None
     mark_of-kept [] k s = none_kept (keep k s)
     mark_of-kept (p ∷ d) k s =
         of-cond (keep p.key p.subscriber)

@@ -1,7 +1,7 @@
 -- What waits while a mailbox is full: tests of subscribers, and then fetches as one batch.
-use Rattle.std.specs.Prelude.{◌≡◌, ℕ, Bool, false, List, [], ◌∷◌, ◌++◌, if◌then◌else◌, filter, map, length, nat_lt, ◌-◌, Option, None, Some, set, take}
+use Rattle.std.specs.Prelude.{◌≡◌, ℕ, Bool, false, List, [], ◌∷◌, ◌++◌, if◌then◌else◌, filter, map, length, nat_lt, ◌-◌, Option, None, Some, IfSome, set, take}
 use Rattle.std.specs.declared.cmp.Ordering.{Ordering}
-use Rattle.std.specs.List.{list_any}
+use Rattle.std.specs.List.{FoldsTo, list_any}
 use Rattle.resolver_demand.specs.declared.ingress.FetchKey.{FetchKey}
 use Rattle.resolver_demand.specs.declared.ingress.Message.{Message}
 use Rattle.resolver_demand.specs.declared.ingress.Message.TheVariants as messages
@@ -59,6 +59,33 @@ module _ {K S M : Type 0} where
   -- the messages that wait, in their order
   abbrev pub waiting : {Q : Type 0} → Backlog K S M Q → List (Told K S M Q)
   waiting backlog = map Retains backlog.retains ++ batch_told backlog.batch
+
+  -- what waits behind the first message
+  abbrev pub behind_first : {Q : Type 0} → Backlog K S M Q → Backlog K S M Q
+  behind_first {Q = Q} backlog = rest backlog.retains where
+    rest : List Q → Backlog K S M Q
+    rest [] = no_backlog
+    rest (test ∷ retains) = record backlog { retains = retains }
+
+  -- a message that isn't taken is handed back
+  abbrev pub HandsBack : {Q F : Type 0} → (F → Message K S M Q → Option (Message K S M Q) → F → Type 0) → Type 0
+  HandsBack {Q = Q} {F = F} step = (push : F) (message : Message K S M Q) (answer : Option (Message K S M Q)) (after : F)
+      → step push message answer after → IfSome answer (λ back. told_of back ≡ told_of message)
+
+  -- nothing is left, or the first message is handed back
+  abbrev pub IsRefused : {Q F : Type 0} → (F → Message K S M Q → Option (Message K S M Q) → F → Type 0) → F → List (Told K S M Q) → Type 0
+  IsRefused step push [] = Unit {0}
+  IsRefused {Q = Q} {F = F} step push (told ∷ behind) = (message : Message K S M Q) × (back : Message K S M Q) × (after : F) × (told_of message ≡ told) × step push message (Some back) after
+
+  -- what waits is taken in order, up to what is left
+  abbrev pub Takes : {Q F : Type 0} → (F → Message K S M Q → Option (Message K S M Q) → F → Type 0) → F → F → List (Told K S M Q) → List (Told K S M Q) → Type 0
+  Takes {Q = Q} {F = F} step push last was left = (taken : List (Message K S M Q))
+      × FoldsTo (λ state message after. step state message None after) push taken last
+      × (was ≡ map told_of taken ++ left)
+
+  -- What waits is taken in order, until nothing is left or a message is handed back.
+  abbrev pub Drains : {Q F : Type 0} → (F → Message K S M Q → Option (Message K S M Q) → F → Type 0) → F → List (Told K S M Q) → List (Told K S M Q) → Type 0
+  Drains {F = F} step push was left = (last : F) × Takes step push last was left × IsRefused step last left
 
   -- the pairs of some fetches
   abbrev pub asked_by : List (Item K S M) → List (Pair K S)

@@ -49,6 +49,9 @@ module _ {V C State : Type 0} where
   abbrev pub with_response : Option (Response V C) → Entry V C State → Entry V C State
   with_response r e = record e { response = r }
 
+  abbrev pub with_state : State → Entry V C State → Entry V C State
+  with_state state e = record e { state = state }
+
 abbrev pub accepted : {V C : Type 0} → Response V C → Response V C
 accepted r = record r { accepted = true }
 
@@ -85,21 +88,21 @@ module _ {K S V C State : Type 0} (cmp : K → K → Ordering) where
   abbrev pub changed : K → (Entry V C State → Entry V C State) → Numbered K S V C State → Numbered K S V C State
   changed key change d = record d { keys = changed_at (is_at (cmp key)) (entry_of d key) change d.keys }
 
-  -- a delivery takes the next number, and its key's entry is changed
-  abbrev pub begun : Delivery K S → C → Bool → (Entry V C State → Entry V C State) → Numbered K S V C State → Numbered K S V C State
-  begun delivery context accepted change d = record (changed delivery.key (λ e. numbered d.next (change e)) d) {
-    going = insert_entry nat_cmp d.going d.next (record { delivery = delivery; context = context; accepted = accepted });
+  -- a delivery of the response with this name takes the next number, and its key's entry is changed
+  abbrev pub begun : Delivery K S → (name : ℕ) → C → Bool → (Entry V C State → Entry V C State) → Numbered K S V C State → Numbered K S V C State
+  begun delivery name context accepted change d = record (changed delivery.key (λ e. numbered d.next (change e)) d) {
+    going = insert_entry nat_cmp d.going d.next (record { response = name; delivery = delivery; context = context; accepted = accepted });
     next = d.next + 1;
   }
 
   -- a new response, named by the number of its first delivery
   abbrev pub delivered : Delivery K S → C → V → Numbered K S V C State → Numbered K S V C State
   delivered delivery context value d =
-      begun delivery context false (with_response (Some (record { name = d.next; value = value; context = context; accepted = false }))) d
+      begun delivery d.next context false (with_response (Some (record { name = d.next; value = value; context = context; accepted = false }))) d
 
   abbrev pub begun_again : Delivery K S → Option (Response V C) → Numbered K S V C State → Numbered K S V C State
   begun_again delivery None d = d
-  begun_again delivery (Some r) d = begun delivery r.context r.accepted (λ e. e) d
+  begun_again delivery (Some r) d = begun delivery r.name r.context r.accepted (λ e. e) d
 
   -- the cached response once more
   abbrev pub redelivered : Delivery K S → Numbered K S V C State → Numbered K S V C State
@@ -122,7 +125,7 @@ module _ {K S V C State : Type 0} (cmp : K → K → Ordering) where
 
 -- what is said of a delivery
 abbrev pub completion : {K S C : Type 0} → Open K S C → Option Outcome → Bool → Completion K S C
-completion o verdict canceled = record { context = o.context; delivery = o.delivery; outcome = verdict; canceled = canceled; previously_accepted = o.accepted }
+completion o verdict canceled = record { response = o.response; context = o.context; delivery = o.delivery; outcome = verdict; canceled = canceled; previously_accepted = o.accepted }
 
 -- A canceled delivery without a verdict is aborted.
 abbrev pub completion_of : {K S C : Type 0} → Open K S C → Option Outcome → Bool → Result (Completion K S C) Aborted

@@ -1,3 +1,6 @@
 pub mod Entries
 pub mod Rows
 pub mod Backlog
+pub mod Fetched
+pub mod Book
+pub mod Desk

@@ -1,12 +1,16 @@
 //! What a resolver is asked, as its machine takes it.
 
 mod batch;
+mod copies;
+mod drain;
+mod kept;
 pub mod laws;
 mod metadata;
 mod pending;
 
 ghost use Rattle.std.specs.Prelude.{◌≡◌, ◌<◌, [], ◌∷◌, length, IfOk, IfErr, OnOk, OnErr};
 
+pub use kept::{Kept, Test};
 pub use metadata::Metadata;
 pub use pending::Pending;
 use resolver_base::base::NonEmptyVec;

@@ -2,9 +2,10 @@
 //!
 //! `ingress::FetchKey` is a fetch of one key for its subscribers, `ingress::Pending` is what waits
 //! while a mailbox is full, and `subscribers::Tracker` is the demand: each key with the
-//! subscribers that wait for it.
+//! subscribers that wait for it. `mailbox::Desk` holds what callers leave for a resolver.
 #![tactic(auto)]
 
 pub mod delivery;
 pub mod ingress;
+pub mod mailbox;
 pub mod subscribers;

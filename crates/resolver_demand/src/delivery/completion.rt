@@ -8,6 +8,8 @@ use std::alloc::AllocError;
 /// A delivery that is over.
 #[derive(Clone, Debug, Drop, PartialEq, Eq)]
 pub struct Completion<K, S, Context> {
+    /// The response that was handed out, by the number of the first delivery that carried it.
+    pub response: u64,
     /// What was said of the delivery when it began.
     pub context: Context,
     /// What was handed out.
@@ -29,6 +31,7 @@ impl<K: Clone, S: Clone, Context: Clone> Completion<K, S, Context> {
         ensures same { IfOk result (λ completion. completion ≡ self.now) }
     {
         Ok(Completion {
+            response: self.response,
             context: self.context.clone()?,
             delivery: self.delivery.clone()?,
             outcome: self.outcome,

@@ -9,7 +9,7 @@ ghost use Rattle.std.specs.Map.{keys_of, lookup};
 ghost use Rattle.std.specs.Map.Iter.{ShowsInOrder, deref_pair};
 ghost use Rattle.resolver_demand.specs.declared.delivery.entry.Entry.{Entry};
 ghost use Rattle.std.specs.BTreeMap.{get, is_at};
-ghost use Rattle.resolver_demand.specs.Entries.{accepted, changed_at, ended, numbered, with_response};
+ghost use Rattle.resolver_demand.specs.Entries.{accepted, changed_at, ended, numbered, with_response, with_state};
 ghost use Rattle.resolver_base.specs.declared.base.fault.Fault.TheVariants.{OutOfMemory, Exhausted};
 
 use crate::delivery::completion::{Aborted, Completion};
@@ -47,7 +47,7 @@ impl<K: Ord, S, V, Context, State> Model for Entries<K, S, V, Context, State> {
 
 impl<K: Ord + Drop, S: Drop, V: Drop, Context: Drop, State: Drop> Entries<K, S, V, Context, State> {
     ghost use Rattle.resolver_base.specs.Answering.{AnswersBy};
-    ghost use Rattle.resolver_demand.specs.Entries.{accepted, changed, delivered, inserted, is_accepted, is_tracked, number_of, redelivered, refusal_at, removed, response_changed, response_of, retained, state_of, with_response};
+    ghost use Rattle.resolver_demand.specs.Entries.{accepted, changed, delivered, entry_of, inserted, is_accepted, is_tracked, number_of, redelivered, refusal_at, removed, response_changed, response_of, retained, state_of, with_response, with_state};
 
     /// No key and no delivery. The first delivery will have the number 0.
     pub fn new(alloc: Global) -> Self
@@ -106,6 +106,14 @@ impl<K: Ord + Drop, S: Drop, V: Drop, Context: Drop, State: Drop> Entries<K, S, 
         count
     }
 
+    /// Lets all keys go, and closes all deliveries. The numbers go on.
+    pub fn clear(&mut self)
+        ensures { self.new ≡ record self.old { keys = []; going = [] } }
+    {
+        self.drain();
+        self.going.clear();
+    }
+
     /// Lets the keys go that aren't kept, and answers how many these were. `keep` is pure.
     pub fn retain<F: Fn(&K) -> bool>(&mut self, keep: F) -> usize
         requires { F.IsAlwaysCallable keep }
@@ -151,6 +159,7 @@ impl<K: Ord + Drop, S: Drop, V: Drop, Context: Drop, State: Drop> Entries<K, S, 
             accepted: false,
         };
         let begun = Open {
+            response: number,
             delivery,
             context,
             accepted: false,
@@ -181,6 +190,7 @@ impl<K: Ord + Drop, S: Drop, V: Drop, Context: Drop, State: Drop> Entries<K, S, 
             unreachable!()
         };
         let begun = Open {
+            response: response.name,
             delivery,
             context: response.context.clone()?,
             accepted: response.accepted,
@@ -193,25 +203,39 @@ impl<K: Ord + Drop, S: Drop, V: Drop, Context: Drop, State: Drop> Entries<K, S, 
         Ok(number)
     }
 
+    /// What is kept of a key, if it is tracked.
+    pub fn get(&self, key: &K) -> Option<&Entry<V, Context, State>>
+        ensures { option_copied result ≡ entry_of K.cmp self.now key.now }
+    {
+        self.keys.get(key)
+    }
+
     /// The number of a key's delivery in progress.
     pub fn number(&self, key: &K) -> Option<u64>
         ensures { result ≡ number_of K.cmp self.now key.now }
     {
-        self.keys.get(key)?.number
+        self.get(key)?.number
     }
 
     /// A key's cached response.
     pub fn response(&self, key: &K) -> Option<&Response<V, Context>>
         ensures { option_copied result ≡ response_of K.cmp self.now key.now }
     {
-        self.keys.get(key)?.response.as_ref()
+        self.get(key)?.response.as_ref()
     }
 
     /// What the caller keeps with a key.
     pub fn state(&self, key: &K) -> Option<&State>
         ensures { option_copied result ≡ state_of K.cmp self.now key.now }
     {
-        Some(&self.keys.get(key)?.state)
+        Some(&self.get(key)?.state)
+    }
+
+    /// Gives a key another state, if it is tracked.
+    pub fn set_state(&mut self, key: &K, state: State)
+        ensures { self.new ≡ changed K.cmp key.now (with_state state) self.old }
+    {
+        put_state(&mut self.keys, key, state);
     }
 
     /// Whether a key has a cached response that was accepted.
@@ -286,6 +310,19 @@ fn hold<K: Ord, V, Context, State>(
     }
 }
 
+fn put_state<K: Ord, V, Context, State: Drop>(
+    keys: &mut BTreeMap<K, Entry<V, Context, State>>,
+    key: &K,
+    state: State,
+)
+    ensures { keys.new.entries ≡ changed_at (is_at (K.cmp key.now)) (get K.cmp keys.old key.now)
+        (with_state state) keys.old.entries }
+{
+    if let Some(entry) = keys.get_mut(key) {
+        entry.state = state;
+    }
+}
+
 fn accept<K: Ord, V, Context, State>(keys: &mut BTreeMap<K, Entry<V, Context, State>>, key: &K)
     ensures { keys.new.entries ≡ changed_at (is_at (K.cmp key.now)) (get K.cmp keys.old key.now)
         (λ e. with_response (option_map accepted e.response) e) keys.old.entries }
@@ -342,6 +379,7 @@ impl<K: Ord + Drop, S: Drop, V: Drop, Context: Drop, State: Drop> Entries<K, S, 
             return Err(Aborted {});
         }
         Ok(Completion {
+            response: open.response,
             context: open.context,
             delivery: open.delivery,
             outcome: verdict,

@@ -29,6 +29,8 @@ pub struct Entry<V, Context, State> {
 /// A delivery that no verdict was given on.
 #[derive(Debug, Drop)]
 pub struct Open<K, S, Context> {
+    /// The response that it carries, by the number of the first delivery that did.
+    pub response: u64,
     /// What was handed out.
     pub delivery: Delivery<K, S>,
     /// What was said of the response when it came.

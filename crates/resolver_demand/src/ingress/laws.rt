@@ -1,8 +1,10 @@
 //! What is true of a backlog whatever waits in it.
 
-ghost use Rattle.std.specs.Prelude.{◌++◌, ◌∷◌, []};
+ghost use Rattle.std.specs.Prelude.{◌≡◌, ◌++◌, ◌∷◌, [], List, Option};
 ghost use Rattle.resolver_base.specs.Names.{names};
-ghost use Rattle.resolver_demand.specs.Backlog.{Backlog, IsApart, IsRight, Told, handled, waiting};
+ghost use Rattle.resolver_base.specs.Targets.{merged_targets};
+ghost use Rattle.resolver_demand.specs.Backlog.{Backlog, IsApart, IsRight, Item, Told, handled, queued_all, waiting};
+ghost use Rattle.resolver_demand.specs.Fetched.{fetched_targets};
 
 use crate::ingress::metadata::Metadata;
 use resolver_base::base::Predicate;
@@ -13,4 +15,15 @@ pub fn handling_is_right<K: Ord, S: Ord, M: Metadata, Q: Predicate<K, S>>()
         → IsApart (names K.cmp S.cmp) backlog.batch
         → IsRight (names K.cmp S.cmp) Q.keeps (waiting backlog ++ message ∷ [])
         (waiting (handled (names K.cmp S.cmp) M.merged Q.keeps backlog message)) }
+{}
+
+/// A machine that takes the fetches that wait after a message as one fetch ends with the same
+/// targets as one that takes, as one fetch, those that waited before and then the message's.
+pub fn targets_stay<K: Ord, S: Ord, P: Eq>()
+    ensures { (batch items : List (Item K S (Option (List P))))
+        (key : K) (was : Option (Option (List P)))
+        → IsApart (names K.cmp S.cmp) batch
+        → fetched_targets (names K.cmp S.cmp) P.eq key was
+        (queued_all (names K.cmp S.cmp) (merged_targets P.eq) batch items)
+        ≡ fetched_targets (names K.cmp S.cmp) P.eq key was (batch ++ items) }
 {}

@@ -1,11 +1,13 @@
 //! What waits while a mailbox is full.
 
-ghost use Rattle.std.specs.Prelude.{◌≡◌, ◌∷◌, ◌++◌, [], map, length, IsTrue, IfErr, OnOk, OnErr, ◌↔◌};
+ghost use Rattle.std.specs.Prelude.{◌≡◌, ◌∷◌, ◌++◌, [], map, length, take, IsTrue, IfErr, OnOk, OnErr, ◌↔◌};
 ghost use Rattle.resolver_base.specs.declared.base.fault.Fault.TheVariants.{OutOfMemory};
+ghost use Rattle.std.specs.Option.{option_to_list};
 ghost use Rattle.resolver_base.specs.Names.{names};
-ghost use Rattle.resolver_demand.specs.Backlog.{Fetches, Retains, IsRight, handled, item_of, no_backlog, told_of, waiting};
+ghost use Rattle.resolver_demand.specs.Backlog.{Drains, Fetches, HandsBack, Retains, IsRight, batch_told, behind_first, handled, item_of, no_backlog, told_of, waiting};
 
 use crate::ingress::batch::{kept_places, prune_all, put_all};
+use crate::ingress::drain::{drain_retains, offer_batch};
 use crate::ingress::metadata::Metadata;
 use crate::ingress::{FetchKey, Message};
 use indexmap::IndexSet;
@@ -122,4 +124,60 @@ impl<
         self.retains.push_back_reserved(keep);
         Ok(())
     }
+
+    /// Offers what waits: the tests in their order, and then all fetches as one batch. What `push`
+    /// hands back is put back at its place, and the drain stops. It takes no memory.
+    ///
+    /// `push` answers nothing where it takes a message, and else that same message.
+    pub fn drain<F>(&mut self, mut push: F)
+    where
+        F: FnMut(Message<K, S, M, Q>) -> Option<Message<K, S, M, Q>>,
+        requires callable { F.IsAlwaysCallable push }
+        requires hands_back { HandsBack F.step }
+        ensures { Drains F.step push (waiting self.old) (waiting self.new) }
+    {
+        if drain_retains(&mut self.retains, &mut push) {
+            self.drain_batch(&mut push);
+        }
+    }
+
+    /// Takes the first message that waits: a test, or all fetches as one batch. It takes no memory.
+    pub(crate) fn pop(&mut self) -> Option<Message<K, S, M, Q>>
+        ensures first { map told_of (option_to_list result) ≡ take 1 (waiting self.old) }
+        ensures rest { self.new ≡ behind_first self.old }
+    {
+        if let Some(keep) = self.retains.pop_front() {
+            return Some(Message::Retain(keep));
+        }
+        if self.batch.is_empty() {
+            return None;
+        }
+        self.places.clear();
+        let batch = mem::replace(&mut self.batch, Vec::new(self.alloc));
+        Some(Message::Fetch(batch))
+    }
+
+    /// Offers the fetches that wait as one batch.
+    fn drain_batch<F>(&mut self, push: &mut F)
+    where
+        F: FnMut(Message<K, S, M, Q>) -> Option<Message<K, S, M, Q>>,
+        requires callable { F.IsAlwaysCallable push.old }
+        requires hands_back { HandsBack F.step }
+        ensures callable { F.IsAlwaysCallable push.new }
+        ensures retains { self.new.retains ≡ self.old.retains }
+        ensures drains { Drains F.step push.old
+            (batch_told self.old.batch) (batch_told self.new.batch) }
+    {
+        if self.batch.is_empty() {
+            return;
+        }
+        let batch = mem::replace(&mut self.batch, Vec::new(self.alloc));
+        match offer_batch(push, batch) {
+            None => self.places.clear(),
+            Some(back) => self.batch = back,
+        }
+    }
 }
+
+#[cfg(test)]
+mod tests;

@@ -85,3 +85,10 @@ fn queues_ten_thousand_keys(rt: HostRuntime) -> Result<(), Fail> {
     assert!(rt; !pending.is_empty());
     Ok(())
 }
+
+#[test]
+fn laws_at_numbers(_rt: HostRuntime) -> Result<(), Fail> {
+    laws::handling_is_right::<u16, u16, (), All>();
+    laws::targets_stay::<u16, u16, u32>();
+    Ok(())
+}

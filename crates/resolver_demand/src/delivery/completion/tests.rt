@@ -11,6 +11,7 @@ fn copied<T: Clone>(value: &T) -> Result<T, AllocError> {
 #[test]
 fn a_clone_is_the_same(rt: HostRuntime) -> Result<(), Fail> {
     let completion = Completion {
+        response: 4,
         context: 3u8,
         delivery: Delivery {
             key: 1u8,

@@ -53,6 +53,9 @@ fn keeps_a_state(rt: HostRuntime) -> Result<(), Fail> {
     assert!(rt; entries.insert_state(1, 20)?);
     assert!(rt; !entries.insert_state(1, 30)?);
     assert_eq!(rt; entries.state(&1).copied(), Some(20));
+    entries.set_state(&1, 40);
+    entries.set_state(&2, 50);
+    assert_eq!(rt; entries.state(&1).copied(), Some(40));
     assert!(rt; entries.state(&2).is_none());
     Ok(())
 }
@@ -75,8 +78,13 @@ fn caches_a_response(rt: HostRuntime) -> Result<(), Fail> {
     );
     let open = entries.open(0).ok_or("an open delivery")?;
     assert_eq!(rt;
-        (open.delivery.key, open.context, open.accepted),
-        (1, 40, false)
+        (
+            open.response,
+            open.delivery.key,
+            open.context,
+            open.accepted
+        ),
+        (0, 1, 40, false)
     );
     entries.discard_response(&1);
     assert!(rt; entries.response(&1).is_none());
@@ -143,7 +151,7 @@ fn tells_a_new_delivery_from_an_old_one(rt: HostRuntime) -> Result<(), Fail> {
         .completed(0, Some(Outcome::Invalid))
         .ok()
         .ok_or("number 0")?;
-    assert_eq!(rt; (old.canceled, old.context), (true, 40));
+    assert_eq!(rt; (old.canceled, old.response, old.context), (true, 0, 40));
     assert_eq!(rt; entries.number(&1), Some(1));
 
     accept(&mut entries, 1)?;
@@ -158,6 +166,7 @@ fn tells_a_new_delivery_from_an_old_one(rt: HostRuntime) -> Result<(), Fail> {
         (again.canceled, again.previously_accepted, again.context),
         (false, true, 41)
     );
+    assert_eq!(rt; (first.response, again.response), (1, 1));
     Ok(())
 }
 
@@ -175,6 +184,23 @@ fn lets_keys_go(rt: HostRuntime) -> Result<(), Fail> {
     assert_eq!(rt; keys.as_slice(), [0, 1, 2].as_slice());
     assert_eq!(rt; entries.drain(), 3);
     assert!(rt; !entries.contains(&0));
+    Ok(())
+}
+
+#[test]
+fn clears_all_but_the_numbers(rt: HostRuntime) -> Result<(), Fail> {
+    let alloc = rt.alloc();
+    let mut entries: Tracked = Entries::new(alloc);
+    entries.insert(1)?;
+    deliver(&mut entries, alloc, 1, 40)?;
+    let entry = entries.get(&1).ok_or("an entry")?;
+    assert_eq!(rt; entry.number, Some(0));
+    assert!(rt; entries.get(&2).is_none());
+    entries.clear();
+    assert!(rt; entries.get(&1).is_none());
+    assert!(rt; entries.open(0).is_none());
+    entries.insert(1)?;
+    assert_eq!(rt; deliver(&mut entries, alloc, 1, 41)?, 1);
     Ok(())
 }
 
