@@ -12,3 +12,11 @@ pub mod ChoiceCounts
 pub mod Ascending
 pub mod Draws
 pub mod Takes
+pub mod TriesAll
+pub mod NeedsPairs
+pub mod ChoosesBelow
+pub mod Entries
+pub mod Soonest
+pub mod Timed
+pub mod NextIds
+pub mod Placed

@@ -10,3 +10,14 @@ pub mod Choice
 pub mod ChoiceLaws
 pub mod Left
 pub mod Selections
+pub mod Orders
+pub mod Waiting
+pub mod Requests
+pub mod Ids
+pub mod Peers
+pub mod Known
+pub mod Snapshot
+pub mod Scan
+pub mod Fetcher
+pub mod FetcherRows
+pub mod FetcherLaws

@@ -1,0 +1,384 @@
+//! Which key is asked for next, of which peer, under which id, and when to look again.
+//!
+//! A key that is wanted waits, fresh or to be tried again, until a scan finds a peer that takes a
+//! request for it; then it is asked, until a response, word that the data is missing, or its time
+//! ends that. A scan is driven by questions and answers: what an `Ask` asks, an `Answer` answers.
+
+pub mod config;
+mod laws;
+mod peers;
+pub mod place;
+pub mod request;
+mod requests;
+pub mod scan;
+mod targets;
+
+ghost use Rattle.std.specs.Prelude.{◌≡◌, Bool, false, ◌<◌, ◌^◌, [], length, is_some, unwrap_or, IfErr, OnErr, OnOk};
+ghost use Rattle.std.specs.BTreeMap.{insert_entry, is_at};
+ghost use Rattle.std.specs.Fn.{FnReturnsAt};
+ghost use Rattle.std.specs.Map.{lookup};
+ghost use Rattle.resolver_base.specs.Answering.{AnswersBy};
+ghost use Rattle.resolver_base.specs.Priorities.{has_item};
+ghost use Rattle.resolver_base.specs.declared.base.fault.Fault.TheVariants.{OutOfMemory};
+ghost use Rattle.resolver_fetch.specs.Fetcher as calls;
+ghost use Rattle.resolver_fetch.specs.Fetcher.{IsTimely, opening};
+ghost use Rattle.resolver_fetch.specs.Orders.{orders};
+ghost use Rattle.resolver_fetch.specs.Peers.{with_targets};
+ghost use Rattle.resolver_fetch.specs.Times.{charged, elapsed_since};
+
+use crate::fetcher::peers::Peers;
+use crate::fetcher::requests::Requests;
+use crate::fetcher::targets::Targets;
+use crate::score::DURATION_MAX;
+pub use config::{Config, ID};
+pub use place::Place;
+pub use request::Request;
+use resolver_base::base::{Fault, NonEmptyVec, PrioritySet};
+pub use scan::{Answer, Ask};
+use std::alloc::{AllocError, Global};
+use std::collections::BTreeMap;
+use std::marker::Model;
+
+/// The keys that wait or are asked for, their targets and retries, and the peers.
+///
+/// Moments are in nanoseconds, and below 2^94 where they are handed in. A call that names one key
+/// or one peer takes time logarithmic in the number of keys and peers, unless it says otherwise.
+#[derive(Debug, Drop)]
+pub struct Fetcher<K: Ord, P: Ord> {
+    pending: PrioritySet<K, Place>,
+    requests: Requests<K, P>,
+    targets: BTreeMap<K, Targets<P>>,
+    retries: BTreeMap<K, u32>,
+    peers: Peers<P>,
+    fetch_timeout: u128,
+    retry_delay: u128,
+    priority_requests: bool,
+    waiter: Option<u128>,
+    last_id: Option<ID>,
+    alloc: Global,
+}
+
+impl<K: Ord, P: Ord> Model for Fetcher<K, P> {
+    ghost use Rattle.std.specs.Prelude.{None};
+    ghost use Rattle.resolver_fetch.specs.Fetcher.{Fetcher, IsTimely};
+
+    ghost Value = { Fetcher K P };
+
+    ghost view = { λ a. record {
+      waiting = a.pending;
+      asked = a.requests;
+      targets = a.targets.entries;
+      retries = a.retries.entries;
+      peers = a.peers.set;
+      blocked = a.peers.blocked;
+      configuration = record {
+        me = a.peers.local;
+        fetch_timeout = a.fetch_timeout;
+        retry_delay = a.retry_delay;
+        priority_requests = a.priority_requests;
+      };
+      waiter = a.waiter;
+      last_id = a.last_id;
+      scan = None;
+    } };
+
+    ghost invariant = { λ a. IsTimely a.fetch_timeout a.retry_delay };
+}
+
+impl<K: Ord + Drop, P: Ord + Drop> Fetcher<K, P> {
+    /// No key is wanted, and no peer is known.
+    pub fn new(alloc: Global, config: Config<P>) -> Self
+        requires { IsTimely config.fetch_timeout config.retry_delay }
+        ensures { result ≡ opening config }
+    {
+        Fetcher {
+            pending: PrioritySet::new(alloc),
+            requests: Requests::new(alloc),
+            targets: BTreeMap::new(alloc),
+            retries: BTreeMap::new(alloc),
+            peers: Peers::new(alloc, config.me),
+            fetch_timeout: config.fetch_timeout,
+            retry_delay: config.retry_delay,
+            priority_requests: config.priority_requests,
+            waiter: None,
+            last_id: None,
+            alloc,
+        }
+    }
+
+    /// How many keys wait.
+    pub fn len_pending(&self) -> usize
+        ensures { result ≡ length self.now.waiting }
+    {
+        self.pending.len()
+    }
+
+    /// How many requests have no answer.
+    pub fn len_active(&self) -> usize
+        ensures { result ≡ length self.now.asked }
+    {
+        self.requests.len()
+    }
+
+    /// Whether the peers that may be asked for this key are limited to some.
+    pub fn has_targets(&self, key: &K) -> bool
+        ensures { result ≡ is_some (calls.targets_of (orders K.cmp P.cmp) self.now key.now) }
+    {
+        self.targets.contains_key(key)
+    }
+
+    /// How often this key was put back to be tried again, at most `u32::MAX`.
+    pub fn retries(&self, key: &K) -> u32
+        ensures { result ≡ calls.retries_of (orders K.cmp P.cmp) self.now key.now }
+    {
+        match self.retries.get(key) {
+            Some(retries) => *retries,
+            None => 0,
+        }
+    }
+
+    /// The weight with which a peer of the latest set is drawn: 0 where it is the local one or
+    /// blocked, else that of its score. There is none for other peers.
+    pub fn weight(&self, peer: &P) -> Option<u64>
+        ensures { result ≡ calls.weight (orders K.cmp P.cmp) peer.now self.now }
+    {
+        self.peers.weight(peer)
+    }
+
+    /// When a scan may do something, if a key waits.
+    pub fn get_pending_deadline(&self) -> Option<u128>
+        ensures { result ≡ calls.pending_deadline self.now }
+    {
+        let (_, place) = self.pending.peek()?;
+        match self.waiter {
+            Some(waiter) => Some(place.due.max(waiter)),
+            None => Some(place.due),
+        }
+    }
+
+    /// When the time of a request is over next, if there is a request.
+    pub fn get_active_deadline(&self) -> Option<u128>
+        ensures { result ≡ calls.active_deadline self.now }
+    {
+        self.requests.deadline()
+    }
+
+    /// Takes these peers in place of the latest set. Those that stay keep their scores. Where
+    /// memory is wanting, nothing changes. It takes time linear in the peers, times a logarithm.
+    pub fn reconcile(&mut self, peers: Vec<P>) -> Result<(), Fault>
+        ensures ok { OnOk result
+            (self.new ≡ calls.reconcile (orders K.cmp P.cmp) peers.items self.old) }
+        ensures err { OnErr result (self.new ≡ self.old) }
+        ensures only { IfErr result (λ fault. fault ≡ OutOfMemory) }
+    {
+        self.peers.reconcile(peers)?;
+        self.waiter = None;
+        Ok(())
+    }
+
+    /// Takes these peers as the ones that are blocked. Where memory is wanting, nothing changes.
+    /// It takes time linear in the peers, times a logarithm.
+    pub fn set_blocked(&mut self, peers: Vec<P>) -> Result<(), Fault>
+        ensures ok { OnOk result
+            (self.new ≡ calls.set_blocked (orders K.cmp P.cmp) peers.items self.old) }
+        ensures err { OnErr result (self.new ≡ self.old) }
+        ensures only { IfErr result (λ fault. fault ≡ OutOfMemory) }
+    {
+        self.peers.set_blocked(peers)?;
+        self.waiter = None;
+        Ok(())
+    }
+
+    /// Has a key wait, which may be asked for at once. Where memory is wanting, nothing changes.
+    ///
+    /// The key is cloned; clones are to equal their sources.
+    pub fn add_ready(&mut self, key: K, now: u128) -> Result<(), Fault>
+    where
+        K: Clone,
+        requires moment { now < 2 ^ 94 }
+        requires keys_clone { (x y : K) → K.is_clone x y → y ≡ x }
+        ensures ok { OnOk result
+            (self.new ≡ calls.add_ready (orders K.cmp P.cmp) key now self.old) }
+        ensures err { OnErr result (self.new ≡ self.old) }
+        ensures only { IfErr result (λ fault. fault ≡ OutOfMemory) }
+    {
+        self.pending.put(key, Place::fresh(now))?;
+        self.waiter = None;
+        Ok(())
+    }
+
+    /// Has a key wait until the retry delay is over, and counts that it is tried once more. Where
+    /// memory is wanting, nothing changes.
+    ///
+    /// The key is cloned; clones are to equal their sources.
+    pub fn add_retry(&mut self, key: K, now: u128) -> Result<(), Fault>
+    where
+        K: Clone,
+        requires moment { now < 2 ^ 94 }
+        requires keys_clone { (x y : K) → K.is_clone x y → y ≡ x }
+        requires new { has_item K.cmp self.old.waiting key ≡ false }
+        ensures ok { OnOk result
+            (self.new ≡ calls.add_retry (orders K.cmp P.cmp) key now self.old) }
+        ensures err { OnErr result (self.new ≡ self.old) }
+        ensures only { IfErr result (λ fault. fault ≡ OutOfMemory) }
+    {
+        let retries = self.retries(&key).saturating_add(1);
+        let place = Place::retry(now + self.retry_delay);
+        self.pending.put(key.clone()?, place)?;
+        if let Err(refused) = self.retries.insert(key, retries) {
+            self.pending.remove(&refused.value.0);
+            return Err(Fault::OutOfMemory);
+        }
+        self.waiter = None;
+        Ok(())
+    }
+
+    /// Limits the peers that may be asked for a key to these and those that were given before.
+    /// Where memory is wanting, nothing changes. It takes time in proportion to the two numbers of
+    /// targets.
+    pub fn add_targets(&mut self, key: K, peers: NonEmptyVec<P>) -> Result<(), Fault>
+        ensures ok { OnOk result
+            (self.new ≡ calls.add_targets (orders K.cmp P.cmp) key peers self.old) }
+        ensures err { OnErr result (self.new ≡ self.old) }
+        ensures only { IfErr result (λ fault. fault ≡ OutOfMemory) }
+    {
+        join_targets(self.alloc, &mut self.targets, key, peers.into_vec())?;
+        self.waiter = None;
+        Ok(())
+    }
+
+    /// Any peer may be asked for this key.
+    pub fn clear_targets(&mut self, key: &K)
+        ensures { self.new ≡ calls.clear_targets (orders K.cmp P.cmp) key.now self.old }
+    {
+        self.targets.remove(key);
+        self.waiter = None;
+    }
+
+    /// Forgets the targets and the retries of a key.
+    pub fn clear(&mut self, key: &K)
+        ensures { self.new ≡ calls.clear (orders K.cmp P.cmp) key.now self.old }
+    {
+        self.targets.remove(key);
+        self.retries.remove(key);
+    }
+
+    /// Forgets the keys that aren't kept, in whatever phase they are. `keep` is pure. It takes time
+    /// linear in what there is of keys, times a logarithm.
+    pub fn retain<F: Fn(&K) -> bool>(&mut self, keep: F)
+        requires { F.IsAlwaysCallable keep }
+        ensures { (test : K → Bool) → AnswersBy F.Fn keep test
+            → self.new ≡ calls.retain (orders K.cmp P.cmp) test self.old }
+    {
+        self.pending.retain(
+            |key| -> bool
+                requires { F.IsAlwaysCallable keep }
+                ensures { FnReturnsAt F.Fn keep key.now result }
+            { keep(key) },
+        );
+        self.requests.retain(
+            |key| -> bool
+                requires { F.IsAlwaysCallable keep }
+                ensures { FnReturnsAt F.Fn keep key.now result }
+            { keep(key) },
+        );
+        self.targets.retain(
+            |key, targets| -> bool
+                requires { F.IsAlwaysCallable keep }
+                ensures answer { FnReturnsAt F.Fn keep key.now result }
+                ensures same { targets.new ≡ targets.old }
+            { keep(key) },
+        );
+        self.retries.retain(
+            |key, retries| -> bool
+                requires { F.IsAlwaysCallable keep }
+                ensures answer { FnReturnsAt F.Fn keep key.now result }
+                ensures same { retries.new ≡ retries.old }
+            { keep(key) },
+        );
+        self.waiter = None;
+    }
+
+    /// Takes in that a peer's useful response took `elapsed` nanoseconds and had `bytes` bytes. A
+    /// peer that isn't in the latest set is passed over.
+    pub fn record_response(&mut self, peer: &P, elapsed: u128, bytes: u64)
+        ensures { self.new
+            ≡ calls.record_response (orders K.cmp P.cmp) peer.now elapsed bytes self.old }
+    {
+        self.peers.record(peer, elapsed, bytes);
+    }
+
+    /// Takes out the request whose time is over first, if it is over now, and charges its peer.
+    /// Of equal deadlines the smaller id comes first.
+    pub fn pop_active(&mut self, now: u128) -> Option<K>
+        requires { now < 2 ^ 94 }
+        ensures { (result, self.new) ≡ calls.pop_active (orders K.cmp P.cmp) now self.old }
+    {
+        let request = self.requests.take_overdue(now)?;
+        let time = charged(self.fetch_timeout, self.retry_delay);
+        self.peers.record(&request.peer, time, 0);
+        Some(request.key)
+    }
+
+    /// Takes out the request that a response of this peer under this id answers, and says how long
+    /// it took. Where there is none, nothing changes.
+    pub fn pop_response(&mut self, id: ID, peer: &P, now: u128) -> Option<(K, u128)>
+        requires { now < 2 ^ 94 }
+        ensures { (result, self.new)
+            ≡ calls.pop_response (orders K.cmp P.cmp) id peer.now now self.old }
+    {
+        let request = self.requests.take_matching(id, peer)?;
+        Some((request.key, elapsed_since(request.start, now)))
+    }
+
+    /// Takes out the request that a peer answers without data, and charges the peer. Where there
+    /// is none, nothing changes.
+    pub fn pop_missing(&mut self, id: ID, peer: &P, now: u128) -> Option<K>
+        requires { now < 2 ^ 94 }
+        ensures { (result, self.new)
+            ≡ calls.pop_missing (orders K.cmp P.cmp) id peer.now now self.old }
+    {
+        let request = self.requests.take_matching(id, peer)?;
+        let time = charged(elapsed_since(request.start, now), self.retry_delay);
+        self.peers.record(&request.peer, time, 0);
+        Some(request.key)
+    }
+}
+
+/// Adds targets of a key.
+fn join_targets<K: Ord + Drop, P: Ord + Drop>(
+    alloc: Global,
+    targets: &mut BTreeMap<K, Targets<P>>,
+    key: K,
+    peers: Vec<P>,
+) -> Result<(), AllocError>
+    ensures ok { OnOk result (targets.new.entries
+        ≡ insert_entry K.cmp targets.old.entries key (with_targets P.cmp
+        (unwrap_or (lookup (is_at (K.cmp key)) targets.old.entries) []) peers.items)) }
+    ensures err { OnErr result (targets.new.entries ≡ targets.old.entries) }
+{
+    if let Some(there) = targets.get_mut(&key) {
+        there.join(peers)?;
+        return Ok(());
+    }
+    let mut first = Targets::new(alloc);
+    first.join(peers)?;
+    targets.insert(key, first)?;
+    Ok(())
+}
+
+/// How long ago something began, at most `DURATION_MAX`; nothing where the clock went back.
+fn elapsed_since(start: u128, now: u128) -> u128
+    ensures { result ≡ elapsed_since start now }
+{
+    now.saturating_sub(start).min(DURATION_MAX)
+}
+
+/// What a peer is charged that did not help for some time.
+fn charged(time: u128, delay: u128) -> u128
+    requires time { time < 2 ^ 96 }
+    requires delay { delay < 2 ^ 94 }
+    ensures { result ≡ charged time delay }
+{
+    (time + delay).min(DURATION_MAX)
+}

@@ -1,0 +1,17 @@
+//! How requests are made.
+
+/// Names a request; its answer has the same. Ids go up by one, and 0 follows `u64::MAX`.
+pub type ID = u64;
+
+/// How requests are made. Durations are in nanoseconds.
+#[derive(Clone, Debug, Drop)]
+pub struct Config<P> {
+    /// The local name, which is never asked, if there is one.
+    pub me: Option<P>,
+    /// How long a request may take: at least 1.
+    pub fetch_timeout: u128,
+    /// How long a key waits before it is tried again.
+    pub retry_delay: u128,
+    /// Whether requests are sent before other messages.
+    pub priority_requests: bool,
+}

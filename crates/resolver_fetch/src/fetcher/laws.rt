@@ -1,0 +1,59 @@
+//! Worked runs of a fetcher's definition, and what holds of every scan. Each function says one of
+//! them, and does nothing. They are no part of the surface.
+
+ghost use Rattle.resolver_fetch.specs.FetcherRows.{BlockedTarget, FirstRequest, MissingAndRetry, NextIds, RefusedSends, TwoKinds, WakeUp};
+ghost use Rattle.resolver_fetch.specs.FetcherLaws.{ChoosesBelow, NeedsPairs, TriesAll};
+ghost use Rattle.resolver_fetch.specs.Orders.{orders};
+
+/// The next id is held by no request, and 0 follows the last.
+pub fn next_ids()
+    ensures { NextIds }
+{}
+
+/// A key sleeps without peers, and wakes once there are some.
+pub fn wake_up()
+    ensures { WakeUp }
+{}
+
+/// A request, its deadline and its response.
+pub fn first_request()
+    ensures { FirstRequest }
+{}
+
+/// Data that is missing, and a key that is tried again.
+pub fn missing_and_retry()
+    ensures { MissingAndRetry }
+{}
+
+/// Fresh keys are tried before retries.
+pub fn two_kinds()
+    ensures { TwoKinds }
+{}
+
+/// Requests that are refused.
+pub fn refused_sends()
+    ensures { RefusedSends }
+{}
+
+/// A target that is blocked, and then isn't.
+pub fn blocked_target()
+    ensures { BlockedTarget }
+{}
+
+/// A scan that ends without an accepted request has tried each eligible peer of each due key.
+pub fn tries_all<K: Ord, P: Ord>()
+    ensures { TriesAll (orders K.cmp P.cmp) }
+{}
+
+/// A scan needs no more of its trail than which pairs were tried, and the least limit.
+pub fn needs_pairs<K: Ord, P: Ord>()
+    ensures { NeedsPairs (orders K.cmp P.cmp) }
+{}
+
+/// A number chooses a peer exactly where it is below the asked bound.
+pub fn chooses_below<P: Ord>()
+    ensures { ChoosesBelow P }
+{}
+
+#[cfg(test)]
+mod tests;

@@ -1,0 +1,149 @@
+//! The peers that may be asked.
+
+ghost use Rattle.std.specs.Prelude.{◌≡◌, None, [], length, IfOk, IfErr, OnErr, OnOk};
+ghost use Rattle.resolver_base.specs.declared.base.fault.Fault.TheVariants.{OutOfMemory};
+ghost use Rattle.resolver_fetch.specs.Known.{is_local, may_be_asked, weight_in};
+ghost use Rattle.resolver_fetch.specs.Peers.{observed, replaced, set_of};
+
+use crate::score::Score;
+use resolver_base::base::Fault;
+use std::alloc::{AllocError, Global};
+use std::collections::{BTreeMap, BTreeSet};
+use std::marker::Model;
+
+/// The latest set of peers with their scores, the local name, and the peers that are blocked.
+///
+/// A call on one peer takes time logarithmic in their number.
+#[derive(Debug, Drop)]
+pub(super) struct Peers<P: Ord> {
+    local: Option<P>,
+    set: BTreeMap<P, Score>,
+    blocked: BTreeSet<P>,
+    alloc: Global,
+}
+
+impl<P: Ord> Model for Peers<P> {
+    ghost use Rattle.resolver_fetch.specs.Known.{Known};
+
+    ghost Value = { Known P };
+
+    ghost view = { λ a. record { local = a.local; set = a.set.entries; blocked = a.blocked.keys } };
+}
+
+impl<P: Ord + Drop> Peers<P> {
+    /// No peers, of which this one would be the local one.
+    pub(super) fn new(alloc: Global, local: Option<P>) -> Self
+        ensures { result ≡ record { local = local; set = []; blocked = [] } }
+    {
+        Peers {
+            local,
+            set: BTreeMap::new(alloc),
+            blocked: BTreeSet::new(alloc),
+            alloc,
+        }
+    }
+
+    /// The weight with which a peer of the set is drawn: 0 where it is the local one or blocked,
+    /// else that of its score. There is none for other peers.
+    pub(super) fn weight(&self, peer: &P) -> Option<u64>
+        ensures { result ≡ weight_in P.cmp self.now peer.now }
+    {
+        let score = self.set.get(peer)?;
+        if self.may_be_asked(peer) {
+            Some(score.weight())
+        } else {
+            Some(0)
+        }
+    }
+
+    /// Whether a peer of the set may be asked for any key.
+    fn may_be_asked(&self, peer: &P) -> bool
+        ensures { result ≡ may_be_asked P.cmp self.now peer.now }
+    {
+        !is_local(&self.local, peer) && !self.blocked.contains(peer)
+    }
+
+    /// Takes these peers in place of the last ones. Those that stay keep their scores. Where
+    /// memory is wanting, nothing changes.
+    pub(super) fn reconcile(&mut self, peers: Vec<P>) -> Result<(), Fault>
+        ensures ok { OnOk result
+            (self.new ≡ record self.old { set = replaced P.cmp self.old.set peers.items }) }
+        ensures err { OnErr result (self.new ≡ self.old) }
+        ensures only { IfErr result (λ fault. fault ≡ OutOfMemory) }
+    {
+        self.set = rated(self.alloc, &self.set, peers)?;
+        Ok(())
+    }
+
+    /// Takes these peers as the ones that are blocked. Where memory is wanting, nothing changes.
+    pub(super) fn set_blocked(&mut self, peers: Vec<P>) -> Result<(), Fault>
+        ensures ok { OnOk result
+            (self.new ≡ record self.old { blocked = set_of P.cmp peers.items }) }
+        ensures err { OnErr result (self.new ≡ self.old) }
+        ensures only { IfErr result (λ fault. fault ≡ OutOfMemory) }
+    {
+        self.blocked = distinct(self.alloc, peers)?;
+        Ok(())
+    }
+
+    /// Takes in what a request to a peer took, in nanoseconds, and gave. A peer that isn't in the
+    /// set is passed over.
+    pub(super) fn record(&mut self, peer: &P, elapsed: u128, bytes: u64)
+        ensures { self.new ≡ record self.old {
+          set = observed P.cmp self.old.set peer.now
+              (record { elapsed = elapsed; bytes = bytes });
+        } }
+    {
+        observe(&mut self.set, peer, elapsed, bytes);
+    }
+}
+
+/// Takes in what a request to a peer took and gave.
+fn observe<P: Ord>(set: &mut BTreeMap<P, Score>, peer: &P, elapsed: u128, bytes: u64)
+    ensures { set.new.entries ≡ observed P.cmp set.old.entries peer.now
+        (record { elapsed = elapsed; bytes = bytes }) }
+{
+    if let Some(score) = set.get_mut(peer) {
+        score.record(elapsed, bytes);
+    }
+}
+
+/// Whether a peer is the local one.
+fn is_local<P: Ord>(local: &Option<P>, peer: &P) -> bool
+    ensures { result ≡ is_local P.cmp local.now peer.now }
+{
+    match local {
+        Some(name) => name.cmp(peer).is_eq(),
+        None => false,
+    }
+}
+
+/// These peers with the scores that they have, each once, the first of equal ones.
+fn rated<P: Ord + Drop>(
+    alloc: Global,
+    old: &BTreeMap<P, Score>,
+    peers: Vec<P>,
+) -> Result<BTreeMap<P, Score>, AllocError>
+    ensures { IfOk result (λ set. set.entries ≡ replaced P.cmp old.now.entries peers.items) }
+{
+    let mut set = BTreeMap::new(alloc);
+    for peer in peers {
+        let score = match old.get(&peer) {
+            Some(score) => *score,
+            None => Score::default(),
+        };
+        set.insert(peer, score)?;
+    }
+    Ok(set)
+}
+
+/// These peers, each once, the first of equal ones.
+fn distinct<P: Ord + Drop>(alloc: Global, peers: Vec<P>) -> Result<BTreeSet<P>, AllocError>
+    ensures { IfOk result (λ set. set.keys ≡ set_of P.cmp peers.items) }
+{
+    let mut set = BTreeSet::new(alloc);
+    for peer in peers {
+        set.insert(peer)?;
+    }
+    Ok(set)
+}
