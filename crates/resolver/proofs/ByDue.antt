@@ -5,12 +5,26 @@ use Rattle.std.proofs.lemmas.Bool.Decides.{nat_tests}
 use Rattle.std.specs.List.Sorted.{ties, IsNonDecreasingBy, IsStableByKey}
 use Rattle.resolver_base.specs.Names.{Names}
 use Rattle.resolver.specs.declared.opaque.overdue.Overdue.{Overdue}
-use Rattle.resolver.specs.Opaque.{Machine, Row, Phase, Waiting, Asked, Judged, Done, quiet, and_then, start_again, start_all, placed, placed_if_due, waiting_by_due}
+use Rattle.std.specs.Map.{lookup, set_value, keys_of}
+use Rattle.std.specs.List.{IsDistinct}
+use Rattle.std.specs.Cmp.{IsEquivalence}
+use Rattle.std.proofs.Common.{subst, ◌+◌, ◌^◌}
+use Rattle.resolver_base.specs.Names.{same_key}
+use Rattle.resolver.specs.Opaque.{Machine, Row, Phase, Waiting, Asked, Judged, Done, quiet, and_then, row_of, start_again, start_all, placed, placed_if_due, waiting_by_due, least_due, next_retry}
+use Rattle.resolver.specs.OpaqueActor.{Kept, phase_of, rows_of, row_of as code_row_of}
+use Rattle.resolver.specs.OpaqueFound.{IsIdle, IsIdlePhase, first_due}
+use Rattle.resolver.proofs.Joined.{head_key, tail_keys}
+use Rattle.resolver.proofs.Deliveries.{Each}
+use Rattle.resolver.proofs.Rows.{lookup-set, lookup-same, each_found}
 use Rattle.std.specs.Prelude.{option_and_then, unwrap_or, ◌++◌}
 use Rattle.std.proofs.Common.{append_assoc}
 use Rattle.resolver.specs.declared.opaque.actor.Effect.{Effect}
+use Rattle.resolver.specs.declared.opaque.actor.Effect.TheVariants.{Start}
+use Rattle.std.specs.Prelude.{IfSome}
 use Rattle.resolver.specs.OpaqueSteps.{onto}
-use Rattle.resolver.specs.OpaqueOverdue.{overdue_of, with_due, due_of}
+use Rattle.resolver.specs.OpaqueListed.{listed_phase}
+use Rattle.resolver.specs.declared.opaque.rows.Phase.TheVariants as phases
+use Rattle.resolver.specs.OpaqueOverdue.{with_due, due_of, by_due, placed as placed_by}
 
 ties_at : (m n : ℕ) → (ties (λ x y. is_lt (nat_cmp x y)) m n ≡ true → m ≡ n) × (m ≡ n → ties (λ x y. is_lt (nat_cmp x y)) m n ≡ true)
 ties_at m n = (λ h. grind (arith, nat_tests), λ h. grind (arith, nat_tests))
@@ -159,84 +173,262 @@ module _ {X : Type 0} (due : X → ℕ) where
   in_order-from_sort xs ys sorted stable =
       same_list ys (in_order xs) (Rises-from_sort ys sorted) (Rises-in_order xs) (λ x. stable x ∙ sym (filter-in_order x xs))
 
-abbrev pub due_at : {K S : Type 0} → Overdue K S → ℕ
+abbrev pub due_at : {K : Type 0} → Overdue K → ℕ
 due_at o = o.due
 
-module _ {K V S : Type 0} where
-  placed-put : (due : ℕ) (r : K × Row V S) (qs : List (ℕ × (K × Row V S))) → map overdue_of (placed due r qs) ≡ put due_at (overdue_of (due, r)) (map overdue_of qs)
-  placed-put due r [] = refl
-  placed-put due r (q ∷ qs) = at (placed-put due r qs) (nat_le due q.0)
+module _ {K : Type 0} where
+  placed_by-put : (o : Overdue K) (ps : List (Overdue K)) → placed_by o ps ≡ put due_at o ps
+  placed_by-put o [] = refl
+  placed_by-put o (p ∷ ps) = ap (λ rest. cond (nat_le o.due p.due) (o ∷ p ∷ ps) (p ∷ rest)) (placed_by-put o ps)
+
+  pub by_due-in_order : (os : List (Overdue K)) → by_due os ≡ in_order due_at os
+  by_due-in_order [] = refl
+  by_due-in_order (o ∷ os) = placed_by-put o (by_due os) ∙ ap (put due_at o) (by_due-in_order os)
+
+  some-placed : (o : Overdue K) (ps : List (Overdue K)) → placed_by o ps ≡ [] → ⊥
+  some-placed o [] is = cc
+  some-placed o (p ∷ ps) is = at (nat_le o.due p.due) is
     where
-      at : map overdue_of (placed due r qs) ≡ put due_at (overdue_of (due, r)) (map overdue_of qs) → (b : Bool) → map overdue_of (cond b ((due, r) ∷ q ∷ qs) (q ∷ placed due r qs)) ≡ cond b (overdue_of (due, r) ∷ overdue_of q ∷ map overdue_of qs) (overdue_of q ∷ put due_at (overdue_of (due, r)) (map overdue_of qs))
+      at : (b : Bool) → cond b (o ∷ p ∷ ps) (p ∷ placed_by o ps) ≡ [] → ⊥
+      at true is = cc
+      at false is = cc
+
+-- a key that is shown to wait
+pub listed-waiting : {V : Type 0} (phase : Phase V) (due : ℕ) → listed_phase phase ≡ phases.Waiting due → phase ≡ Waiting due
+listed-waiting (Waiting d) due is = cc
+listed-waiting (Asked attempt) due is = cc
+listed-waiting (Judged j) due is = cc
+
+module _ {K V : Type 0} where
+  -- a waiting key that is due
+  pub due_of-due : (now due : ℕ) (e : K × Kept V) (es : List (K × Kept V)) → phase_of e.1 ≡ Waiting due → due ≤ now
+      → due_of now (e ∷ es) ≡ record { due = due; key = e.0 } ∷ due_of now es
+  due_of-due now due e es is le =
+      ap (λ phase. with_due now e.0 phase (due_of now es)) is ∙ ap (λ b. cond b (record { due = due; key = e.0 } ∷ due_of now es) (due_of now es)) (le-test due now le)
+
+  pub due_of-later : (now due : ℕ) (e : K × Kept V) (es : List (K × Kept V)) → phase_of e.1 ≡ Waiting due → now < due → due_of now (e ∷ es) ≡ due_of now es
+  due_of-later now due e es is lt =
+      ap (λ phase. with_due now e.0 phase (due_of now es)) is ∙ ap (λ b. cond b (record { due = due; key = e.0 } ∷ due_of now es) (due_of now es)) (lt-test due now lt)
+
+module _ {K V S : Type 0} where
+  abbrev pub overdue_of : ℕ × (K × Row V S) → Overdue K
+  overdue_of q = record { due = q.0; key = q.1.0 }
+
+  placed-by : (due : ℕ) (r : K × Row V S) (qs : List (ℕ × (K × Row V S))) → map overdue_of (placed due r qs) ≡ placed_by (overdue_of (due, r)) (map overdue_of qs)
+  placed-by due r [] = refl
+  placed-by due r (q ∷ qs) = at (placed-by due r qs) (nat_le due q.0)
+    where
+      at : map overdue_of (placed due r qs) ≡ placed_by (overdue_of (due, r)) (map overdue_of qs) → (b : Bool)
+          → map overdue_of (cond b ((due, r) ∷ q ∷ qs) (q ∷ placed due r qs)) ≡ cond b (overdue_of (due, r) ∷ overdue_of q ∷ map overdue_of qs) (overdue_of q ∷ placed_by (overdue_of (due, r)) (map overdue_of qs))
       at rest true = refl
       at rest false = ap (λ l. overdue_of q ∷ l) rest
 
-  -- a waiting row that is due
-  pub due_of-due : (now due : ℕ) (r : K × Row V S) (rs : List (K × Row V S)) → r.1.phase ≡ Waiting due → due ≤ now
-      → due_of now (r ∷ rs) ≡ overdue_of (due, r) ∷ due_of now rs
-  due_of-due now due r rs is le =
-      ap (λ phase. with_due now r phase (due_of now rs)) is ∙ ap (λ b. cond b (overdue_of (due, r) ∷ due_of now rs) (due_of now rs)) (le-test due now le)
-
-  length-placed : (due : ℕ) (r : K × Row V S) (qs : List (ℕ × (K × Row V S))) → nat_lt 0 (length (placed due r qs)) ≡ true
-  length-placed due r [] = grind (arith, nat_tests)
-  length-placed due r (q ∷ qs) = at (nat_le due q.0)
+  -- the waiting keys by due are those of the entries in key order, put in order
+  pub waiting-by_due : (now : ℕ) (ts : List (K × List (S × ℕ))) (es : List (K × Kept V)) → keys_of ts ≡ keys_of es
+      → map overdue_of (waiting_by_due now (rows_of ts es)) ≡ by_due (due_of now es)
+  waiting-by_due now [] [] same = refl
+  waiting-by_due now [] (e ∷ es) same = cc
+  waiting-by_due now (t ∷ ts) [] same = cc
+  waiting-by_due now (t ∷ ts) (e ∷ es) same =
+      at (phase_of e.1) (waiting-by_due now ts es (tail_keys t ts e es same))
+      ∙ ap (λ k. by_due (with_due now k (phase_of e.1) (due_of now es))) (head_key t ts e es same)
     where
-      at : (b : Bool) → nat_lt 0 (length (cond b ((due, r) ∷ q ∷ qs) (q ∷ placed due r qs))) ≡ true
-      at true = grind (arith, nat_tests)
-      at false = grind (arith, nat_tests)
+      r : K × Row V S
+      r = (t.0, code_row_of (t.1, e.1))
 
-  -- one of the keys is due
-  pub any-due : (now due : ℕ) (r : K × Row V S) (rs : List (K × Row V S)) → r.1.phase ≡ Waiting due → due ≤ now
-      → nat_lt 0 (length (waiting_by_due now (r ∷ rs))) ≡ true
-  any-due now due r rs is le =
-      ap (λ phase. nat_lt 0 (length (placed_if_due now phase r (waiting_by_due now rs)))) is
-      ∙ ap (λ b. nat_lt 0 (length (cond b (placed due r (waiting_by_due now rs)) (waiting_by_due now rs)))) (le-test due now le)
-      ∙ length-placed due r (waiting_by_due now rs)
-
-  -- the first key is not due yet
-  pub later-due : (now due : ℕ) (r : K × Row V S) (rs : List (K × Row V S)) → r.1.phase ≡ Waiting due → now < due
-      → waiting_by_due now (r ∷ rs) ≡ waiting_by_due now rs
-  later-due now due r rs is lt =
-      ap (λ phase. placed_if_due now phase r (waiting_by_due now rs)) is
-      ∙ ap (λ b. cond b (placed due r (waiting_by_due now rs)) (waiting_by_due now rs)) (lt-test due now lt)
-
-  pub none-due : (qs : List (ℕ × (K × Row V S))) → nat_lt 0 (length qs) ≡ false → qs ≡ []
-  none-due [] is = refl
-  none-due (q ∷ qs) is = absurd (some-not-none (length qs) is)
-
-  pub some-due : (qs : List (ℕ × (K × Row V S))) → nat_lt 0 (length qs) ≡ true → (length qs == 0) ≡ false
-  some-due qs is = not-zero (length qs) is
-
-  -- the waiting keys by due are those in key order, put in order
-  pub waiting-in_order : (now : ℕ) (rs : List (K × Row V S)) → map overdue_of (waiting_by_due now rs) ≡ in_order due_at (due_of now rs)
-  waiting-in_order now [] = refl
-  waiting-in_order now (r ∷ rs) = at r.1.phase (waiting-in_order now rs)
-    where
-      placed_at : (due : ℕ) → map overdue_of (waiting_by_due now rs) ≡ in_order due_at (due_of now rs) → (b : Bool)
-          → map overdue_of (cond b (placed due r (waiting_by_due now rs)) (waiting_by_due now rs)) ≡ in_order due_at (cond b (overdue_of (due, r) ∷ due_of now rs) (due_of now rs))
-      placed_at due rest true = placed-put due r (waiting_by_due now rs) ∙ ap (put due_at (overdue_of (due, r))) rest
+      placed_at : (due : ℕ) → map overdue_of (waiting_by_due now (rows_of {S = S} ts es)) ≡ by_due (due_of now es) → (b : Bool)
+          → map overdue_of (cond b (placed due r (waiting_by_due now (rows_of ts es))) (waiting_by_due now (rows_of ts es))) ≡ by_due (cond b (record { due = due; key = t.0 } ∷ due_of now es) (due_of now es))
+      placed_at due rest true = placed-by due r (waiting_by_due now (rows_of ts es)) ∙ ap (placed_by (record { due = due; key = t.0 })) rest
       placed_at due rest false = rest
 
-      at : (phase : Phase V) → map overdue_of (waiting_by_due now rs) ≡ in_order due_at (due_of now rs)
-          → map overdue_of (placed_if_due now phase r (waiting_by_due now rs)) ≡ in_order due_at (with_due now r phase (due_of now rs))
+      at : (phase : Phase V) → map overdue_of (waiting_by_due now (rows_of {S = S} ts es)) ≡ by_due (due_of now es)
+          → map overdue_of (placed_if_due now phase r (waiting_by_due now (rows_of ts es))) ≡ by_due (with_due now t.0 phase (due_of now es))
       at (Waiting due) rest = placed_at due rest (nat_le due now)
       at (Asked attempt) rest = rest
       at (Judged j) rest = rest
 
-module _ {K V S : Type 0} (n : Names K S) where
-  -- each of these keys is asked for again
-  abbrev pub start_each : Machine K V S → List (Overdue K S) → Option (Done K V S)
-  start_each m [] = quiet m
-  start_each m (o ∷ os) = and_then (start_again n m o.key o.subscribers) (λ next. start_each next os)
+  none-mapped : (qs : List (ℕ × (K × Row V S))) → map overdue_of qs ≡ [] → qs ≡ []
+  none-mapped [] is = refl
+  none-mapped (q ∷ qs) is = cc
 
-  pub start_all-each : (m : Machine K V S) (rs : List (ℕ × (K × Row V S))) → start_all n m rs ≡ start_each m (map overdue_of rs)
-  start_all-each m [] = refl
-  start_all-each m (r ∷ rs) = at (λ next. start_all-each next rs) (start_again n m r.1.0 r.1.1.subscribers)
+  -- no key is due
+  pub none-due : (now : ℕ) (ts : List (K × List (S × ℕ))) (es : List (K × Kept V)) → keys_of ts ≡ keys_of es → nat_lt 0 (length (due_of now es)) ≡ false
+      → waiting_by_due now (rows_of ts es) ≡ []
+  none-due now ts es same is = none-mapped (waiting_by_due now (rows_of ts es)) (waiting-by_due now ts es same ∙ at (due_of now es) is)
     where
-      at : ((next : Machine K V S) → start_all n next rs ≡ start_each next (map overdue_of rs)) → (o : Option (Done K V S)) → and_then o (λ next. start_all n next rs) ≡ and_then o (λ next. start_each next (map overdue_of rs))
-      at rest None = refl
-      at rest (Some d) = ap (λ next. and_then (Some d) (λ m. next)) (rest d.machine)
+      at : (os : List (Overdue K)) → nat_lt 0 (length os) ≡ false → by_due os ≡ []
+      at [] is = refl
+      at (o ∷ os) is = absurd (some-not-none (length os) is)
 
+  -- a key is due
+  pub some-due : (now : ℕ) (ts : List (K × List (S × ℕ))) (es : List (K × Kept V)) → keys_of ts ≡ keys_of es → nat_lt 0 (length (due_of now es)) ≡ true
+      → (length (waiting_by_due now (rows_of ts es)) == 0) ≡ false
+  some-due now ts es same is = at (waiting_by_due now (rows_of ts es)) (due_of now es) is (waiting-by_due now ts es same)
+    where
+      at : (qs : List (ℕ × (K × Row V S))) (os : List (Overdue K)) → nat_lt 0 (length os) ≡ true → map overdue_of qs ≡ by_due os → (length qs == 0) ≡ false
+      at qs [] is same = absurd (none-not-some is)
+        where
+          none-not-some : nat_lt 0 0 ≡ true → ⊥
+          none-not-some is = grind (arith, nat_tests)
+      at [] (o ∷ os) is same = absurd (some-placed o (by_due os) (sym same))
+      at (q ∷ qs) (o ∷ os) is same = grind (arith, nat_tests)
+
+  -- the least due
+  pub next_retry-first : (ts : List (K × List (S × ℕ))) (es : List (K × Kept V)) → keys_of ts ≡ keys_of es → next_retry (rows_of ts es) ≡ first_due es
+  next_retry-first [] [] same = refl
+  next_retry-first [] (e ∷ es) same = cc
+  next_retry-first (t ∷ ts) [] same = cc
+  next_retry-first (t ∷ ts) (e ∷ es) same = ap (least_due (phase_of e.1)) (next_retry-first ts es (tail_keys t ts e es same))
+
+  -- what holds of each row holds of each that is due
+  Each-placed : (P : K × Row V S → Type 0) (due : ℕ) (r : K × Row V S) (qs : List (ℕ × (K × Row V S))) → P r → Each (λ q. P q.1) qs → Each (λ q. P q.1) (placed due r qs)
+  Each-placed P due r [] p ps = (p, tt)
+  Each-placed P due r (q ∷ qs) p ps = at (nat_le due q.0) (Each-placed P due r qs p ps.1)
+    where
+      at : (b : Bool) → Each (λ q. P q.1) (placed due r qs) → Each (λ q. P q.1) (cond b ((due, r) ∷ q ∷ qs) (q ∷ placed due r qs))
+      at true rest = (p, ps)
+      at false rest = (ps.0, rest)
+
+  Each-waiting : (P : K × Row V S → Type 0) (now : ℕ) (rs : List (K × Row V S)) → Each P rs → Each (λ q. P q.1 × IsIdlePhase q.1.1.phase) (waiting_by_due now rs)
+  Each-waiting P now [] ps = tt
+  Each-waiting P now (r ∷ rs) ps = at r.1.phase refl (Each-waiting P now rs ps.1)
+    where
+      idle : (due : ℕ) → r.1.phase ≡ Waiting due → IsIdlePhase r.1.phase
+      idle due is = rw is tt
+
+      placed_at : (due : ℕ) → r.1.phase ≡ Waiting due → Each (λ q. P q.1 × IsIdlePhase q.1.1.phase) (waiting_by_due now rs) → (b : Bool)
+          → Each (λ q. P q.1 × IsIdlePhase q.1.1.phase) (cond b (placed due r (waiting_by_due now rs)) (waiting_by_due now rs))
+      placed_at due is rest true = Each-placed (λ r. P r × IsIdlePhase r.1.phase) due r (waiting_by_due now rs) (ps.0, idle due is) rest
+      placed_at due is rest false = rest
+
+      at : (phase : Phase V) → r.1.phase ≡ phase → Each (λ q. P q.1 × IsIdlePhase q.1.1.phase) (waiting_by_due now rs) → Each (λ q. P q.1 × IsIdlePhase q.1.1.phase) (placed_if_due now phase r (waiting_by_due now rs))
+      at (Waiting due) is rest = placed_at due is rest (nat_le due now)
+      at (Asked attempt) is rest = rest
+      at (Judged j) is rest = rest
+
+module _ {V S : Type 0} where
+  -- a row that is there for these subscribers, and isn't judged
+  pub record Waits (subscribers : List (S × ℕ)) (o : Option (Row V S)) : Type 0 where
+    pub row : Row V S
+    pub there : o ≡ Some row
+    pub wanted : row.subscribers ≡ subscribers
+    pub idle : IsIdlePhase row.phase
+
+module _ {K V S : Type 0} (n : Names K S) where
+  -- the key's subscribers are asked for again, as they are now
+  abbrev pub start_at : Machine K V S → K → Option (Row V S) → Option (Done K V S)
+  start_at m key None = quiet m
+  start_at m key (Some row) = start_again n m key row.subscribers
+
+  -- each of these keys is asked for again
+  abbrev pub start_keys : Machine K V S → List (Overdue K) → Option (Done K V S)
+  start_keys m [] = quiet m
+  start_keys m (o ∷ os) = and_then (start_at m o.key (row_of n m o.key)) (λ next. start_keys next os)
+
+  -- a key that is asked for again leaves each other as it was
+  abbrev restarted : Machine K V S → K → List (S × ℕ) → List (K × Row V S)
+  restarted m key subscribers = set_value (same_key n key) m.rows (record { subscribers = subscribers; phase = Asked m.next_attempt })
+
+  abbrev pub AllWait : Machine K V S → List (ℕ × (K × Row V S)) → Type 0
+  AllWait m qs = Each (λ q. Waits q.1.1.subscribers (row_of n m q.1.0)) qs
+
+  abbrev started : Machine K V S → K → List (S × ℕ) → Machine K V S
+  started m key subscribers = record m { rows = restarted m key subscribers; next_attempt = m.next_attempt + 1 }
+
+  abbrev pub AllIdle : Machine K V S → List (Overdue K) → Type 0
+  AllIdle m os = Each (λ o. IsIdle (row_of n m o.key)) os
+
+module _ {K V S : Type 0} (n : Names K S) (laws : IsEquivalence (same_key n)) where
+  pub waits-idle : (subscribers : List (S × ℕ)) (o : Option (Row V S)) → Waits subscribers o → IsIdle o
+  waits-idle subscribers o w = rw w.there w.idle
+
+  waits-after : (m : Machine K V S) (k : K) (xs : List (S × ℕ)) (q : K) (ys : List (S × ℕ)) → Waits xs (row_of n m k) → Waits ys (row_of n m q)
+      → Waits ys (lookup (same_key n q) (restarted n m k xs))
+  waits-after m k xs q ys one other = at (same_key n k q) refl
+    where
+      at : (b : Bool) → same_key n k q ≡ b → Waits ys (lookup (same_key n q) (restarted n m k xs))
+      at true is =
+          let both : row_of n m q ≡ row_of n m k = lookup-same n laws k q m.rows is in
+          let same_row : Some one.row ≡ Some other.row = sym one.there ∙ (sym both ∙ other.there) in
+          let row_is : one.row ≡ other.row = cc in
+          record {
+            row = record { subscribers = xs; phase = Asked m.next_attempt };
+            there = lookup-set n laws k q m.rows one.row (record { subscribers = xs; phase = Asked m.next_attempt }) one.there ∙ ap (λ b. cond b (Some (record { subscribers = xs; phase = Asked m.next_attempt })) (lookup (same_key n q) m.rows)) is;
+            wanted = sym one.wanted ∙ (ap (λ r. r.subscribers) row_is ∙ other.wanted);
+            idle = tt;
+          }
+      at false is = record {
+        row = other.row;
+        there = lookup-set n laws k q m.rows one.row (record { subscribers = xs; phase = Asked m.next_attempt }) one.there ∙ (ap (λ b. cond b (Some (record { subscribers = xs; phase = Asked m.next_attempt })) (lookup (same_key n q) m.rows)) is ∙ other.there);
+        wanted = other.wanted;
+        idle = other.idle;
+      }
+
+  all-wait-after : (m : Machine K V S) (k : K) (xs : List (S × ℕ)) (qs : List (ℕ × (K × Row V S))) → Waits xs (row_of n m k) → AllWait n m qs → AllWait n (started n m k xs) qs
+  all-wait-after m k xs [] one all = tt
+  all-wait-after m k xs (q ∷ qs) one all = (waits-after m k xs q.1.0 q.1.1.subscribers one all.0, all-wait-after m k xs qs one all.1)
+
+  pub start_all-keys : (m : Machine K V S) (qs : List (ℕ × (K × Row V S))) → AllWait n m qs → start_all n m qs ≡ start_keys n m (map overdue_of qs)
+  start_all-keys m [] all = refl
+  start_all-keys m (q ∷ qs) all =
+      at (nat_lt m.next_attempt (2 ^ 64)) (start_all-keys (started n m q.1.0 q.1.1.subscribers) qs (all-wait-after m q.1.0 q.1.1.subscribers qs all.0 all.1))
+      ∙ ap (λ xs. and_then (start_again n m q.1.0 xs) (λ next. start_keys n next (map overdue_of qs))) (sym all.0.wanted)
+      ∙ ap (λ o. and_then (start_at n m q.1.0 o) (λ next. start_keys n next (map overdue_of qs))) (sym all.0.there)
+    where
+      done : Done K V S
+      done = record { machine = started n m q.1.0 q.1.1.subscribers; effects = Start m.next_attempt q.1.0 ∷ [] }
+
+      at : (b : Bool) → start_all n (started n m q.1.0 q.1.1.subscribers) qs ≡ start_keys n (started n m q.1.0 q.1.1.subscribers) (map overdue_of qs)
+          → and_then (cond b (Some done) None) (λ next. start_all n next qs) ≡ and_then (cond b (Some done) None) (λ next. start_keys n next (map overdue_of qs))
+      at true rest = ap (λ next. and_then (Some done) (λ m. next)) rest
+      at false rest = refl
+
+  -- each key that is due waits
+  pub all-wait : (now : ℕ) (m : Machine K V S) → IsDistinct (same_key n) (keys_of m.rows) → AllWait n m (waiting_by_due now m.rows)
+  all-wait now m distinct =
+      each (waiting_by_due now m.rows) (Each-waiting (λ r. lookup (same_key n r.0) m.rows ≡ Some r.1) now m.rows (each_found n laws m.rows distinct))
+    where
+      each : (qs : List (ℕ × (K × Row V S))) → Each (λ q. (lookup (same_key n q.1.0) m.rows ≡ Some q.1.1) × IsIdlePhase q.1.1.phase) qs → AllWait n m qs
+      each [] all = tt
+      each (q ∷ qs) all = (record { row = q.1.1; there = all.0.0; wanted = refl; idle = all.0.1 }, each qs all.1)
+
+  pub all-idle : (m : Machine K V S) (qs : List (ℕ × (K × Row V S))) → AllWait n m qs → AllIdle n m (map overdue_of qs)
+  all-idle m [] all = tt
+  all-idle m (q ∷ qs) all = (waits-idle q.1.1.subscribers (row_of n m q.1.0) all.0, all-idle m qs all.1)
+
+  idle-waits : (o : Option (Row V S)) → IsIdle o → (xs : List (S × ℕ)) × Waits xs o
+  idle-waits None idle = absurd idle
+  idle-waits (Some row) idle = (row.subscribers, record { row = row; there = refl; wanted = refl; idle = idle })
+
+  all-idle-after : (m next : Machine K V S) (k : K) (row : Row V S) (os : List (Overdue K)) → row_of n m k ≡ Some row → IsIdlePhase row.phase
+      → next.rows ≡ restarted n m k row.subscribers → AllIdle n m os → AllIdle n next os
+  all-idle-after m next k row [] found idle rows all = tt
+  all-idle-after m next k row (o ∷ os) found idle rows all =
+      let one : Waits row.subscribers (row_of n m k) = record { row = row; there = found; wanted = refl; idle = idle } in
+      let other = idle-waits (row_of n m o.key) all.0 in
+      let after = waits-after m k row.subscribers o.key other.0 one other.1 in
+      (subst (λ rs. IsIdle (lookup (same_key n o.key) rs)) (sym rows) (waits-idle other.0 (lookup (same_key n o.key) (restarted n m k row.subscribers)) after), all-idle-after m next k row os found idle rows all.1)
+
+  started-rows : (m next : Machine K V S) (k : K) (xs : List (S × ℕ)) (before after : List (Effect K V S)) → onto before (start_again n m k xs) ≡ Some (record { machine = next; effects = after })
+      → next.rows ≡ restarted n m k xs
+  started-rows m next k xs before after goes = at (nat_lt m.next_attempt (2 ^ 64)) goes
+    where
+      at : (b : Bool) → onto before (cond b (Some (record { machine = started n m k xs; effects = Start m.next_attempt k ∷ [] })) None) ≡ Some (record { machine = next; effects = after }) → next.rows ≡ restarted n m k xs
+      at true goes = let same = ap (λ o. unwrap_or o (record { machine = next; effects = after })) goes in ap (λ d. d.machine.rows) (sym same)
+      at false goes = cc
+
+  -- One key is asked for again, and those after it are as idle as before.
+  pub one-started : (m next : Machine K V S) (o : Overdue K) (os : List (Overdue K)) (before after : List (Effect K V S)) → IsIdle (row_of n m o.key) → AllIdle n m os
+      → IfSome (row_of n m o.key) (λ row. onto before (start_again n m o.key row.subscribers) ≡ Some (record { machine = next; effects = after }))
+      → (onto before (start_at n m o.key (row_of n m o.key)) ≡ Some (record { machine = next; effects = after })) × AllIdle n next os
+  one-started m next o os before after idle all goes = at (row_of n m o.key) refl idle goes
+    where
+      at : (p : Option (Row V S)) → row_of n m o.key ≡ p → IsIdle p → IfSome p (λ row. onto before (start_again n m o.key row.subscribers) ≡ Some (record { machine = next; effects = after }))
+          → (onto before (start_at n m o.key p) ≡ Some (record { machine = next; effects = after })) × AllIdle n next os
+      at None found idle goes = absurd idle
+      at (Some row) found idle goes = (goes, all-idle-after m next o.key row os found idle (started-rows m next o.key row.subscribers before after goes) all)
+
+module _ {K V S : Type 0} where
   -- a part of a step, and what comes after it
   pub onto-and_then : (going : Option (Done K V S)) (next : Machine K V S → Option (Done K V S)) (before after : List (Effect K V S)) (m : Machine K V S)
       → onto before going ≡ Some (record { machine = m; effects = after }) → onto before (and_then going next) ≡ onto after (next m)

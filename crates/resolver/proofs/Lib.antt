@@ -3,6 +3,7 @@ pub mod Going
 pub mod Running
 pub mod Dues
 pub mod Joined
+pub mod Agrees
 pub mod Deliveries
 pub mod Rows
 pub mod Tallies
@@ -11,5 +12,9 @@ pub mod Marks
 pub mod Pairs
 pub mod Bridge
 pub mod OpaqueKept
-pub mod Kept
 pub mod ByDue
+pub mod Closing
+pub mod Dead
+pub mod EarnsOnce
+pub mod AsksEligible
+pub mod TriesOnce

@@ -1,12 +1,16 @@
 -- What holds of every run of the opaque machine.
-use Rattle.std.specs.Prelude.{◌≡◌, ◌≢◌, ℕ, List, [], ◌∷◌, map, Result, Ok, Err}
+use Rattle.std.specs.Prelude.{◌≡◌, ◌≢◌, ◌==◌, ℕ, Bool, false, List, [], ◌∷◌, map, Option, None, Some, Result, Ok, Err}
+use Rattle.std.specs.Map.{lookup}
+use Rattle.std.specs.BTreeMap.{is_at}
+use Rattle.std.specs.Ordering.{nat_cmp}
+use Rattle.resolver_base.specs.declared.root.Outcome.{Outcome}
 use Rattle.resolver_base.specs.declared.base.fault.Fault.{Fault}
 use Rattle.resolver_base.specs.Names.{Names}
 use Rattle.resolver_base.specs.Demand.{all_pairs_of, IsSameDemand}
 use Rattle.resolver.specs.declared.opaque.actor.Effect.{Effect}
 use Rattle.resolver.specs.declared.opaque.actor.Effect.TheVariants.{Deliver}
 use Rattle.resolver.specs.Account.{Change, Adds, Keeps, Judges, Empties, Leaves, Handed, pairs, nothing_asked, account_of}
-use Rattle.resolver.specs.Opaque.{Machine, Row, Event, Fetch, Retain, Verdict, End, Failed, opening}
+use Rattle.resolver.specs.Opaque.{Machine, Row, Phase, Judged, Event, Fetch, Retain, Verdict, End, Running, Failed, opening, row_of, closed, step}
 use Rattle.resolver.specs.OpaqueSteps.{Input}
 
 module _ {K V S : Type 0} where
@@ -41,3 +45,26 @@ module _ {K V S : Type 0} (n : Names K S) where
   KeepsDemand old inputs answers new =
       (delay : ℕ) → old ≡ opening delay → new.status ≢ Failed
       → IsSameDemand n (all_pairs_of (demanded new.rows)) (account_of (pairs n) (nothing_asked (pairs n)) (taken inputs answers)).demand
+
+abbrev pub is_judged_under : {V : Type 0} → (number : ℕ) → Phase V → Bool
+is_judged_under number (Judged j) = number == j.number
+is_judged_under number phase = false
+
+abbrev pub row_judged_under : {V S : Type 0} → (number : ℕ) → Option (Row V S) → Bool
+row_judged_under number None = false
+row_judged_under number (Some row) = is_judged_under number row.phase
+
+module _ {K V S : Type 0} (n : Names K S) where
+  abbrev pub is_live_as : Machine K V S → (number : ℕ) → Option (Handed K S) → Bool
+  is_live_as m number None = false
+  is_live_as m number (Some h) = row_judged_under number (row_of n m h.key)
+
+  -- whether a number is open, and its key is judged under it
+  abbrev pub is_live : Machine K V S → (number : ℕ) → Bool
+  is_live m number = is_live_as m number (lookup (is_at (nat_cmp number)) m.deliveries)
+
+-- A verdict that is not live closes its number and does nothing else: it retires no pair, changes no phase and hands out nothing.
+abbrev pub DeadVerdictsPass : {K S : Type 0} → Names K S → (V : Type 0) → Type 0
+DeadVerdictsPass {K} {S} n V =
+    (m : Machine K V S) (now number : ℕ) (outcome : Option Outcome) → m.status ≡ Running → is_live n m number ≡ false
+    → step n m now (Verdict number outcome) ≡ (Ok [], closed m number)

@@ -1,18 +1,27 @@
--- The waiting keys that are due, with who wants them.
+-- The waiting keys that are due.
 use Rattle.std.specs.Prelude.{ℕ, nat_le, List, [], ◌∷◌, if◌then◌else◌}
 use Rattle.resolver.specs.declared.opaque.overdue.Overdue.{Overdue}
-use Rattle.resolver.specs.Opaque.{Row, Phase, Waiting}
+use Rattle.resolver.specs.Opaque.{Phase, Waiting}
+use Rattle.resolver.specs.OpaqueActor.{Kept, phase_of}
 
-module _ {K V S : Type 0} where
-  abbrev pub overdue_of : ℕ × (K × Row V S) → Overdue K S
-  overdue_of q = record { due = q.0; key = q.1.0; subscribers = q.1.1.subscribers }
-
+module _ {K V : Type 0} where
   -- before the others, if it is due
-  abbrev pub with_due : (now : ℕ) → K × Row V S → Phase V → List (Overdue K S) → List (Overdue K S)
-  with_due now r (Waiting due) others = if nat_le due now then overdue_of (due, r) ∷ others else others
-  with_due now r phase others = others
+  abbrev pub with_due : (now : ℕ) → K → Phase V → List (Overdue K) → List (Overdue K)
+  with_due now key (Waiting due) others = if nat_le due now then record { due = due; key = key } ∷ others else others
+  with_due now key phase others = others
 
   -- in the order of the keys
-  abbrev pub due_of : (now : ℕ) → List (K × Row V S) → List (Overdue K S)
+  abbrev pub due_of : (now : ℕ) → List (K × Kept V) → List (Overdue K)
   due_of now [] = []
-  due_of now (r ∷ rs) = with_due now r r.1.phase (due_of now rs)
+  due_of now (e ∷ es) = with_due now e.0 (phase_of e.1) (due_of now es)
+
+module _ {K : Type 0} where
+  -- at its place by due: before the first that isn't due earlier
+  abbrev pub placed : Overdue K → List (Overdue K) → List (Overdue K)
+  placed o [] = o ∷ []
+  placed o (p ∷ ps) = if nat_le o.due p.due then o ∷ p ∷ ps else p ∷ placed o ps
+
+  -- from the earliest due on
+  abbrev pub by_due : List (Overdue K) → List (Overdue K)
+  by_due [] = []
+  by_due (o ∷ os) = placed o (by_due os)

@@ -3,12 +3,12 @@
 //!
 //! The machines here take one input at a time and answer with effects; they hold no clock, no
 //! socket and no thread. `opaque::Actor` fetches from one opaque source. What the peer machine will
-//! stand on are libraries by themselves: `subscribers`, `delivery` and `p2p`.
+//! stand on are libraries by themselves: `subscribers`, `delivery`, `mailbox` and `p2p`.
 #![tactic(auto)]
 
 pub use resolver_base::base;
 pub use resolver_base::root::{Delivery, Fetch, Outcome, Resolution};
-pub use resolver_demand::{delivery, ingress, subscribers};
+pub use resolver_demand::{delivery, ingress, mailbox, subscribers};
 
 pub mod laws;
 pub mod opaque;

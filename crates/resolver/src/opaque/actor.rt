@@ -1,23 +1,24 @@
 //! The actor's machine: inputs, effects, and one step after another.
 
-ghost use Rattle.std.specs.Prelude.{◌≡◌, ◌<◌, ◌^◌, ◌++◌, OnOk, IfOk, IfErr, map};
-ghost use Rattle.resolver.specs.Opaque.{called_off, all_called_off, unkept};
-ghost use Rattle.resolver.specs.OpaqueActor.{phase_of, entry_of};
-ghost use Rattle.resolver.specs.OpaqueLeft.{LeftOver};
-ghost use Rattle.resolver_base.specs.Subscribers.{without};
+ghost use Rattle.std.specs.Prelude.{◌≡◌, ◌<◌, ◌^◌, ◌++◌, ◌∷◌, [], None, IfErr, IfOk, IfSome, IsSome, OnOk, map};
+ghost use Rattle.std.specs.Map.{keys_of};
+ghost use Rattle.resolver_demand.specs.Entries.{number_of, response_of};
+ghost use Rattle.resolver.specs.declared.opaque.actor.Effect.TheVariants.{Deliver};
+ghost use Rattle.resolver.specs.OpaqueActor.{AreCached};
+ghost use Rattle.resolver.specs.OpaqueFound.{IsRefusal, flagged, handed_again};
 ghost use Rattle.resolver.specs.Steps.{stops};
 
-use super::attached::{sorted, without};
 use super::overdue::{by_due, is_any_due};
 use super::rows::{
-    Entry, Row, Stage, asked_by, attach_to, first_due, listed, prune, set_row, set_stage,
+    Keys, Row, Stage, asked_by, call_off_all, call_off_each, first_due, forget_each, listed,
 };
 use crate::ruling::{Ruling, rule_on};
 use resolver_base::base::{Fault, NonEmptyVec, Numbers, Predicate};
 use resolver_base::root::{Delivery, Outcome};
+use resolver_demand::delivery::Entries;
 use resolver_demand::ingress::FetchKey;
-use std::alloc::{AllocError, Global};
-use std::collections::BTreeMap;
+use resolver_demand::subscribers::Tracker;
+use std::alloc::Global;
 use std::marker::{Model, PhantomData};
 
 /// What the actor takes.
@@ -79,13 +80,6 @@ pub enum Effect<K, V, S> {
     },
 }
 
-/// A delivery without its verdict.
-#[derive(Drop)]
-struct Open<K, S> {
-    response: u64,
-    delivery: Delivery<K, S>,
-}
-
 #[derive(Clone, Copy)]
 enum Status {
     Running,
@@ -99,40 +93,41 @@ enum Status {
 /// Contracts see it as the opaque machine: one map from key to row, beside the open deliveries and
 /// the next numbers.
 #[derive(Drop)]
-pub struct Actor<K: Ord, V, S, Q> {
-    rows: BTreeMap<K, Entry<V, S>>,
-    deliveries: BTreeMap<u64, Open<K, S>>,
+pub struct Actor<K: Ord, V, S: Ord, Q> {
+    demand: Tracker<K, S>,
+    entries: Keys<K, S, V>,
     attempts: Numbers,
-    numbers: Numbers,
     delay: u128,
     status: Status,
     alloc: Global,
     predicate: PhantomData<Q>,
 }
 
-impl<K: Ord, V, S, Q> Model for Actor<K, V, S, Q> {
+impl<K: Ord, V, S: Ord, Q> Model for Actor<K, V, S, Q> {
     ghost use Rattle.std.specs.Prelude.{◌<◌, ◌^◌};
     ghost use Rattle.resolver.specs.Opaque.{Machine};
 
     ghost Value = { Machine K V S };
 
-    ghost use Rattle.resolver.specs.OpaqueActor.{machine_of};
+    ghost use Rattle.resolver.specs.OpaqueActor.{IsSound, machine_of};
 
     ghost view = { machine_of };
 
-    ghost invariant = { λ a. a.delay < 2 ^ 94 };
+    ghost invariant = { IsSound K.cmp };
 }
 
 impl<K: Ord + Clone, V: Clone, S: Ord + Clone, Q: Predicate<K, S> + Drop> Actor<K, V, S, Q> {
-    ghost use Rattle.std.specs.Prelude.{◌+◌, None, Some, Err, unwrap_or, IfSome, MatchOption, is_none, false, length, ◌==◌};
+    ghost use Rattle.std.specs.Prelude.{◌==◌, Err, Some, false, is_none, length};
+    ghost use Rattle.std.specs.List.{IsDistinct};
     ghost use Rattle.std.specs.Map.{lookup};
-    ghost use Rattle.std.specs.Ordering.{nat_cmp};
+    ghost use Rattle.std.specs.Ordering.{is_eq, nat_cmp};
     ghost use Rattle.std.specs.BTreeMap.{is_at};
     ghost use Rattle.resolver_base.specs.Names.{names};
-    ghost use Rattle.resolver.specs.Opaque.{opening, start_new, fetch_one, fetch, hand_out, fetched, verdict_at, verdict, does, retry, without_row, row_of, next_retry, end, retain, start_again, start_all, waiting_by_due, quiet};
+    ghost use Rattle.resolver_base.specs.Subscribers.{attached_all};
+    ghost use Rattle.resolver.specs.Opaque.{opening, start_new, fetch_one, fetch, hand_out, fetched, verdict, does, row_of, next_retry, end, retain, start_again, start_all, waiting_by_due};
     ghost use Rattle.resolver.specs.OpaqueSteps.{Goes, Takes, Runs, answer_of, takes_no_memory};
     ghost use Rattle.resolver.specs.OpaqueInputs.{item_of, event_of, input_of};
-    ghost use Rattle.resolver.specs.OpaqueActor.{handed_of};
+    ghost use Rattle.resolver.specs.OpaqueFound.{IsIdle};
     ghost use Rattle.resolver.specs.OpaqueListed.{listed};
     ghost use Rattle.resolver.specs.OpaqueLaws.{KeepsDemand};
 
@@ -143,10 +138,9 @@ impl<K: Ord + Clone, V: Clone, S: Ord + Clone, Q: Predicate<K, S> + Drop> Actor<
         ensures { result ≡ opening delay }
     {
         Actor {
-            rows: BTreeMap::new(alloc),
-            deliveries: BTreeMap::new(alloc),
+            demand: Tracker::new(alloc),
+            entries: Entries::new(alloc),
             attempts: Numbers::new(),
-            numbers: Numbers::new(),
             delay,
             status: Status::Running,
             alloc,
@@ -157,13 +151,15 @@ impl<K: Ord + Clone, V: Clone, S: Ord + Clone, Q: Predicate<K, S> + Drop> Actor<
     /// Takes one input and answers with its effects, in order.
     ///
     /// `OutOfMemory` and `Exhausted` fail the actor for good: each later step answers `Failed` and
-    /// changes nothing, as after `End` each answers `Ended`. A verdict that is passed over takes no memory. Finding the row of an
-    /// attempt takes time linear in the demanded keys.
+    /// changes nothing, as after `End` each answers `Ended`. A verdict that is passed over takes no
+    /// memory. A fetched value and `RetriesDue` take time linear in the demanded keys, and a verdict
+    /// logarithmic time.
     pub fn step(&mut self, input: Input<K, V, S, Q>) -> Result<Vec<Effect<K, V, S>>, Fault>
         requires keys_clone { (x y : K) → K.is_clone x y → y ≡ x }
         requires values_clone { (x y : V) → V.is_clone x y → y ≡ x }
         requires subscribers_clone { (x y : S) → S.is_clone x y → y ≡ x }
-        ensures { Takes (names K.cmp S.cmp) self.old (input_of Q.keeps input) (answer_of result) self.new }
+        ensures { Takes (names K.cmp S.cmp) self.old (input_of Q.keeps input)
+            (answer_of result) self.new }
     {
         match self.status {
             Status::Running => {}
@@ -192,9 +188,12 @@ impl<K: Ord + Clone, V: Clone, S: Ord + Clone, Q: Predicate<K, S> + Drop> Actor<
         requires keys_clone { (x y : K) → K.is_clone x y → y ≡ x }
         requires values_clone { (x y : V) → V.is_clone x y → y ≡ x }
         requires subscribers_clone { (x y : S) → S.is_clone x y → y ≡ x }
-        ensures runs { IfOk result (λ answers. Runs (names K.cmp S.cmp) self.old (map (input_of Q.keeps) inputs.items) (map answer_of answers.items) self.new) }
-        ensures demand { IfOk result (λ answers. KeepsDemand (names K.cmp S.cmp) self.old (map (input_of Q.keeps) inputs.items) (map answer_of answers.items) self.new) }
-        ensures err { IfErr result (λ fault. (fault ≡ Fault.OutOfMemory) × (self.new ≡ self.old)) }
+        ensures runs { IfOk result (λ answers. Runs (names K.cmp S.cmp) self.old
+            (map (input_of Q.keeps) inputs.items) (map answer_of answers.items) self.new) }
+        ensures demand { IfOk result (λ answers. KeepsDemand (names K.cmp S.cmp) self.old
+            (map (input_of Q.keeps) inputs.items) (map answer_of answers.items) self.new) }
+        ensures err { IfErr result
+            (λ fault. (fault ≡ Fault.OutOfMemory) × (self.new ≡ self.old)) }
     {
         let mut answers = Vec::with_capacity(self.alloc, inputs.len())?;
         for input in inputs {
@@ -208,14 +207,17 @@ impl<K: Ord + Clone, V: Clone, S: Ord + Clone, Q: Predicate<K, S> + Drop> Actor<
         Ok(answers)
     }
 
-    /// The demanded keys, in their order. Where memory is wanting nothing has changed.
+    /// The demanded keys, in their order: each stands in one row, so in one phase. Where memory is
+    /// wanting nothing has changed.
     pub fn rows(&self) -> Result<Vec<Row<K, S>>, Fault>
         requires keys_clone { (x y : K) → K.is_clone x y → y ≡ x }
         requires subscribers_clone { (x y : S) → S.is_clone x y → y ≡ x }
         ensures rows { IfOk result (λ rows. rows.items ≡ map listed self.now.rows) }
+        ensures once { IfOk result
+            (λ rows. IsDistinct (λ k l. is_eq (K.cmp k l)) (map (λ row. row.key) rows.items)) }
         ensures only { IfErr result (λ fault. fault ≡ Fault.OutOfMemory) }
     {
-        Ok(listed(self.alloc, &self.rows)?)
+        listed(self.alloc, &self.demand, &self.entries)
     }
 
     /// The earliest moment at which a waiting key is due, if a key is waiting. It takes time
@@ -223,7 +225,7 @@ impl<K: Ord + Clone, V: Clone, S: Ord + Clone, Q: Predicate<K, S> + Drop> Actor<
     pub fn next_retry(&self) -> Option<u128>
         ensures { result ≡ next_retry self.now.rows }
     {
-        first_due(&self.rows)
+        first_due(&self.entries)
     }
 
     fn advance(
@@ -236,8 +238,10 @@ impl<K: Ord + Clone, V: Clone, S: Ord + Clone, Q: Predicate<K, S> + Drop> Actor<
         requires values_clone { (x y : V) → V.is_clone x y → y ≡ x }
         requires subscribers_clone { (x y : S) → S.is_clone x y → y ≡ x }
         requires moment { now < 2 ^ 94 }
-        ensures goes { Goes (does (names K.cmp S.cmp) self.old now (event_of Q.keeps event)) effects.old.items effects.new.items self.new result }
-        ensures memory { result ≡ Err Fault.OutOfMemory → takes_no_memory self.old now (event_of Q.keeps event) ≡ false }
+        ensures goes { Goes (does (names K.cmp S.cmp) self.old now (event_of Q.keeps event))
+            effects.old.items effects.new.items self.new result }
+        ensures memory { result ≡ Err Fault.OutOfMemory
+            → takes_no_memory self.old now (event_of Q.keeps event) ≡ false }
     {
         match event {
             Event::Fetch(items) => self.fetch(items, effects),
@@ -255,7 +259,8 @@ impl<K: Ord + Clone, V: Clone, S: Ord + Clone, Q: Predicate<K, S> + Drop> Actor<
         effects: &mut Vec<Effect<K, V, S>>,
     ) -> Result<(), Fault>
         requires clones { (x y : K) → K.is_clone x y → y ≡ x }
-        ensures { Goes (fetch (names K.cmp S.cmp) self.old (map item_of items.items)) effects.old.items effects.new.items self.new result }
+        ensures { Goes (fetch (names K.cmp S.cmp) self.old (map item_of items.items))
+            effects.old.items effects.new.items self.new result }
     {
         for item in items {
             self.fetch_one(item, effects)?;
@@ -269,19 +274,20 @@ impl<K: Ord + Clone, V: Clone, S: Ord + Clone, Q: Predicate<K, S> + Drop> Actor<
         effects: &mut Vec<Effect<K, V, S>>,
     ) -> Result<(), Fault>
         requires clones { (x y : K) → K.is_clone x y → y ≡ x }
-        ensures { Goes (fetch_one (names K.cmp S.cmp) self.old (item_of item) (row_of (names K.cmp S.cmp) self.old item.key)) effects.old.items effects.new.items self.new result }
+        ensures { Goes (fetch_one (names K.cmp S.cmp) self.old (item_of item)
+            (row_of (names K.cmp S.cmp) self.old item.key))
+            effects.old.items effects.new.items self.new result }
     {
         let FetchKey {
             key,
             subscribers,
             ..
         } = item;
-        if self.rows.contains_key(&key) {
-            attach_to(&mut self.rows, &key, subscribers.into_vec())?;
+        if self.demand.contains(&key) {
+            self.demand.insert(key, subscribers)?;
             return Ok(());
         }
-        let attached = sorted(self.alloc, subscribers)?;
-        self.start_new(key, attached, effects)
+        self.start_new(key, subscribers, effects)
     }
 
     fn start_new(
@@ -291,29 +297,33 @@ impl<K: Ord + Clone, V: Clone, S: Ord + Clone, Q: Predicate<K, S> + Drop> Actor<
         effects: &mut Vec<Effect<K, V, S>>,
     ) -> Result<(), Fault>
         requires clones { (x y : K) → K.is_clone x y → y ≡ x }
-        ensures { Goes (start_new (names K.cmp S.cmp) self.old key subscribers) effects.old.items effects.new.items self.new result }
+        requires absent { row_of (names K.cmp S.cmp) self.old key ≡ None }
+        ensures { Goes (start_new (names K.cmp S.cmp) self.old key
+            (attached_all S.cmp [] subscribers))
+            effects.old.items effects.new.items self.new result }
     {
         let attempt = self.attempts.take().ok_or(Fault::Exhausted)?;
-        effects.push(Effect::Start {
-            attempt,
-            key: key.clone()?,
-        })?;
-        self.rows.insert(
-            key,
-            Entry {
-                subscribers,
-                stage: Stage::Asked { attempt },
-            },
-        )?;
+        let wanted = key.clone()?;
+        let tracked = key.clone()?;
+        self.demand.insert(wanted, subscribers)?;
+        let asked = self.entries.insert_state(tracked, Stage::Asked { attempt });
+        if let Err(fault) = asked {
+            self.demand.remove(&key);
+            return Err(fault);
+        }
+        effects.push(Effect::Start { attempt, key })?;
         Ok(())
     }
 
     fn retain(&mut self, keep: &Q, effects: &mut Vec<Effect<K, V, S>>) -> Result<(), Fault>
-        ensures { Goes (Some (retain self.old (Q.keeps keep.now))) effects.old.items effects.new.items self.new result }
+        requires clones { (x y : K) → K.is_clone x y → y ≡ x }
+        ensures { Goes (Some (retain self.old (Q.keeps keep.now)))
+            effects.old.items effects.new.items self.new result }
     {
-        call_off_unkept(&self.rows, keep, effects)?;
-        prune(&mut self.rows, keep);
-        Ok(())
+        let emptied = self.demand.retain(keep)?;
+        let called_off = call_off_each(&self.entries, emptied.as_slice(), effects);
+        forget_each(&mut self.entries, emptied);
+        called_off
     }
 
     fn fetched(
@@ -327,77 +337,50 @@ impl<K: Ord + Clone, V: Clone, S: Ord + Clone, Q: Predicate<K, S> + Drop> Actor<
         requires values_clone { (x y : V) → V.is_clone x y → y ≡ x }
         requires subscribers_clone { (x y : S) → S.is_clone x y → y ≡ x }
         requires moment { now < 2 ^ 94 }
-        ensures { Goes (fetched (names K.cmp S.cmp) self.old now attempt value) effects.old.items effects.new.items self.new result }
+        ensures { Goes (fetched (names K.cmp S.cmp) self.old now attempt value)
+            effects.old.items effects.new.items self.new result }
     {
-        let Some((key, subscribers)) = asked_by(&self.rows, attempt)? else {
+        let Some(key) = asked_by(&self.entries, attempt)? else {
             return Ok(());
         };
         match value {
             None => {
                 let due = now + self.delay;
-                set_row(
-                    &mut self.rows,
-                    &key,
-                    Entry {
-                        subscribers,
-                        stage: Stage::Waiting { due },
-                    },
-                );
+                self.entries.set_state(&key, Stage::Waiting { due });
                 Ok(())
             }
-            Some(value) => self.hand_out(key, subscribers, None, value, false, effects),
+            Some(value) => self.hand_out(key, value, effects),
         }
     }
 
-    /// Hands a value out, as a new response or as the one with this name.
+    /// Hands a new response out.
     fn hand_out(
         &mut self,
         key: K,
-        subscribers: NonEmptyVec<(S, u64)>,
-        response: Option<u64>,
         value: V,
-        accepted: bool,
         effects: &mut Vec<Effect<K, V, S>>,
     ) -> Result<(), Fault>
         requires keys_clone { (x y : K) → K.is_clone x y → y ≡ x }
         requires values_clone { (x y : V) → V.is_clone x y → y ≡ x }
         requires subscribers_clone { (x y : S) → S.is_clone x y → y ≡ x }
-        ensures { Goes (hand_out (names K.cmp S.cmp) self.old key subscribers (unwrap_or response self.old.next_number) value accepted) effects.old.items effects.new.items self.new result }
+        requires idle { IsIdle (row_of (names K.cmp S.cmp) self.old key) }
+        ensures { IfSome (row_of (names K.cmp S.cmp) self.old key) (λ row.
+            Goes (hand_out (names K.cmp S.cmp) self.old key row.subscribers self.old.next_number
+            value false) effects.old.items effects.new.items self.new result) }
     {
-        let number = self.numbers.take().ok_or(Fault::Exhausted)?;
-        let response = response.unwrap_or(number);
-        let delivery = Delivery {
-            key: key.clone()?,
-            subscribers: subscribers.clone()?,
+        let Some(subscribers) = self.demand.pending(&key)? else {
+            unreachable!()
         };
+        let delivery = Delivery { key, subscribers };
+        let told = delivery.clone()?;
+        let copy = value.clone()?;
+        let number = self.entries.deliver(delivery, (), copy)?;
         effects.push(Effect::Deliver {
             number,
-            response,
-            delivery,
-            value: value.clone()?,
-        })?;
-        let stage = Stage::Judged {
-            number,
-            response,
+            response: number,
+            delivery: told,
             value,
-            accepted,
-        };
-        let attached = subscribers.clone()?;
-        set_row(
-            &mut self.rows,
-            &key,
-            Entry {
-                subscribers: attached,
-                stage,
-            },
-        );
-        self.deliveries.insert(
-            number,
-            Open {
-                response,
-                delivery: Delivery { key, subscribers },
-            },
-        )?;
+        })?;
         Ok(())
     }
 
@@ -412,60 +395,35 @@ impl<K: Ord + Clone, V: Clone, S: Ord + Clone, Q: Predicate<K, S> + Drop> Actor<
         requires values_clone { (x y : V) → V.is_clone x y → y ≡ x }
         requires subscribers_clone { (x y : S) → S.is_clone x y → y ≡ x }
         requires moment { now < 2 ^ 94 }
-        ensures goes { Goes (verdict (names K.cmp S.cmp) self.old now number outcome) effects.old.items effects.new.items self.new result }
-        ensures memory { result ≡ Err Fault.OutOfMemory → is_none (lookup (is_at (nat_cmp number)) self.old.deliveries) ≡ false }
+        ensures goes { Goes (verdict (names K.cmp S.cmp) self.old now number outcome)
+            effects.old.items effects.new.items self.new result }
+        ensures memory { result ≡ Err Fault.OutOfMemory
+            → is_none (lookup (is_at (nat_cmp number)) self.old.deliveries) ≡ false }
     {
-        let Some(opened) = self.deliveries.remove(&number) else {
+        let Ok(completion) = self.entries.completed(number, outcome) else {
             return Ok(());
         };
-        self.judge(now, number, opened, outcome, effects)
-    }
-
-    /// A verdict on a delivery that was open.
-    fn judge(
-        &mut self,
-        now: u128,
-        number: u64,
-        opened: Open<K, S>,
-        outcome: Option<Outcome>,
-        effects: &mut Vec<Effect<K, V, S>>,
-    ) -> Result<(), Fault>
-        requires keys_clone { (x y : K) → K.is_clone x y → y ≡ x }
-        requires values_clone { (x y : V) → V.is_clone x y → y ≡ x }
-        requires subscribers_clone { (x y : S) → S.is_clone x y → y ≡ x }
-        requires moment { now < 2 ^ 94 }
-        ensures { Goes (verdict_at (names K.cmp S.cmp) self.old now number (handed_of opened) outcome (row_of (names K.cmp S.cmp) self.old opened.delivery.key)) effects.old.items effects.new.items self.new result }
-    {
-        let Open { delivery, .. } = opened;
-        let Delivery { key, subscribers } = delivery;
-        let Some(row) = self.rows.get(&key) else {
-            return Ok(());
-        };
-        let Stage::Judged {
-            number: current,
-            response,
-            value,
-            accepted,
-        } = &row.stage
-        else {
-            return Ok(());
-        };
-        if number != *current {
+        if completion.canceled {
             return Ok(());
         }
-        match rule_on(outcome, *accepted) {
+        let Delivery { key, subscribers } = completion.delivery;
+        match rule_on(outcome, self.entries.response_accepted(&key)) {
             Ruling::Serve { accepted } => {
-                let response = *response;
-                let all = row.subscribers.as_slice();
-                let left = left_over(self.alloc, subscribers.as_slice(), all, value)?;
-                self.serve(key, left, response, accepted, effects)
+                let Some(subscribers) = self.demand.remove_delivered(&key, &subscribers)? else {
+                    self.entries.remove(&key);
+                    return Ok(());
+                };
+                let delivery = Delivery { key, subscribers };
+                hand_out_again(&mut self.entries, delivery, accepted, effects)
             }
             Ruling::Retry => {
-                self.wait(now, &key);
+                let later = now + self.delay;
+                self.entries.set_state(&key, Stage::Waiting { due: later });
                 Ok(())
             }
             Ruling::Retire => {
-                self.retire(&key);
+                self.demand.remove(&key);
+                self.entries.remove(&key);
                 Ok(())
             }
         }
@@ -473,144 +431,94 @@ impl<K: Ord + Clone, V: Clone, S: Ord + Clone, Q: Predicate<K, S> + Drop> Actor<
 
     fn start_due(&mut self, now: u128, effects: &mut Vec<Effect<K, V, S>>) -> Result<(), Fault>
         requires keys_clone { (x y : K) → K.is_clone x y → y ≡ x }
-        requires subscribers_clone { (x y : S) → S.is_clone x y → y ≡ x }
-        ensures goes { Goes (start_all (names K.cmp S.cmp) self.old (waiting_by_due now self.old.rows)) effects.old.items effects.new.items self.new result }
-        ensures memory { result ≡ Err Fault.OutOfMemory → (length (waiting_by_due now self.old.rows) == 0) ≡ false }
+        ensures goes { Goes (start_all (names K.cmp S.cmp) self.old
+            (waiting_by_due now self.old.rows))
+            effects.old.items effects.new.items self.new result }
+        ensures memory { result ≡ Err Fault.OutOfMemory
+            → (length (waiting_by_due now self.old.rows) == 0) ≡ false }
     {
-        if !is_any_due(&self.rows, now) {
+        if !is_any_due(&self.entries, now) {
             return Ok(());
         }
-        for one in by_due(self.alloc, &self.rows, now)? {
-            self.start_again(one.key, one.subscribers, effects)?;
+        for one in by_due(self.alloc, &self.entries, now)? {
+            self.start_again(one.key, effects)?;
         }
         Ok(())
     }
 
-    fn start_again(
-        &mut self,
-        key: K,
-        subscribers: NonEmptyVec<(S, u64)>,
-        effects: &mut Vec<Effect<K, V, S>>,
-    ) -> Result<(), Fault>
-        ensures { Goes (start_again (names K.cmp S.cmp) self.old key subscribers) effects.old.items effects.new.items self.new result }
+    fn start_again(&mut self, key: K, effects: &mut Vec<Effect<K, V, S>>) -> Result<(), Fault>
+        requires idle { IsIdle (row_of (names K.cmp S.cmp) self.old key) }
+        ensures { IfSome (row_of (names K.cmp S.cmp) self.old key) (λ row.
+            Goes (start_again (names K.cmp S.cmp) self.old key row.subscribers)
+            effects.old.items effects.new.items self.new result) }
     {
         let attempt = self.attempts.take().ok_or(Fault::Exhausted)?;
-        let stage = Stage::Asked { attempt };
-        set_row(&mut self.rows, &key, Entry { subscribers, stage });
+        self.entries.set_state(&key, Stage::Asked { attempt });
         effects.push(Effect::Start { attempt, key })?;
         Ok(())
     }
 
     fn end(&mut self, effects: &mut Vec<Effect<K, V, S>>) -> Result<(), Fault>
-        ensures { Goes (Some (end self.old)) effects.old.items effects.new.items self.new result }
+        ensures { Goes (Some (end self.old))
+            effects.old.items effects.new.items self.new result }
     {
-        call_off_all(&self.rows, effects)?;
-        self.rows.clear();
-        self.deliveries.clear();
+        call_off_all(&self.entries, effects)?;
+        self.demand.clear();
+        self.entries.clear();
         self.status = Status::Ended;
         Ok(())
     }
-
-    /// Hands the response out to those who are left, or retires the key where nobody is.
-    fn serve(
-        &mut self,
-        key: K,
-        left: Option<(NonEmptyVec<(S, u64)>, V)>,
-        response: u64,
-        accepted: bool,
-        effects: &mut Vec<Effect<K, V, S>>,
-    ) -> Result<(), Fault>
-        requires keys_clone { (x y : K) → K.is_clone x y → y ≡ x }
-        requires values_clone { (x y : V) → V.is_clone x y → y ≡ x }
-        requires subscribers_clone { (x y : S) → S.is_clone x y → y ≡ x }
-        ensures { MatchOption left (Goes (quiet (without_row (names K.cmp S.cmp) self.old key)) effects.old.items effects.new.items self.new result) (λ l. Goes (hand_out (names K.cmp S.cmp) self.old key l.0 response l.1 accepted) effects.old.items effects.new.items self.new result) }
-    {
-        match left {
-            None => {
-                self.retire(&key);
-                Ok(())
-            }
-            Some((rest, value)) => {
-                self.hand_out(key, rest, Some(response), value, accepted, effects)
-            }
-        }
-    }
-
-    /// The key waits until the delay is over.
-    fn wait(&mut self, now: u128, key: &K)
-        requires moment { now < 2 ^ 94 }
-        ensures { IfSome (row_of (names K.cmp S.cmp) self.old key.now) (λ row. self.new ≡ retry (names K.cmp S.cmp) self.old now key.now row.subscribers) }
-    {
-        let due = now + self.delay;
-        set_stage(&mut self.rows, key, Stage::Waiting { due });
-    }
-
-    fn retire(&mut self, key: &K)
-        ensures { self.new ≡ without_row (names K.cmp S.cmp) self.old key.now }
-    {
-        self.rows.remove(key);
-    }
 }
 
-/// The subscribers that are not among the named ones, with a copy of the value for them. None
-/// where nobody is left.
-fn left_over<V: Clone, S: Ord + Clone>(
-    alloc: Global,
-    named: &[(S, u64)],
-    all: &[(S, u64)],
-    value: &V,
-) -> Result<Option<(NonEmptyVec<(S, u64)>, V)>, Fault>
+/// Hands the cached response out once more, accepted or not.
+fn hand_out_again<K: Ord + Clone + Drop, V: Clone + Drop, S: Clone + Drop>(
+    entries: &mut Keys<K, S, V>,
+    delivery: Delivery<K, S>,
+    accepted: bool,
+    effects: &mut Vec<Effect<K, V, S>>,
+) -> Result<(), Fault>
+    requires keys_clone { (x y : K) → K.is_clone x y → y ≡ x }
     requires values_clone { (x y : V) → V.is_clone x y → y ≡ x }
     requires subscribers_clone { (x y : S) → S.is_clone x y → y ≡ x }
-    ensures left { IfOk result (λ left. LeftOver (without S.cmp named.now all.now) value.now left) }
-    ensures only { IfErr result (λ fault. fault ≡ Fault.OutOfMemory) }
+    requires cached { IsSome (response_of K.cmp entries.old delivery.key) }
+    requires free { number_of K.cmp entries.old delivery.key ≡ None }
+    ensures ok { OnOk result (entries.new ≡ handed_again K.cmp delivery accepted entries.old) }
+    ensures told { OnOk result (IfSome (response_of K.cmp entries.old delivery.key) (λ r.
+        effects.new.items ≡ effects.old.items
+        ++ Deliver entries.old.next r.name delivery r.value ∷ [])) }
+    ensures room { OnOk result (entries.old.next < 2 ^ 64) }
+    ensures same { keys_of entries.new.keys ≡ keys_of entries.old.keys }
+    ensures cached { AreCached entries.old.keys → AreCached entries.new.keys }
+    ensures only { IfErr result (λ fault. IsRefusal entries.old.next fault) }
 {
-    match NonEmptyVec::try_from(without(alloc, named, all)?) {
-        Err(_) => Ok(None),
-        Ok(rest) => Ok(Some((rest, value.clone()?))),
-    }
-}
-
-/// Calls off what is being done for each key.
-fn call_off_all<K: Ord + Drop, V: Drop, S: Drop>(
-    rows: &BTreeMap<K, Entry<V, S>>,
-    effects: &mut Vec<Effect<K, V, S>>,
-) -> Result<(), AllocError>
-    ensures { OnOk result (effects.new.items ≡ effects.old.items ++ all_called_off (map entry_of rows.now.entries)) }
-{
-    for (_, row) in rows {
-        call_off(&row.stage, effects)?;
-    }
+    note_accepted(entries, &delivery.key, accepted);
+    let Some(response) = entries.response(&delivery.key) else {
+        unreachable!()
+    };
+    let name = response.name;
+    let value = response.value.clone()?;
+    let told = delivery.clone()?;
+    let number = entries.redeliver(delivery)?;
+    effects.push(Effect::Deliver {
+        number,
+        response: name,
+        delivery: told,
+        value,
+    })?;
     Ok(())
 }
 
-/// Calls off what is being done for each key that no subscriber is kept of.
-fn call_off_unkept<K: Ord + Drop, V: Drop, S: Ord + Drop, Q: Predicate<K, S>>(
-    rows: &BTreeMap<K, Entry<V, S>>,
-    keep: &Q,
-    effects: &mut Vec<Effect<K, V, S>>,
-) -> Result<(), AllocError>
-    ensures { OnOk result (effects.new.items ≡ effects.old.items ++ all_called_off (unkept (Q.keeps keep.now) (map entry_of rows.now.entries))) }
+/// Notes that a key's cached response is right, if it is.
+fn note_accepted<K: Ord + Drop, V: Drop, S: Drop>(
+    entries: &mut Keys<K, S, V>,
+    key: &K,
+    accepted: bool,
+)
+    requires cached { IsSome (response_of K.cmp entries.old key.now) }
+    ensures { entries.new ≡ flagged K.cmp accepted key.now entries.old }
 {
-    for (key, row) in rows {
-        if !row.subscribers.keeps_any(key, keep) {
-            call_off(&row.stage, effects)?;
-        }
-    }
-    Ok(())
-}
-
-/// Calls off what is being done for a key.
-fn call_off<K: Drop, V: Drop, S: Drop>(
-    stage: &Stage<V>,
-    effects: &mut Vec<Effect<K, V, S>>,
-) -> Result<(), AllocError>
-    ensures { OnOk result (effects.new.items ≡ effects.old.items ++ called_off (phase_of stage.now)) }
-{
-    match stage {
-        Stage::Waiting { .. } => Ok(()),
-        Stage::Asked { attempt } => Ok(effects.push(Effect::Abort { attempt: *attempt })?),
-        Stage::Judged { number, .. } => Ok(effects.push(Effect::Cancel { number: *number })?),
+    if accepted {
+        entries.accept_response(key);
     }
 }
 

@@ -1,30 +1,27 @@
 //! The waiting keys that are due.
 
-ghost use Rattle.std.specs.Prelude.{◌≡◌, IfOk, length, map, nat_lt};
-ghost use Rattle.resolver.specs.Opaque.{waiting_by_due};
-ghost use Rattle.resolver.specs.OpaqueActor.{entry_of};
-ghost use Rattle.resolver.specs.OpaqueOverdue.{overdue_of, due_of};
+ghost use Rattle.std.specs.Prelude.{◌≡◌, IfErr, IfOk, length, nat_lt};
+ghost use Rattle.resolver_base.specs.declared.base.fault.Fault.TheVariants.{OutOfMemory};
+ghost use Rattle.resolver.specs.OpaqueOverdue.{by_due, due_of};
 
-use super::rows::{Entry, Stage};
-use resolver_base::base::NonEmptyVec;
-use std::alloc::{AllocError, Global};
-use std::collections::BTreeMap;
+use super::rows::{Keys, Phase, listed_phase};
+use resolver_base::base::Fault;
+use std::alloc::Global;
 
 /// A waiting key that is due.
 #[derive(Drop)]
-pub struct Overdue<K, S> {
+pub struct Overdue<K> {
     pub due: u128,
     pub key: K,
-    pub subscribers: NonEmptyVec<(S, u64)>,
 }
 
 /// Whether a waiting key is due.
-pub fn is_any_due<K: Ord, V, S>(rows: &BTreeMap<K, Entry<V, S>>, now: u128) -> bool
-    ensures { result ≡ nat_lt 0 (length (waiting_by_due now (map entry_of rows.now.entries))) }
+pub fn is_any_due<K: Ord + Drop, V: Drop, S: Drop>(entries: &Keys<K, S, V>, now: u128) -> bool
+    ensures { result ≡ nat_lt 0 (length (due_of now entries.now.keys)) }
 {
-    for (_, row) in rows {
-        if let Stage::Waiting { due } = &row.stage {
-            if *due <= now {
+    for (_, entry) in entries.iter() {
+        if let Phase::Waiting { due } = listed_phase(entry) {
+            if due <= now {
                 return true;
             }
         }
@@ -33,38 +30,37 @@ pub fn is_any_due<K: Ord, V, S>(rows: &BTreeMap<K, Entry<V, S>>, now: u128) -> b
 }
 
 /// The waiting keys that are due, from the earliest due on. Keys of one due are in their order.
-pub fn by_due<K: Ord + Clone, V, S: Clone>(
+pub fn by_due<K: Ord + Clone + Drop, V: Drop, S: Drop>(
     alloc: Global,
-    rows: &BTreeMap<K, Entry<V, S>>,
+    entries: &Keys<K, S, V>,
     now: u128,
-) -> Result<Vec<Overdue<K, S>>, AllocError>
+) -> Result<Vec<Overdue<K>>, Fault>
     requires keys_clone { (x y : K) → K.is_clone x y → y ≡ x }
-    requires subscribers_clone { (x y : S) → S.is_clone x y → y ≡ x }
-    ensures { IfOk result (λ list. list.items ≡ map overdue_of (waiting_by_due now (map entry_of rows.now.entries))) }
+    ensures ok { IfOk result (λ list. list.items ≡ by_due (due_of now entries.now.keys)) }
+    ensures only { IfErr result (λ fault. fault ≡ OutOfMemory) }
 {
-    let mut list = due_keys(alloc, rows, now)?;
+    let mut list = due_keys(alloc, entries, now)?;
     list.sort_by_key(|one| one.due)?;
     Ok(list)
 }
 
 /// The waiting keys that are due, in their order.
-fn due_keys<K: Ord + Clone, V, S: Clone>(
+fn due_keys<K: Ord + Clone + Drop, V: Drop, S: Drop>(
     alloc: Global,
-    rows: &BTreeMap<K, Entry<V, S>>,
+    entries: &Keys<K, S, V>,
     now: u128,
-) -> Result<Vec<Overdue<K, S>>, AllocError>
+) -> Result<Vec<Overdue<K>>, Fault>
     requires keys_clone { (x y : K) → K.is_clone x y → y ≡ x }
-    requires subscribers_clone { (x y : S) → S.is_clone x y → y ≡ x }
-    ensures { IfOk result (λ list. list.items ≡ due_of now (map entry_of rows.now.entries)) }
+    ensures ok { IfOk result (λ list. list.items ≡ due_of now entries.now.keys) }
+    ensures only { IfErr result (λ fault. fault ≡ OutOfMemory) }
 {
     let mut list = Vec::new(alloc);
-    for (key, row) in rows {
-        if let Stage::Waiting { due } = &row.stage {
-            if *due <= now {
+    for (key, entry) in entries.iter() {
+        if let Phase::Waiting { due } = listed_phase(entry) {
+            if due <= now {
                 list.push(Overdue {
-                    due: *due,
+                    due,
                     key: key.clone()?,
-                    subscribers: row.subscribers.clone()?,
                 })?;
             }
         }

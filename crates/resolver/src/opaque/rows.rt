@@ -1,18 +1,17 @@
 //! The demanded keys of the actor: who wants each, and what is being done for it.
 
-ghost use Rattle.std.specs.Prelude.{◌≡◌, IfSome, OnOk, IfOk, MatchBool, find, map};
-ghost use Rattle.std.specs.Option.{option_map};
-ghost use Rattle.std.specs.Map.{set_value};
-ghost use Rattle.std.specs.BTreeMap.{get, is_at};
-ghost use Rattle.resolver_base.specs.Subscribers.{all_kept, attached_all, keeps_any};
-ghost use Rattle.resolver.specs.Opaque.{is_asked_by, next_retry, kept};
-ghost use Rattle.resolver.specs.OpaqueActor.{phase_of, entry_of};
+ghost use Rattle.std.specs.Prelude.{◌≡◌, ◌++◌, IfErr, IfOk, OnOk, map};
+ghost use Rattle.resolver_base.specs.declared.base.fault.Fault.TheVariants.{OutOfMemory};
+ghost use Rattle.resolver.specs.Opaque.{called_off};
+ghost use Rattle.resolver.specs.OpaqueActor.{phase_of, rows_of};
+ghost use Rattle.resolver.specs.OpaqueFound.{all_kept_called_off, asked_key, each_called_off, first_due, without_each};
 ghost use Rattle.resolver.specs.OpaqueListed.{listed, listed_phase};
 
-use super::attached::attach_all;
-use resolver_base::base::{NonEmptyVec, Predicate};
+use super::actor::Effect;
+use resolver_base::base::{Fault, NonEmptyVec};
+use resolver_demand::delivery::{Entries, Entry};
+use resolver_demand::subscribers::Tracker;
 use std::alloc::{AllocError, Global};
-use std::collections::BTreeMap;
 
 /// What is being done for a demanded key.
 #[derive(Clone, Copy, Debug, PartialEq, Eq)]
@@ -36,146 +35,161 @@ pub struct Row<K, S> {
     pub phase: Phase,
 }
 
-/// What is being done for a demanded key, with the value that is being judged.
-#[derive(Drop)]
-pub enum Stage<V> {
-    Waiting {
-        due: u128,
-    },
-    Asked {
-        attempt: u64,
-    },
-    Judged {
-        number: u64,
-        response: u64,
-        value: V,
-        accepted: bool,
-    },
+/// What was done last for a key, before any value was handed out for it.
+#[derive(Clone, Copy, Debug)]
+pub enum Stage {
+    Waiting { due: u128 },
+    Asked { attempt: u64 },
 }
 
-/// What is kept of a demanded key.
-#[derive(Drop)]
-pub struct Entry<V, S> {
-    pub subscribers: NonEmptyVec<(S, u64)>,
-    pub stage: Stage<V>,
-}
+/// What is kept of the keys beside their subscribers.
+pub type Keys<K, S, V> = Entries<K, S, V, (), Stage>;
 
 /// The rows as the actor's callers see them.
-pub fn listed<K: Ord + Clone, V, S: Clone>(
+pub fn listed<K: Ord + Clone + Drop, V: Drop, S: Ord + Clone + Drop>(
     alloc: Global,
-    rows: &BTreeMap<K, Entry<V, S>>,
-) -> Result<Vec<Row<K, S>>, AllocError>
+    demand: &Tracker<K, S>,
+    entries: &Keys<K, S, V>,
+) -> Result<Vec<Row<K, S>>, Fault>
     requires keys_clone { (x y : K) → K.is_clone x y → y ≡ x }
     requires subscribers_clone { (x y : S) → S.is_clone x y → y ≡ x }
-    ensures { IfOk result (λ list. list.items ≡ map listed (map entry_of rows.now.entries)) }
+    ensures rows { IfOk result
+        (λ list. list.items ≡ map listed (rows_of demand.now entries.now.keys)) }
+    ensures only { IfErr result (λ fault. fault ≡ OutOfMemory) }
 {
-    let mut list = Vec::with_capacity(alloc, rows.len())?;
-    for (key, row) in rows {
+    let mut list = Vec::with_capacity(alloc, demand.len())?;
+    let mut rest = entries.iter();
+    for (key, subscribers) in demand.iter() {
+        let Some((_, entry)) = rest.next() else {
+            return Ok(list);
+        };
+        let subscribers = copied(alloc, subscribers.as_slice())?;
+        let Ok(subscribers) = NonEmptyVec::try_from(subscribers) else {
+            unreachable!()
+        };
         list.push(Row {
             key: key.clone()?,
-            subscribers: row.subscribers.clone()?,
-            phase: listed_phase(&row.stage),
+            subscribers,
+            phase: listed_phase(entry),
         })?;
     }
     Ok(list)
 }
 
-fn listed_phase<V>(stage: &Stage<V>) -> Phase
-    ensures { result ≡ listed_phase (phase_of stage.now) }
+/// Clones of the subscribers, with their marks.
+fn copied<S: Clone>(alloc: Global, list: &[(S, u64)]) -> Result<Vec<(S, u64)>, AllocError>
+    requires subscribers_clone { (x y : S) → S.is_clone x y → y ≡ x }
+    ensures { IfOk result (λ copy. copy.items ≡ list.now) }
 {
-    match stage {
-        Stage::Waiting { due } => Phase::Waiting { due: *due },
-        Stage::Asked { attempt } => Phase::Asked { attempt: *attempt },
-        Stage::Judged { number, .. } => Phase::Judged { number: *number },
+    Vec::from_clones(alloc, list)
+}
+
+/// What is being done for a key.
+pub fn listed_phase<V>(entry: &Entry<V, (), Stage>) -> Phase
+    ensures { result ≡ listed_phase (phase_of entry.now) }
+{
+    if let Some(number) = entry.number {
+        if entry.response.is_some() {
+            return Phase::Judged { number };
+        }
+    }
+    match entry.state {
+        Stage::Waiting { due } => Phase::Waiting { due },
+        Stage::Asked { attempt } => Phase::Asked { attempt },
     }
 }
 
 /// The earliest moment at which a waiting key is due.
-pub fn first_due<K: Ord, V, S>(rows: &BTreeMap<K, Entry<V, S>>) -> Option<u128>
-    ensures { result ≡ next_retry (map entry_of rows.now.entries) }
+pub fn first_due<K: Ord + Drop, V: Drop, S: Drop>(entries: &Keys<K, S, V>) -> Option<u128>
+    ensures { result ≡ first_due entries.now.keys }
 {
     let mut first: Option<u128> = None;
-    for (_, row) in rows {
-        if let Stage::Waiting { due } = &row.stage {
+    for (_, entry) in entries.iter() {
+        if let Phase::Waiting { due } = listed_phase(entry) {
             first = match first {
-                Some(other) => Some(other.min(*due)),
-                None => Some(*due),
+                Some(other) => Some(other.min(due)),
+                None => Some(due),
             };
         }
     }
     first
 }
 
-/// The row that is asked for by this attempt.
-pub fn asked_by<K: Ord + Clone, V, S: Clone>(
-    rows: &BTreeMap<K, Entry<V, S>>,
+/// The key that is asked for by this attempt.
+pub fn asked_by<K: Ord + Clone + Drop, V: Drop, S: Drop>(
+    entries: &Keys<K, S, V>,
     attempt: u64,
-) -> Result<Option<(K, NonEmptyVec<(S, u64)>)>, AllocError>
+) -> Result<Option<K>, Fault>
     requires keys_clone { (x y : K) → K.is_clone x y → y ≡ x }
-    requires subscribers_clone { (x y : S) → S.is_clone x y → y ≡ x }
-    ensures { IfOk result (λ found. found ≡ option_map (λ e. (e.0, e.1.subscribers)) (find (λ e. is_asked_by attempt (phase_of e.1.stage)) rows.now.entries)) }
+    ensures found { IfOk result (λ found. found ≡ asked_key attempt entries.now.keys) }
+    ensures only { IfErr result (λ fault. fault ≡ OutOfMemory) }
 {
-    for (key, row) in rows {
-        if let Stage::Asked { attempt: asked } = &row.stage {
-            if attempt == *asked {
-                return Ok(Some((key.clone()?, row.subscribers.clone()?)));
+    for (key, entry) in entries.iter() {
+        if let Phase::Asked { attempt: asked } = listed_phase(entry) {
+            if attempt == asked {
+                return Ok(Some(key.clone()?));
             }
         }
     }
     Ok(None)
 }
 
-/// Puts another stage in place of the key's.
-pub fn set_stage<K: Ord, V: Drop, S>(rows: &mut BTreeMap<K, Entry<V, S>>, key: &K, stage: Stage<V>)
-    ensures { IfSome (get K.cmp rows.old key.now) (λ row. rows.new.entries ≡ set_value (is_at (K.cmp key.now)) rows.old.entries (record row { stage = stage })) }
+/// Calls off what is being done for each key.
+pub fn call_off_all<K: Ord + Drop, V: Drop, S: Drop>(
+    entries: &Keys<K, S, V>,
+    effects: &mut Vec<Effect<K, V, S>>,
+) -> Result<(), Fault>
+    ensures told { OnOk result
+        (effects.new.items ≡ effects.old.items ++ all_kept_called_off entries.now.keys) }
+    ensures only { IfErr result (λ fault. fault ≡ OutOfMemory) }
 {
-    if let Some(row) = rows.get_mut(key) {
-        row.stage = stage;
-    }
-}
-
-/// Puts a row in place of the key's.
-pub fn set_row<K: Ord, X: Drop>(rows: &mut BTreeMap<K, X>, key: &K, row: X)
-    ensures { rows.new.entries ≡ set_value (is_at (K.cmp key.now)) rows.old.entries row }
-{
-    if let Some(place) = rows.get_mut(key) {
-        *place = row;
-    }
-}
-
-/// Attaches more subscribers to the key's.
-pub fn attach_to<K: Ord, V: Drop, S: Ord + Drop>(
-    rows: &mut BTreeMap<K, Entry<V, S>>,
-    key: &K,
-    more: Vec<(S, u64)>,
-) -> Result<(), AllocError>
-    ensures { IfSome (get K.cmp rows.old key.now) (λ row. OnOk result (rows.new.entries ≡ set_value (is_at (K.cmp key.now)) rows.old.entries (record row { subscribers = attached_all S.cmp row.subscribers more.items }))) }
-{
-    if let Some(row) = rows.get_mut(key) {
-        attach_all(&mut row.subscribers, more)?;
+    for (_, entry) in entries.iter() {
+        call_off(entry, effects)?;
     }
     Ok(())
 }
 
-/// Removes the subscribers that aren't kept, and the keys that have none then.
-pub fn prune<K: Ord + Drop, V: Drop, S: Ord + Drop, Q: Predicate<K, S>>(
-    rows: &mut BTreeMap<K, Entry<V, S>>,
-    keep: &Q,
-)
-    ensures { map entry_of rows.new.entries ≡ kept (Q.keeps keep.now) (map entry_of rows.old.entries) }
+/// Calls off what is being done for each of these keys.
+pub fn call_off_each<K: Ord + Drop, V: Drop, S: Drop>(
+    entries: &Keys<K, S, V>,
+    keys: &[K],
+    effects: &mut Vec<Effect<K, V, S>>,
+) -> Result<(), Fault>
+    ensures told { OnOk result (effects.new.items
+        ≡ effects.old.items ++ each_called_off K.cmp entries.now.keys keys.now) }
+    ensures only { IfErr result (λ fault. fault ≡ OutOfMemory) }
 {
-    rows.retain(|key, row| prune_row(key, row, keep));
+    for key in keys {
+        if let Some(entry) = entries.get(key) {
+            call_off(entry, effects)?;
+        }
+    }
+    Ok(())
 }
 
-/// Removes the subscribers of a key that aren't kept, and answers whether one is. Where none is,
-/// all of them stay.
-fn prune_row<K: Ord, V, S: Ord + Drop, Q: Predicate<K, S>>(
-    key: &K,
-    row: &mut Entry<V, S>,
-    keep: &Q,
-) -> bool
-    ensures some { result ≡ keeps_any (Q.keeps keep.now key.now) row.old.subscribers }
-    ensures after { MatchBool result (row.new ≡ record row.old { subscribers = all_kept (Q.keeps keep.now key.now) row.old.subscribers }) (row.new ≡ row.old) }
+/// Calls off what is being done for a key.
+fn call_off<K: Drop, V: Drop, S: Drop>(
+    entry: &Entry<V, (), Stage>,
+    effects: &mut Vec<Effect<K, V, S>>,
+) -> Result<(), Fault>
+    ensures told { OnOk result
+        (effects.new.items ≡ effects.old.items ++ called_off (phase_of entry.now)) }
+    ensures only { IfErr result (λ fault. fault ≡ OutOfMemory) }
 {
-    row.subscribers.retain_kept(key, keep)
+    match listed_phase(entry) {
+        Phase::Waiting { .. } => Ok(()),
+        Phase::Asked { attempt } => Ok(effects.push(Effect::Abort { attempt })?),
+        Phase::Judged { number } => Ok(effects.push(Effect::Cancel { number })?),
+    }
+}
+
+/// Lets these keys go.
+pub fn forget_each<K: Ord + Drop, V: Drop, S: Drop>(entries: &mut Keys<K, S, V>, keys: Vec<K>)
+    ensures { entries.new ≡ record entries.old {
+      keys = without_each K.cmp keys.items entries.old.keys;
+    } }
+{
+    for key in keys {
+        entries.remove(&key);
+    }
 }

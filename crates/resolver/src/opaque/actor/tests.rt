@@ -218,3 +218,146 @@ fn opaque_retry(rt: HostRuntime) -> Result<(), Fail> {
     assert_eq!(rt; actor.next_retry(), None);
     Ok(())
 }
+
+/// A verdict's outcome on a delivery in progress, and what becomes of its key.
+#[derive(Clone, Copy, PartialEq, Eq, Debug)]
+enum Fate {
+    Retired,
+    Waits,
+    HandedOutAgain,
+}
+
+type Plain = Actor<u8, u32, u16, AllBut>;
+
+/// An actor whose key 1 is judged for the subscriber 10, under the number 0.
+fn judged(alloc: Global) -> Result<Plain, Fault> {
+    let mut actor: Plain = Actor::new(alloc, 100);
+    let _ = actor.step(at(0, fetch(alloc, 1, 10, 7)?))?;
+    let value = Event::Fetched {
+        attempt: 0,
+        value: Some(0x6869),
+    };
+    let _ = actor.step(at(0, value))?;
+    Ok(actor)
+}
+
+/// What an outcome on number 0 makes of key 1.
+fn made_of(actor: &mut Plain, outcome: Option<Outcome>) -> Result<Option<Fate>, Fault> {
+    let effects = actor.step(at(5, Event::Verdict { number: 0, outcome }))?;
+    let rows = actor.rows()?;
+    if rows.is_empty() {
+        return Ok(Some(Fate::Retired));
+    }
+    Ok(match rows[0].phase {
+        Phase::Waiting { due: 105 } if effects.is_empty() => Some(Fate::Waits),
+        Phase::Judged { number: 1 } if delivered(&effects).is_some() => Some(Fate::HandedOutAgain),
+        _ => None,
+    })
+}
+
+/// Each outcome, and what it makes of a key that no subscriber came to late.
+fn outcomes() -> [(Option<Outcome>, Fate); 6] {
+    [
+        (Some(Outcome::Resolved(Resolution::Complete)), Fate::Retired),
+        (None, Fate::Retired),
+        (Some(Outcome::Ignored), Fate::Retired),
+        (Some(Outcome::Resolved(Resolution::Partial)), Fate::Waits),
+        (Some(Outcome::Unresolved), Fate::Waits),
+        (Some(Outcome::Invalid), Fate::Waits),
+    ]
+}
+
+// The table of verdicts, with no subscriber left and with one that came late.
+#[test]
+fn every_outcome(rt: HostRuntime) -> Result<(), Fail> {
+    let alloc = rt.alloc();
+    for (outcome, expected) in outcomes() {
+        let mut actor = judged(alloc)?;
+        assert_eq!(rt; made_of(&mut actor, outcome)?, Some(expected));
+        let mut actor = judged(alloc)?;
+        let _ = actor.step(at(0, fetch(alloc, 1, 11, 8)?))?;
+        let late = match outcome {
+            None | Some(Outcome::Resolved(Resolution::Complete)) => Fate::HandedOutAgain,
+            _ => expected,
+        };
+        assert_eq!(rt; made_of(&mut actor, outcome)?, Some(late));
+    }
+    Ok(())
+}
+
+// A number whose key was dropped, or dropped and fetched again, is closed and changes nothing.
+#[test]
+fn every_outcome_canceled(rt: HostRuntime) -> Result<(), Fail> {
+    let alloc = rt.alloc();
+    for (outcome, _) in outcomes() {
+        for comes_back in [false, true] {
+            let mut actor = judged(alloc)?;
+            let _ = actor.step(at(0, Event::Retain(AllBut(1))))?;
+            if comes_back {
+                let _ = actor.step(at(0, fetch(alloc, 1, 12, 9)?))?;
+            }
+            for _ in 0..2 {
+                let verdict = Event::Verdict { number: 0, outcome };
+                assert!(rt; actor.step(at(5, verdict))?.is_empty());
+            }
+            let rows = actor.rows()?;
+            assert_eq!(rt; rows.len(), usize::from(comes_back));
+            if comes_back {
+                assert_eq!(rt; rows[0].phase, Phase::Asked { attempt: 1 });
+            }
+        }
+    }
+    Ok(())
+}
+
+// A response that was accepted retires its key where a later verdict says Invalid.
+#[test]
+fn a_conflict_retires(rt: HostRuntime) -> Result<(), Fail> {
+    let alloc = rt.alloc();
+    let mut actor = judged(alloc)?;
+    let _ = actor.step(at(0, fetch(alloc, 1, 11, 8)?))?;
+    let complete = Some(Outcome::Resolved(Resolution::Complete));
+    let again = Event::Verdict {
+        number: 0,
+        outcome: complete,
+    };
+    let effects = actor.step(at(0, again))?;
+    assert_eq!(rt; delivered(&effects), Some((1, 0, 1, (11, 8), 0x6869)));
+    let invalid = Event::Verdict {
+        number: 1,
+        outcome: Some(Outcome::Invalid),
+    };
+    assert!(rt; actor.step(at(0, invalid))?.is_empty());
+    assert!(rt; actor.rows()?.is_empty());
+    Ok(())
+}
+
+// An end in each phase: a key that waits has nothing to be called off.
+#[test]
+fn ends_in_each_phase(rt: HostRuntime) -> Result<(), Fail> {
+    let alloc = rt.alloc();
+    let mut actor: Plain = Actor::new(alloc, 100);
+    for key in [3, 1, 2] {
+        let _ = actor.step(at(0, fetch(alloc, key, 10, 0)?))?;
+    }
+    let none = Event::Fetched {
+        attempt: 0,
+        value: None,
+    };
+    let _ = actor.step(at(0, none))?;
+    let value = Event::Fetched {
+        attempt: 2,
+        value: Some(1),
+    };
+    let _ = actor.step(at(0, value))?;
+    let effects = actor.step(at(0, Event::End))?;
+    let is_called_off = matches!(
+        effects.as_slice(),
+        [Effect::Abort { attempt: 1 }, Effect::Cancel { number: 0 }]
+    );
+    assert!(rt; is_called_off);
+    assert!(rt; actor.rows()?.is_empty());
+    assert_eq!(rt; actor.next_retry(), None);
+    assert_eq!(rt; actor.step(at(0, Event::End)).err(), Some(Fault::Ended));
+    Ok(())
+}

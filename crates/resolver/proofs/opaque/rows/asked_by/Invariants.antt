@@ -1,9 +1,7 @@
-use Rattle.std.proofs.Common.{◌≡◌, find}
-use Rattle.resolver.specs.Opaque.{is_asked_by}
-use Rattle.resolver.specs.OpaqueActor.{phase_of}
+use Rattle.std.proofs.Common.{◌≡◌}
+use Rattle.resolver.specs.OpaqueFound.{asked_key}
 use Rattle.resolver.proofs.opaque.rows.asked_by.Given as goal
 
--- what is found in all rows is found in those that are left
+-- what is found in all entries is found in those that are left
 abbrev pub invariant-loop-key : goal.invariant-loop-key
-invariant-loop-key g l =
-    find (λ e. is_asked_by l.attempt (phase_of e.1.stage)) l.rows.entries ≡ find (λ e. is_asked_by l.attempt (phase_of e.1.stage)) l.key-iterator
+invariant-loop-key g l = asked_key l.attempt l.entries.keys ≡ asked_key l.attempt l.key-iterator

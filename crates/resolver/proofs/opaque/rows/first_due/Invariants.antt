@@ -1,8 +1,7 @@
-use Rattle.std.proofs.Common.{◌≡◌, map}
-use Rattle.resolver.specs.Opaque.{next_retry}
-use Rattle.resolver.specs.OpaqueActor.{entry_of}
+use Rattle.std.proofs.Common.{◌≡◌}
+use Rattle.resolver.specs.OpaqueFound.{first_due}
 use Rattle.resolver.proofs.Dues.{least_with}
 use Rattle.resolver.proofs.opaque.rows.first_due.Given as goal
 
-abbrev pub invariant-loop-row : goal.invariant-loop-row
-invariant-loop-row g l = least_with l.first (next_retry (map entry_of l.row-iterator)) ≡ next_retry (map entry_of l.rows.entries)
+abbrev pub invariant-loop-entry : goal.invariant-loop-entry
+invariant-loop-entry g l = least_with l.first (first_due l.entry-iterator) ≡ first_due l.entries.keys

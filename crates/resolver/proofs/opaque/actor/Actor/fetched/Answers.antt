@@ -1,23 +1,34 @@
-use Rattle.std.proofs.Common.{refl, ap, sym, append-nil}
+use Rattle.std.proofs.Common.{◌∙◌, sym, refl}
+use Rattle.std.proofs.lemmas.Cmp.{eq_by_cmp_equiv}
 use Rattle.resolver_base.specs.Names.{names}
-use Rattle.resolver.specs.OpaqueActor.{machine_of}
-use Rattle.resolver.proofs.Going.{fetched-found, retry_goes}
+use Rattle.resolver.specs.OpaqueActor.{status_of}
+use Rattle.resolver.proofs.Going.{quiet_goes, nothing-found, found-key, retry_goes, agree-staged, idle-row, row-found}
 use Rattle.resolver.proofs.opaque.actor.Actor.fetched.Goals as goal
 
 pub returns-in_default : goal.returns-in_default
 returns-in_default g c =
-    let n = names g.K.Ord.cmp g.S.Ord.cmp in
-    rw (fetched-found n c.args.self.now c.self.inside.rows.entries c.args.now c.args.attempt c.args.value c.in_ok-key.field-0 (ap (λ m. m.rows) (sym c.self.view_is)) c.in_ok-key.ensures, c.in_default.is, append-nil) refl
+    let none = nothing-found (names g.K.Ord.cmp g.S.Ord.cmp) c.self.inside.demand c.self.inside.entries c.self.invariant.agree c.self.inside.attempts c.self.inside.delay (status_of c.self.inside.status) c.args.attempt (sym c.in_default.is ∙ c.in_ok-key.ensures.found) in
+    rw (← c.self.view_is, none) (quiet_goes _ c.args.effects.now.items)
+
+pub invariant_of-self : goal.invariant_of-self
+invariant_of-self g c = record {
+  delay = c.self.invariant.delay;
+  agree = agree-staged (names g.K.Ord.cmp g.S.Ord.cmp) c.self.inside.demand c.self.inside.entries c.self.invariant.agree c.self.inside.attempts c.self.inside.delay (status_of c.self.inside.status) c.in-Some.key _ c.set_state.new.self c.set_state.ensures;
+}
+
+pub hand_out-requires-clause-idle : goal.hand_out-requires-clause-idle
+hand_out-requires-clause-idle g c =
+    let f = found-key (names g.K.Ord.cmp g.S.Ord.cmp) c.self.inside.demand c.self.inside.entries c.self.invariant.agree c.self.inside.attempts c.self.inside.delay (status_of c.self.inside.status) (eq_by_cmp_equiv g.met.K.Ord.total) c.args.attempt c.in-Some.key (sym c.in-Some.is ∙ c.in_ok-key.ensures.found) in
+    rw (← c.self.view_is) (idle-row _ f.row f.at_key f.idle)
 
 pub returns-in-None : goal.returns-in-None
 returns-in-None g c =
-    let n = names g.K.Ord.cmp g.S.Ord.cmp in
-    rw (← c.self.view_is)
-    (rw (fetched-found n (machine_of c.self.inside) c.self.inside.rows.entries c.args.now c.args.attempt c.args.value c.in_ok-key.field-0 refl c.in_ok-key.ensures, c.in-Some.is, c.in-None.is)
-    (retry_goes n (machine_of c.self.inside) c.self.inside.rows.entries c.set_row.new.rows.entries c.args.now _ c.in-Some.key c.in-Some.subscribers c.args.effects.now.items refl refl c.set_row.ensures))
+    let f = found-key (names g.K.Ord.cmp g.S.Ord.cmp) c.self.inside.demand c.self.inside.entries c.self.invariant.agree c.self.inside.attempts c.self.inside.delay (status_of c.self.inside.status) (eq_by_cmp_equiv g.met.K.Ord.total) c.args.attempt c.in-Some.key (sym c.in-Some.is ∙ c.in_ok-key.ensures.found) in
+    rw (← c.self.view_is, c.in-None.is, f.at_attempt)
+    (retry_goes (names g.K.Ord.cmp g.S.Ord.cmp) c.self.inside.demand c.self.inside.entries c.self.invariant.agree c.self.inside.attempts c.self.inside.delay (status_of c.self.inside.status) c.in-Some.key f.row c.args.now _ c.args.effects.now.items c.set_state.new.self f.at_key f.idle refl c.set_state.ensures)
 
 pub returns-in-Some-value : goal.returns-in-Some-value
 returns-in-Some-value g c =
-    let n = names g.K.Ord.cmp g.S.Ord.cmp in
-    rw (fetched-found n c.args.self.now c.self.inside.rows.entries c.args.now c.args.attempt c.args.value c.in_ok-key.field-0 (ap (λ m. m.rows) (sym c.self.view_is)) c.in_ok-key.ensures, c.in-Some.is, c.in-Some-value.is)
-    c.hand_out.ensures
+    let f = found-key (names g.K.Ord.cmp g.S.Ord.cmp) c.self.inside.demand c.self.inside.entries c.self.invariant.agree c.self.inside.attempts c.self.inside.delay (status_of c.self.inside.status) (eq_by_cmp_equiv g.met.K.Ord.total) c.args.attempt c.in-Some.key (sym c.in-Some.is ∙ c.in_ok-key.ensures.found) in
+    let goes = rw (← c.self.view_is) at c.hand_out.ensures in
+    rw (← c.self.view_is, c.in-Some-value.is, f.at_attempt) (row-found _ f.row _ f.at_key goes)

@@ -1,13 +1,44 @@
-use Rattle.std.proofs.Common.{refl, rules, arith}
-use Rattle.std.proofs.lemmas.Grind.{common_steps}
+use Rattle.std.proofs.Common.{◌∙◌, sym, refl, rules}
 use Rattle.resolver_base.specs.Names.{names}
-use Rattle.resolver.specs.OpaqueActor.{machine_of}
-use Rattle.resolver.proofs.Going.{hand_out_goes}
+use Rattle.resolver.specs.OpaqueActor.{status_of}
+use Rattle.resolver.proofs.Going.{hand_out_goes, agree-delivered, at-idle, idle-asked, idle-tracked, idle-free_number, asked-none}
 use Rattle.resolver.proofs.opaque.actor.Actor.hand_out.Goals as goal
+
+pub unreachable-requires : goal.unreachable-requires
+unreachable-requires g c =
+    let idle = rw (← c.self.view_is) at c.requires.idle in
+    let asked = idle-asked (names g.K.Ord.cmp g.S.Ord.cmp) c.self.inside.demand c.self.inside.entries.keys c.self.invariant.agree c.args.key idle in
+    asked-none _ asked (sym c.in_default.is ∙ c.in_ok-subscribers.ensures.ok)
+
+pub deliver-requires-clause-tracked : goal.deliver-requires-clause-tracked
+deliver-requires-clause-tracked g c =
+    let idle = rw (← c.self.view_is) at c.requires.idle in
+    let tracked = idle-tracked (names g.K.Ord.cmp g.S.Ord.cmp) c.self.inside.demand c.self.inside.entries.keys c.self.invariant.agree c.args.key idle in
+    rw tracked refl
+
+pub deliver-requires-clause-idle : goal.deliver-requires-clause-idle
+deliver-requires-clause-idle g c =
+    let idle = rw (← c.self.view_is) at c.requires.idle in
+    idle-free_number (names g.K.Ord.cmp g.S.Ord.cmp) c.self.inside.demand c.self.inside.entries.keys c.self.invariant.agree c.args.key idle
+
+pub invariant_of-self-in_err-push : goal.invariant_of-self-in_err-push
+invariant_of-self-in_err-push g c = record {
+  delay = c.self.invariant.delay;
+  agree = agree-delivered (names g.K.Ord.cmp g.S.Ord.cmp) c.self.inside.demand c.self.inside.entries c.self.invariant.agree c.self.inside.attempts c.self.inside.delay (status_of c.self.inside.status) c.args.key c.in-Some.subscribers c.in_ok-copy.copy c.deliver.new.self c.in_ok-number.ensures.ok;
+}
+
+pub invariant_of-self-2 : goal.invariant_of-self-2
+invariant_of-self-2 g c = record {
+  delay = c.self.invariant.delay;
+  agree = agree-delivered (names g.K.Ord.cmp g.S.Ord.cmp) c.self.inside.demand c.self.inside.entries c.self.invariant.agree c.self.inside.attempts c.self.inside.delay (status_of c.self.inside.status) c.args.key c.in-Some.subscribers c.in_ok-copy.copy c.deliver.new.self c.in_ok-number.ensures.ok;
+}
 
 pub returns : goal.returns
 returns g c =
+    let idle = rw (← c.self.view_is) at c.requires.idle in
+    let put = rw (c.requires.values_clone _ _ c.in_ok-copy.ensures.cases) at c.in_ok-number.ensures.ok in
+    let wanted = sym c.in_ok-subscribers.ensures.ok ∙ c.in-Some.is in
     rw (← c.self.view_is)
-    (hand_out_goes (names g.K.Ord.cmp g.S.Ord.cmp) (machine_of c.self.inside) c.args.key c.args.subscribers c.in_ok-attached.attached _ c.unwrap_or-response.result c.args.value c.args.accepted c.args.effects.now.items c.push.new.self.items
-    c.self.inside.rows.entries c.set_row.new.rows.entries c.self.inside.deliveries.entries c.insert.new.self.entries c.in_ok-number.number c.take.new.self
-    refl refl (search rules) (search rules) (search rules) (search rules) (search rules) (grind (arith, common_steps)) (search rules) (search rules))
+    (at-idle _ _ idle (λ row found waits.
+    hand_out_goes (names g.K.Ord.cmp g.S.Ord.cmp) c.self.inside.demand c.self.inside.entries c.self.invariant.agree c.self.inside.attempts c.self.inside.delay (status_of c.self.inside.status) c.args.key row c.in-Some.subscribers c.args.value c.args.effects.now.items c.push.new.self.items c.deliver.new.self c.in_ok-number.number
+    found wanted c.in_ok-number.ensures.number (search rules) put (search rules)))

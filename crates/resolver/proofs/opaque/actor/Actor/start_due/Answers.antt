@@ -1,31 +1,53 @@
-use Rattle.std.proofs.Common.{◌≡◌, ◌∙◌, sym, ap, map, length, nat_lt, ◌∷◌}
-use Rattle.std.specs.Vec.Iter.{into_iter_items}
-use Rattle.resolver.specs.OpaqueOverdue.{overdue_of}
+use Rattle.std.proofs.Common.{◌≡◌, ◌∙◌, sym, ap, subst}
+use Rattle.std.proofs.lemmas.Cmp.{eq_by_cmp_equiv}
 use Rattle.resolver_base.specs.Names.{names}
-use Rattle.resolver.specs.Opaque.{start_again, waiting_by_due}
-use Rattle.resolver.specs.OpaqueSteps.{onto}
 use Rattle.resolver.specs.OpaqueActor.{machine_of}
-use Rattle.resolver.proofs.ByDue.{start_each, start_all-each, onto-and_then, some-due}
+use Rattle.std.proofs.Common.{map, ◌∷◌}
+use Rattle.std.specs.Vec.Iter.{into_iter_items}
+use Rattle.resolver.specs.Opaque.{waiting_by_due, row_of}
+use Rattle.resolver.specs.OpaqueSteps.{onto}
+use Rattle.resolver.proofs.Going.{quiet_goes}
+use Rattle.resolver.proofs.Agrees.{distinct-rows}
+use Rattle.resolver.proofs.ByDue.{start_keys, start_at, overdue_of, start_all-keys, all-wait, all-idle, waiting-by_due, none-due, some-due, one-started, onto-and_then, AllIdle}
 use Rattle.resolver.proofs.opaque.actor.Actor.start_due.Goals as goal
+
+pub returns-then-not-is_any_due-clause-goes : goal.returns-then-not-is_any_due-clause-goes
+returns-then-not-is_any_due-clause-goes g c =
+    let none = none-due c.args.now c.self.inside.demand c.self.inside.entries.keys c.self.invariant.agree.same (sym c.is_any_due.ensures ∙ c.if-not-is_any_due.true) in
+    rw (← c.self.view_is, none) (quiet_goes _ c.args.effects.now.items)
 
 pub loop-one-init : goal.loop-one-init
 loop-one-init g c =
     let n = names g.K.Ord.cmp g.S.Ord.cmp in
-    let taken : into_iter_items c.into_iter-one-iterator.result ≡ c.in_ok-one-items.one-items.items = c.into_iter-one-iterator.ensures.into_iter_gives.0 in
-    let are : c.in_ok-one-items.one-items.items ≡ map overdue_of (waiting_by_due c.args.now (machine_of c.self.inside).rows) = c.in_ok-one-items.ensures in
-    ap (λ os. onto c.args.effects.now.items (start_each n c.args.self.now os)) (taken ∙ are)
-    ∙ (ap (λ m. onto c.args.effects.now.items (start_each n c.args.self.now (map overdue_of (waiting_by_due c.args.now m.rows)))) c.self.view_is
-    ∙ ap (onto c.args.effects.now.items) (sym (start_all-each n c.args.self.now (waiting_by_due c.args.now c.args.self.now.rows))))
+    let same = c.self.invariant.agree.same in
+    let are : c.in_ok-one-items.one-items.items ≡ map overdue_of (waiting_by_due c.args.now (machine_of c.self.inside).rows) =
+    c.in_ok-one-items.ensures.ok ∙ sym (waiting-by_due c.args.now c.self.inside.demand c.self.inside.entries.keys same) in
+    let taken : into_iter_items c.into_iter-one-iterator.result ≡ map overdue_of (waiting_by_due c.args.now (machine_of c.self.inside).rows) =
+    c.into_iter-one-iterator.ensures.into_iter_gives.0 ∙ are in
+    let all = all-wait n (eq_by_cmp_equiv g.met.K.Ord.total) c.args.now (machine_of c.self.inside) (distinct-rows g.K.Ord.cmp c.self.inside.demand c.self.inside.entries.keys c.self.invariant.agree) in
+    rw (taken, ← c.self.view_is) (record {
+      rest = ap (onto c.args.effects.now.items) (sym (start_all-keys n (eq_by_cmp_equiv g.met.K.Ord.total) (machine_of c.self.inside) (waiting_by_due c.args.now (machine_of c.self.inside).rows) all));
+      idle = all-idle n (eq_by_cmp_equiv g.met.K.Ord.total) (machine_of c.self.inside) (waiting_by_due c.args.now (machine_of c.self.inside).rows) all;
+    })
 
 pub loop-one-preserved : goal.loop-one-preserved
 loop-one-preserved g c =
     let n = names g.K.Ord.cmp g.S.Ord.cmp in
     let rest = into_iter_items c.next.new.self in
     let left : into_iter_items c.loop-one.one-iterator ≡ c.in-Some.one ∷ rest = c.in-Some.ensures.steps.0 in
-    sym (onto-and_then n (start_again n c.loop-one.self c.in-Some.one.key c.in-Some.one.subscribers) (λ next. start_each n next rest) c.loop-one.effects.items c.start_again.new.effects.items c.start_again.new.self c.in_ok-start_again.ensures)
-    ∙ (ap (λ os. onto c.loop-one.effects.items (start_each n c.loop-one.self os)) (sym left) ∙ c.loop-one.invariant)
+    let idle = subst (AllIdle n c.loop-one.self) left c.loop-one.invariant.idle in
+    let started = one-started n (eq_by_cmp_equiv g.met.K.Ord.total) c.loop-one.self c.start_again.new.self c.in-Some.one rest c.loop-one.effects.items c.start_again.new.effects.items idle.0 idle.1 c.in_ok-start_again.ensures in
+    record {
+      rest =
+          sym (onto-and_then (start_at n c.loop-one.self c.in-Some.one.key (row_of n c.loop-one.self c.in-Some.one.key)) (λ next. start_keys n next rest) c.loop-one.effects.items c.start_again.new.effects.items c.start_again.new.self started.0)
+          ∙ (ap (λ os. onto c.loop-one.effects.items (start_keys n c.loop-one.self os)) (sym left) ∙ c.loop-one.invariant.rest);
+      idle = started.1;
+    }
+
+pub returns-in_err-one-items-clause-memory : goal.returns-in_err-one-items-clause-memory
+returns-in_err-one-items-clause-memory g c = λ is.
+    rw (← c.self.view_is) (some-due c.args.now c.self.inside.demand c.self.inside.entries.keys c.self.invariant.agree.same (sym c.is_any_due.ensures ∙ c.if-not-is_any_due.false))
 
 pub returns-in_err-start_again-clause-memory : goal.returns-in_err-start_again-clause-memory
 returns-in_err-start_again-clause-memory g c = λ is.
-    some-due (waiting_by_due c.args.now c.args.self.now.rows)
-    (ap (λ m. nat_lt 0 (length (waiting_by_due c.args.now m.rows))) (sym c.self.view_is) ∙ sym c.is_any_due.ensures ∙ c.if-not-is_any_due.false)
+    rw (← c.self.view_is) (some-due c.args.now c.self.inside.demand c.self.inside.entries.keys c.self.invariant.agree.same (sym c.is_any_due.ensures ∙ c.if-not-is_any_due.false))

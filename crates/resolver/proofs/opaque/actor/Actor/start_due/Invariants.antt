@@ -3,12 +3,14 @@ use Rattle.std.specs.Vec.Iter.{into_iter_items}
 use Rattle.resolver_base.specs.Names.{names}
 use Rattle.resolver.specs.Opaque.{start_all, waiting_by_due}
 use Rattle.resolver.specs.OpaqueSteps.{onto}
-use Rattle.resolver.proofs.ByDue.{start_each}
+use Rattle.resolver.proofs.ByDue.{start_keys, AllIdle}
 use Rattle.resolver.proofs.opaque.actor.Actor.start_due.Given as goal
 
 -- what is left of the keys, behind the effects so far, does what all of them do behind the first effects
 abbrev pub invariant-loop-one : goal.invariant-loop-one
 invariant-loop-one g l =
     let n = names g.K.Ord.cmp g.S.Ord.cmp in
-    onto l.effects.items (start_each n l.self (into_iter_items l.one-iterator))
-    ≡ onto l.fn.effects.items (start_all n l.fn.self (waiting_by_due l.now l.fn.self.rows))
+    record {
+      rest : onto l.effects.items (start_keys n l.self (into_iter_items l.one-iterator)) ≡ onto l.fn.effects.items (start_all n l.fn.self (waiting_by_due l.now l.fn.self.rows));
+      idle : AllIdle n l.self (into_iter_items l.one-iterator);
+    }
