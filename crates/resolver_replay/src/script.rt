@@ -1,7 +1,11 @@
 //! The lines of a script.
 
 ghost use Rattle.std.specs.Prelude.{◌≡◌, ◌≤◌, ◌<◌, ◌^◌, IfOk};
+ghost use Rattle.std.specs.Option.{option_copied};
 ghost use Rattle.resolver_replay.specs.declared.script.Unread.TheVariants.{OutOfMemory};
+ghost use Rattle.resolver_replay.specs.Numbers.{is_plain, number_of};
+ghost use Rattle.std.specs.Char.{is_ascii_digit};
+ghost use Rattle.std.specs.List.{list_all};
 
 use crate::kept::Kept;
 use bytes::Bytes;
@@ -150,21 +154,32 @@ fn subscriber(field: Option<&str>) -> Result<u16, Unread> {
 
 /// A decimal number up to `most`, without sign or leading zeros.
 fn number(field: Option<&str>, most: u128) -> Result<u128, Unread>
-    ensures { IfOk result (λ n. n ≤ most) }
+    ensures is { result ≡ number_of (option_copied field.entry) most }
+    ensures limit { IfOk result (λ n. n ≤ most) }
 {
     let digits = field.ok_or(Unread::Unreadable)?;
-    let is_plain = match digits.as_bytes() {
-        [b'0'] => true,
-        [b'1'..=b'9', rest @ ..] => rest.iter().all(|digit| digit.is_ascii_digit()),
-        _ => false,
-    };
-    if !is_plain {
+    if !is_plain(digits.as_bytes()) {
         return Err(Unread::Unreadable);
     }
     match digits.parse::<u128>() {
         Ok(n) if n <= most => Ok(n),
         _ => Err(Unread::Unreadable),
     }
+}
+
+/// Whether these are the digits of a number that has no leading zeros.
+fn is_plain(digits: &[u8]) -> bool
+    ensures { result ≡ is_plain digits.now }
+{
+    let is_padded = digits.len() > 1 && digits[0] == b'0';
+    !digits.is_empty() && !is_padded && are_digits(digits)
+}
+
+/// Whether each byte is a decimal digit.
+fn are_digits(bytes: &[u8]) -> bool
+    ensures { result ≡ list_all is_ascii_digit bytes.now }
+{
+    bytes.iter().all(|byte| byte.is_ascii_digit())
 }
 
 fn read_moment(field: Option<&str>) -> Result<Moment, Unread> {
