@@ -1,0 +1,41 @@
+//! What some steps took.
+
+/// Which steps are taken.
+#[derive(Clone, Copy, Debug)]
+pub enum Kind {
+    Fetch,
+    Answer,
+    Complete,
+    End,
+}
+
+impl Kind {
+    /// What it is called in the output.
+    pub fn name(self) -> &'static str {
+        match self {
+            Kind::Fetch => "fetch",
+            Kind::Answer => "answer",
+            Kind::Complete => "complete",
+            Kind::End => "end",
+        }
+    }
+}
+
+/// What the steps of one kind took.
+#[derive(Clone, Copy, Debug)]
+pub struct Spent {
+    pub kind: Kind,
+    pub steps: u64,
+    pub effects: u64,
+    pub nanoseconds: u128,
+}
+
+impl Spent {
+    /// What one step took on average; 0 without steps.
+    pub fn nanoseconds_a_step(&self) -> u128 {
+        match self.steps {
+            0 => 0,
+            steps => self.nanoseconds / u128::from(steps),
+        }
+    }
+}
