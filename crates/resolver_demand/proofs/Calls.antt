@@ -27,13 +27,13 @@ module _ {K S M Q : Type 0} where
   calls-append [] entry = refl
   calls-append (other ∷ entries) entry = ap (λ calls. call_of other ∷ calls) (calls-append entries entry)
 
-  puts-append : (xs ys : List (Call K S M Q)) → puts (xs ++ ys) ≡ puts xs ++ puts ys
+  pub puts-append : (xs ys : List (Call K S M Q)) → puts (xs ++ ys) ≡ puts xs ++ puts ys
   puts-append [] ys = refl
   puts-append (Put h p m b ∷ xs) ys = ap (λ z. m ∷ z) (puts-append xs ys)
   puts-append (Take m ∷ xs) ys = puts-append xs ys
   puts-append (Close ∷ xs) ys = puts-append xs ys
 
-  takes-append : (xs ys : List (Call K S M Q)) → takes (xs ++ ys) ≡ takes xs ++ takes ys
+  pub takes-append : (xs ys : List (Call K S M Q)) → takes (xs ++ ys) ≡ takes xs ++ takes ys
   takes-append [] ys = refl
   takes-append (Put h p m b ∷ xs) ys = takes-append xs ys
   takes-append (Take m ∷ xs) ys = ap (λ z. m ∷ z) (takes-append xs ys)

@@ -8,3 +8,4 @@ pub mod Drained
 pub mod Fetched
 pub mod Calls
 pub mod Desks
+pub mod Counts

@@ -1,5 +1,5 @@
 -- Tracked keys and their deliveries, which are numbered.
-use Rattle.std.specs.Prelude.{◌≡◌, ℕ, ◌+◌, Bool, true, false, List, filter, Option, None, Some, is_some, option_map, option_and_then, Result, Ok, Err, if◌then◌else◌, ◌==◌, ◌^◌, nat_lt}
+use Rattle.std.specs.Prelude.{ℕ, ◌+◌, Bool, true, false, List, filter, Option, None, Some, is_some, option_map, option_and_then, Result, Ok, Err, if◌then◌else◌, ◌==◌, ◌^◌, nat_lt}
 use Rattle.resolver_base.specs.declared.base.fault.Fault.{Fault}
 use Rattle.resolver_base.specs.declared.base.fault.Fault.TheVariants.{OutOfMemory, Exhausted}
 use Rattle.std.specs.Option.{option_map_or}

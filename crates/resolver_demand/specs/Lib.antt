@@ -4,3 +4,5 @@ pub mod Backlog
 pub mod Fetched
 pub mod Book
 pub mod Desk
+pub mod Shares
+pub mod Given

@@ -1,12 +1,25 @@
 //! Where callers leave messages for a resolver.
 //!
 //! A `Desk` holds the messages that are ready to be taken, and merges what comes while there is no
-//! room for more.
+//! room for more. A mailbox is a desk under one lock, between any number of `Sender`s and one
+//! `Receiver`.
 
 mod book;
 mod booking;
+mod counted;
 mod desk;
 mod entry;
+mod naming;
+mod opening;
+mod receiver;
+mod sender;
+mod share;
+mod taken;
 
 pub use desk::Desk;
 pub use entry::{Entry, Posted};
+pub use naming::{Names, Naming, Pages, Puts, Takes, Unrecorded};
+pub use opening::{new, recorded};
+pub use receiver::Receiver;
+pub use sender::Sender;
+pub use share::Share;

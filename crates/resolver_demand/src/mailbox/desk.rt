@@ -1,7 +1,7 @@
 //! What is ready to be taken, and what waits behind it.
 
 ghost use Rattle.std.specs.Prelude.{◌≡◌, ◌≤◌, ◌<◌, ◌∷◌, ◌++◌, [], map, take, nat_lt, None, Some, is_some, true, false, IfOk, IfErr, OnOk, OnErr, MatchOption, ◌≢◌, ◌+◌, ◌^◌, if◌then◌else◌, length};
-ghost use Rattle.std.specs.Option.{ForSome, option_map};
+ghost use Rattle.std.specs.Option.{ForSome, option_copied, option_map};
 ghost use Rattle.std.specs.VecDeque.{deque_capacity};
 ghost use Rattle.resolver_base.specs.declared.base.fault.Fault.TheVariants.{Exhausted, OutOfMemory};
 ghost use Rattle.resolver_base.specs.Names.{names};
@@ -109,6 +109,8 @@ impl<
         ensures only { IfErr result (λ fault. fault ≢ OutOfMemory → fault ≡ Exhausted) }
         ensures exhausted { IfErr result (λ fault. fault ≡ Exhausted → (handle ≡ None)
             × MatchOption self.old.book ⊥ (λ book. book.next_handle + 1 ≡ 2 ^ 64)) }
+        ensures numbers { OnOk result (self.old.is_closed ≡ false → handle ≡ None
+            → ForSome self.old.book (λ book. book.next_handle + 1 < 2 ^ 64)) }
     {
         if self.is_closed {
             return Ok((Feedback::Closed, handle));
@@ -123,6 +125,13 @@ impl<
         let is_ok = place(&mut self.ready, &mut self.pending, self.capacity, message)?;
         book.put(number, next, copy, is_ok);
         Ok((feedback(is_ok), Some(number)))
+    }
+
+    /// The message that a take would give.
+    pub fn front(&self) -> Option<&Message<K, S, M, Q>>
+        ensures { option_map told_of (option_copied result) ≡ (desk_taken self.now).0 }
+    {
+        self.ready.front()
     }
 
     /// Takes the first message that is ready. The first that waits then moves into its room. In a

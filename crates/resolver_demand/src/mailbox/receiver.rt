@@ -1,0 +1,104 @@
+//! The end that takes messages.
+
+ghost use Rattle.std.specs.Prelude.{◌≡◌, ◌++◌, false, true, if◌then◌else◌, map, IfOk, IfErr, IfSome, IsOk};
+ghost use Rattle.std.specs.Arc.{arc_value};
+ghost use Rattle.futures.specs.Poll.{IfReady, OnPending};
+ghost use Rattle.futures.specs.Task.{Covers, IsArmed, Keeps};
+ghost use Rattle.resolver_base.specs.declared.base.fault.Fault.TheVariants.{OutOfMemory};
+ghost use Rattle.resolver_demand.specs.Backlog.{told_of};
+ghost use Rattle.resolver_demand.specs.Given.{given};
+
+use crate::ingress::{Message, Metadata};
+use crate::mailbox::naming::Naming;
+use crate::mailbox::sender::Shared;
+use crate::mailbox::taken::Taken;
+use futures::Stream;
+use futures::task::{Context, Poll};
+use resolver_base::base::{Faithful, Fault, Predicate};
+use std::alloc::Global;
+use std::hash::Hash;
+use std::sync::{Arc, Wait};
+
+/// The end of a mailbox that takes messages: a stream, which ends when the mailbox is closed and
+/// nothing waits.
+#[derive(Drop)]
+pub struct Receiver<K: Ord + Hash, S: Ord, M: Metadata, Q: Predicate<K, S>, N: Naming, R> {
+    pub(super) rt: R,
+    pub(super) alloc: Global,
+    pub(super) shared: Arc<Shared<K, S, M, Q, N>>,
+    pub(super) taken: Taken<K, S, M, Q, N>,
+}
+
+impl<K: Ord + Hash, S: Ord, M: Metadata, Q: Predicate<K, S>, N: Naming, R> Receiver<
+    K,
+    S,
+    M,
+    Q,
+    N,
+    R,
+> {
+    /// What the receiver of a recorded mailbox gave, in its order. It is empty in another mailbox.
+    pub fn taken(&self) -> &[Message<K, S, M, Q>]
+        ensures { map told_of result.now ≡ self.now.taken }
+    {
+        self.taken.as_slice()
+    }
+}
+
+impl<
+    K: Ord + Hash + Faithful + Drop,
+    S: Ord + Faithful + Drop,
+    M: Metadata + Drop,
+    Q: Predicate<K, S> + Faithful + Drop,
+    N: Naming,
+    R: Wait,
+> Receiver<K, S, M, Q, N, R> {
+    /// Closes the mailbox, for good. What waits can still be taken.
+    pub fn close(&mut self)
+        ensures { self.new.taken ≡ self.old.taken }
+    {
+        self.shared.close(&self.rt);
+    }
+}
+
+impl<
+    K: Ord + Hash + Faithful + Drop,
+    S: Ord + Faithful + Drop,
+    M: Metadata + Drop,
+    Q: Predicate<K, S> + Faithful + Drop,
+    N: Naming,
+    R: Wait + Drop,
+> Stream for Receiver<K, S, M, Q, N, R> {
+    type Item = Result<Message<K, S, M, Q>, Fault>;
+
+    ghost needs = { λ r s. s ≡ (arc_value r.shared).arrived.id };
+
+    /// Takes the first message that is ready. Where there is none, the task is woken by the next
+    /// put and by a close. In a recorded mailbox a take needs memory; where it is wanting
+    /// (`OutOfMemory`), nothing changes. In another mailbox it takes none.
+    fn poll_next(&mut self, cx: &mut Context<'_>) -> Poll<Option<Self::Item>>
+        ensures registered { OnPending result
+            (Covers cx.new (λ s. s ≡ (arc_value self.new.shared).arrived.id)) }
+        ensures armed { OnPending result (IsArmed cx.new) }
+        ensures kept { Keeps cx.old cx.new }
+        ensures listed { self.new.taken ≡ (if N.is_recorded
+            then self.old.taken ++ given result else self.old.taken) }
+        ensures memory { N.is_recorded ≡ false → IfReady result (λ item. IfSome item IsOk) }
+        ensures only { IfReady result (λ item. IfSome item
+            (λ message. IfErr message (λ fault. fault ≡ OutOfMemory))) }
+    {
+        let mut guard = self.shared.state.lock(&self.rt);
+        let state = &mut *guard;
+        match state.take(self.alloc, &mut self.taken) {
+            Err(fault) => Poll::Ready(Some(Err(fault))),
+            Ok(Some(message)) => Poll::Ready(Some(Ok(message))),
+            Ok(None) => {
+                if state.is_closed() {
+                    Poll::Ready(None)
+                } else {
+                    cx.register(&self.shared.arrived, &mut state.waker)
+                }
+            }
+        }
+    }
+}
