@@ -1,12 +1,8 @@
 //! The opaque actor with many keys: each is fetched for four subscribers, answered, and completed.
 
-ghost use Rattle.std.specs.Prelude.{true};
-ghost use Rattle.std.proofs.Common.{rules};
-
 use crate::fault::Fault;
 use crate::spent::{Kind, Spent};
-use resolver::base::{NonEmptyVec, Predicate};
-use resolver::ingress::FetchKey;
+use crate::workload::{All, fetch, scattered};
 use resolver::opaque::{Actor, Event, Input};
 use resolver::{Outcome, Resolution};
 use std::alloc::Global;
@@ -15,20 +11,6 @@ use std::time::Instant;
 
 /// The subscribers of each key.
 const SUBSCRIBERS: u16 = 4;
-
-/// Keeps every subscriber. The workload has no retain.
-#[derive(Clone, Copy, Debug)]
-struct All;
-
-impl Predicate<u64, u16> for All {
-    ghost keeps = { λ _ _ _. true };
-
-    fn keep(&self, _: &u64, _: &u16) -> bool {
-        true
-    }
-
-    ghost alike = { λ q k l s t same_key same_subscriber. Prim.search rules };
-}
 
 type Worker = Actor<u64, u64, u16, All>;
 
@@ -53,15 +35,15 @@ fn take_all(
     steps: u64,
 ) -> Result<Spent, Fault> {
     let began = Instant::now(rt)?;
-    let mut effects: u64 = 0;
+    let mut counted: u64 = 0;
     for i in 0..steps {
         let event = event_of(rt.alloc(), kind, i)?;
-        effects = effects.saturating_add(take(actor, event)?);
+        counted = counted.saturating_add(take(actor, event)?);
     }
     Ok(Spent {
         kind,
         steps,
-        effects,
+        counted,
         nanoseconds: began.elapsed(rt)?.as_nanos(),
     })
 }
@@ -74,7 +56,7 @@ fn take(actor: &mut Worker, event: Step) -> Result<u64, Fault> {
 /// The step of one key. Attempts and deliveries have the numbers of their keys.
 fn event_of(alloc: Global, kind: Kind, i: u64) -> Result<Step, Fault> {
     Ok(match kind {
-        Kind::Fetch => fetch(alloc, scattered(i))?,
+        Kind::Fetch => Event::Fetch(fetch(alloc, scattered(i), SUBSCRIBERS)?),
         Kind::Answer => Event::Fetched {
             attempt: i,
             value: Some(i),
@@ -83,25 +65,6 @@ fn event_of(alloc: Global, kind: Kind, i: u64) -> Result<Step, Fault> {
             number: i,
             outcome: Some(Outcome::Resolved(Resolution::Complete)),
         },
-        Kind::End => Event::End,
+        Kind::End | Kind::Put | Kind::Take => Event::End,
     })
-}
-
-fn fetch(alloc: Global, key: u64) -> Result<Step, Fault> {
-    let mut subscribers = NonEmptyVec::new(alloc, (0, 0))?;
-    for subscriber in 1..SUBSCRIBERS {
-        subscribers.push((subscriber, 0))?;
-    }
-    let mut items = Vec::with_capacity(alloc, 1)?;
-    items.push(FetchKey {
-        key,
-        subscribers,
-        metadata: (),
-    })?;
-    Ok(Event::Fetch(items))
-}
-
-/// Keys that don't come in their order, each once.
-fn scattered(i: u64) -> u64 {
-    i.wrapping_mul(0x9e37_79b9_7f4a_7c15)
 }

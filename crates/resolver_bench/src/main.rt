@@ -1,18 +1,22 @@
-//! `resolver-bench` drives the opaque actor with many keys, and prints how many steps it took and
-//! how many effects came of them. With a number of keys as its argument it prints nanoseconds a
+//! `resolver-bench` drives the opaque actor and a full mailbox with many keys, and prints how many
+//! steps that took and how many effects or fetches they had. With a number of keys as its argument it prints nanoseconds a
 //! step too. It is no part of the product.
 #![tactic(auto)]
 
 mod actor;
 mod fault;
+mod mailbox;
 mod spent;
+mod workload;
 
 use fault::Fault;
 use spent::Spent;
 use std::env;
 use std::env::Env;
 use std::process::ExitCode;
+use std::random::RandomSource;
 use std::rt::Clock;
+use std::sync::Wait;
 
 /// How many keys there are where no argument says it.
 const FEW: u64 = 100;
@@ -27,10 +31,15 @@ fn main(rt: HostRuntime) -> ExitCode {
     }
 }
 
-fn run(rt: &(impl AllocGlobal + Clock + Env + Print)) -> Result<(), Fault> {
+fn run<R: AllocGlobal + Clock + Env + Print + Wait + RandomSource + Copy + Drop>(
+    rt: &R,
+) -> Result<(), Fault> {
     let size = asked_size(rt)?;
-    let spent = actor::run(rt, size.unwrap_or(FEW))?;
-    for one in &spent {
+    let keys = size.unwrap_or(FEW);
+    for one in &actor::run(rt, keys)? {
+        print(rt, one, size.is_some())?;
+    }
+    for one in &mailbox::run(*rt, keys)? {
         print(rt, one, size.is_some())?;
     }
     Ok(())
@@ -52,12 +61,13 @@ fn asked_size(rt: &(impl AllocGlobal + Env)) -> Result<Option<u64>, Fault> {
 fn print(rt: &impl Print, spent: &Spent, with_time: bool) -> Result<(), Fault> {
     let name = spent.kind.name();
     let steps = spent.steps;
-    let effects = spent.effects;
+    let counted = spent.counted;
+    let what = spent.kind.counts();
     if with_time {
         let each = spent.nanoseconds_a_step();
-        println!(rt; "{name}: {steps} steps, {effects} effects, {each} ns a step")?;
+        println!(rt; "{name}: {steps} steps, {counted} {what}, {each} ns a step")?;
     } else {
-        println!(rt; "{name}: {steps} steps, {effects} effects")?;
+        println!(rt; "{name}: {steps} steps, {counted} {what}")?;
     }
     Ok(())
 }

@@ -7,9 +7,19 @@ pub enum Kind {
     Answer,
     Complete,
     End,
+    Put,
+    Take,
 }
 
 impl Kind {
+    /// What is counted in its steps.
+    pub fn counts(self) -> &'static str {
+        match self {
+            Kind::Fetch | Kind::Answer | Kind::Complete | Kind::End => "effects",
+            Kind::Put | Kind::Take => "fetches",
+        }
+    }
+
     /// What it is called in the output.
     pub fn name(self) -> &'static str {
         match self {
@@ -17,16 +27,19 @@ impl Kind {
             Kind::Answer => "answer",
             Kind::Complete => "complete",
             Kind::End => "end",
+            Kind::Put => "put",
+            Kind::Take => "take",
         }
     }
 }
 
-/// What the steps of one kind took.
+/// What the steps of one kind took, and how many effects of the actor, or fetches of the mailbox,
+/// they had.
 #[derive(Clone, Copy, Debug)]
 pub struct Spent {
     pub kind: Kind,
     pub steps: u64,
-    pub effects: u64,
+    pub counted: u64,
     pub nanoseconds: u128,
 }
 
