@@ -9,3 +9,4 @@ pub mod Fetched
 pub mod Calls
 pub mod Desks
 pub mod Counts
+pub mod Agreeing

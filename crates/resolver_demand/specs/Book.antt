@@ -77,3 +77,7 @@ pub record IsLegal {K S M Q : Type 0} (n : Names K S) (keeps : Q → K → S →
   pub closed_once : closes calls ≤ 1
   pub in_order : all_ok calls ≡ true → takes calls ++ ready ≡ puts calls
   pub none_behind : all_ok calls ≡ true → behind ≡ []
+
+-- The book of a desk at some moment.
+abbrev pub IsBook : {K S M Q : Type 0} → Names K S → (Q → K → S → Bool) → List (Call K S M Q) → Type 0
+IsBook {K = K} {S = S} {M = M} {Q = Q} n keeps calls = (ready : List (Told K S M Q)) × (behind : List (Told K S M Q)) × IsLegal n keeps calls ready behind

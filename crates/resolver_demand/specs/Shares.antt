@@ -1,8 +1,8 @@
 -- What a handle has put, and the counts that it shares with the desk.
-use Rattle.std.specs.Prelude.{◌≡◌, ℕ, ◌+◌, ◌-◌, ◌^◌, Bool, false, true, List, [], ◌∷◌, ◌++◌, length, Option, MatchOption}
+use Rattle.std.specs.Prelude.{◌≡◌, ◌<◌, ℕ, ◌+◌, ◌-◌, ◌^◌, Bool, false, true, List, [], ◌∷◌, ◌++◌, length, Option, MatchOption}
 use Rattle.std.specs.Option.{option_map_or}
 use Rattle.resolver_demand.specs.Backlog.{Told}
-use Rattle.resolver_demand.specs.Book.{puts, takes}
+use Rattle.resolver_demand.specs.Book.{Call, closes, puts, puts_of, takes}
 use Rattle.resolver_demand.specs.Desk.{Desk, calls_of}
 
 -- the messages that a handle put, in their order, and whether it was answered Closed since
@@ -27,6 +27,10 @@ module _ {K S M Q : Type 0} where
   -- A message goes last in its handle's share; the first one makes the share.
   abbrev pub IsAdded : Told K S M Q → Option (Share K S M Q) → Option (Share K S M Q) → Type 0
   IsAdded told was now = MatchOption now ⊥ (λ share. share ≡ option_map_or (with_message told) was (first_share share.handle told))
+
+  -- The book has the messages of the share as the puts of its handle, and a close where it is marked.
+  abbrev pub AgreesWith : List (Call K S M Q) → Share K S M Q → Type 0
+  AgreesWith calls share = (puts_of share.handle calls ≡ share.puts) × (share.is_closed ≡ true → 0 < closes calls)
 
   -- how many puts a desk's book has
   abbrev pub puts_in : Desk K S M Q → ℕ

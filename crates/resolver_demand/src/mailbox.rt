@@ -4,11 +4,13 @@
 //! room for more. A mailbox is a desk under one lock, between any number of `Sender`s and one
 //! `Receiver`.
 
+mod agreeing;
 mod book;
 mod booking;
 mod counted;
 mod desk;
 mod entry;
+mod exact;
 mod naming;
 mod opening;
 mod receiver;
@@ -18,6 +20,7 @@ mod taken;
 
 pub use desk::Desk;
 pub use entry::{Entry, Posted};
+pub use exact::Exact;
 pub use naming::{Names, Naming, Pages, Puts, Takes, Unrecorded};
 pub use opening::{new, recorded};
 pub use receiver::Receiver;

@@ -1,21 +1,25 @@
 //! What lies under a mailbox's lock.
 
-ghost use Rattle.std.specs.Prelude.{◌≡◌, ◌≢◌, ◌+◌, ◌++◌, ◌^◌, ◌-◌, false, true, is_some, None, IfOk, IfErr, OnErr};
+ghost use Rattle.std.specs.Prelude.{◌≡◌, ◌≢◌, ◌+◌, ◌++◌, ◌^◌, ◌-◌, [], false, true, is_some, map, None, IfOk, IfErr, OnErr};
 ghost use Rattle.std.specs.Option.{ForSome, option_map, option_to_list};
 ghost use Rattle.resolver_base.specs.declared.base.fault.Fault.TheVariants.{Exhausted, OutOfMemory};
 ghost use Rattle.resolver_base.specs.declared.base.feedback.Feedback.TheVariants.{Closed};
 ghost use Rattle.resolver_demand.specs.Backlog.{told_of};
+ghost use Rattle.resolver_base.specs.Names.{names};
+ghost use Rattle.resolver_demand.specs.Book.{IsBook, call_of};
 ghost use Rattle.resolver_demand.specs.Desk.{empty_book};
 ghost use Rattle.resolver_demand.specs.Shares.{IsAdded, IsCounted, marked};
 
 use crate::ingress::{Message, Metadata};
+use crate::mailbox::agreeing::copied;
 use crate::mailbox::desk::Desk;
+use crate::mailbox::entry::Entry;
 use crate::mailbox::naming::{Names, Naming, Puts, Takes};
 use crate::mailbox::share::Share;
 use crate::mailbox::taken::Taken;
 use futures::task::Waker;
 use resolver_base::base::{Faithful, Fault, Feedback, Predicate};
-use std::alloc::Global;
+use std::alloc::{AllocError, Global};
 use std::hash::Hash;
 use std::sync::ledger;
 
@@ -137,6 +141,17 @@ impl<
             return self.desk.take();
         };
         taken.take(alloc, &mut self.desk, &mut totals.takes)
+    }
+
+    /// The calls on the desk so far, in their order. There are none where it isn't recorded.
+    pub(super) fn calls(&self, alloc: Global) -> Result<Vec<Entry<K, S, M, Q>>, AllocError>
+        ensures legal { N.is_recorded ≡ true → IfOk result
+            (λ calls. IsBook (names K.cmp S.cmp) Q.keeps (map call_of calls.items)) }
+        ensures none { N.is_recorded ≡ false → IfOk result
+            (λ calls. map call_of calls.items ≡ []) }
+    {
+        self.desk.law();
+        copied(alloc, self.desk.calls())
     }
 
     /// Closes the desk.

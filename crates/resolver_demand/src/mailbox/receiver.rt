@@ -1,16 +1,23 @@
 //! The end that takes messages.
 
-ghost use Rattle.std.specs.Prelude.{◌≡◌, ◌++◌, false, true, if◌then◌else◌, map, IfOk, IfErr, IfSome, IsOk};
+ghost use Rattle.std.specs.Prelude.{All, ◌≡◌, ◌≢◌, ◌++◌, [], false, true, if◌then◌else◌, map, IfOk, IfErr, IfSome, IsOk};
 ghost use Rattle.std.specs.Arc.{arc_value};
 ghost use Rattle.futures.specs.Poll.{IfReady, OnPending};
 ghost use Rattle.futures.specs.Task.{Covers, IsArmed, Keeps};
-ghost use Rattle.resolver_base.specs.declared.base.fault.Fault.TheVariants.{OutOfMemory};
+ghost use Rattle.resolver_base.specs.declared.base.fault.Fault.TheVariants.{OutOfMemory, Uneven};
+ghost use Rattle.resolver_base.specs.Names.{names};
 ghost use Rattle.resolver_demand.specs.Backlog.{told_of};
+ghost use Rattle.resolver_demand.specs.Book.{IsBook, call_of, takes};
 ghost use Rattle.resolver_demand.specs.Given.{given};
+ghost use Rattle.resolver_demand.specs.Shares.{AgreesWith};
 
 use crate::ingress::{Message, Metadata};
+use crate::mailbox::agreeing::{agrees, has_takes};
+use crate::mailbox::entry::Entry;
+use crate::mailbox::exact::Exact;
 use crate::mailbox::naming::Naming;
 use crate::mailbox::sender::Shared;
+use crate::mailbox::share::Share;
 use crate::mailbox::taken::Taken;
 use futures::Stream;
 use futures::task::{Context, Poll};
@@ -58,6 +65,44 @@ impl<
         ensures { self.new.taken ≡ self.old.taken }
     {
         self.shared.close(&self.rt);
+    }
+
+    /// A copy of the book of calls, where it agrees with what this receiver gave and with the
+    /// shares of handles that are lent; else `Uneven`. In a mailbox that isn't recorded it is empty.
+    /// Where memory is wanting (`OutOfMemory`), nothing changes. It waits for the mailbox's lock.
+    ///
+    /// It takes time in proportion to the book for each share, and to copy the messages.
+    pub fn book(
+        &self,
+        alloc: Global,
+        shares: &[&Share<K, S, M, Q, N>],
+    ) -> Result<Vec<Entry<K, S, M, Q>>, Fault>
+    where
+        K: Exact,
+        S: Exact,
+        M: Exact,
+        Q: Exact,
+        ensures taken { IfOk result (λ book. takes (map call_of book.items) ≡ self.now.taken) }
+        ensures shares { IfOk result (λ book.
+            All (λ share. AgreesWith (map call_of book.items) share.now) shares.now) }
+        ensures legal { N.is_recorded ≡ true → IfOk result
+            (λ book. IsBook (names K.cmp S.cmp) Q.keeps (map call_of book.items)) }
+        ensures none { N.is_recorded ≡ false → IfOk result
+            (λ book. map call_of book.items ≡ []) }
+        ensures only { IfErr result (λ fault. fault ≢ OutOfMemory → fault ≡ Uneven) }
+    {
+        let guard = self.shared.state.lock(&self.rt);
+        let book = guard.calls(alloc)?;
+        drop(guard);
+        if !has_takes(book.as_slice(), self.taken.as_slice()) {
+            return Err(Fault::Uneven);
+        }
+        for share in shares {
+            if !agrees(book.as_slice(), share) {
+                return Err(Fault::Uneven);
+            }
+        }
+        Ok(book)
     }
 }
 
