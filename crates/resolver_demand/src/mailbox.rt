@@ -26,3 +26,6 @@ pub use opening::{new, recorded};
 pub use receiver::Receiver;
 pub use sender::Sender;
 pub use share::Share;
+
+#[cfg(test)]
+mod tests;
