@@ -1,5 +1,5 @@
 -- Each request goes to a peer that is eligible for its key.
-use Rattle.std.proofs.Common.{◌≡◌, refl, subst, ap, ◌∙◌, sym, inl, inr, ℕ, ◌+◌, ◌^◌, Bool, true, false, not, ◌&&◌, ◌==◌, cond, List, [], ◌∷◌, ◌++◌, length, Option, None, Some, Result, Ok, Err, filter, map, if◌then◌else◌}
+use Rattle.std.proofs.Common.{◌≡◌, refl, subst, ap, ◌∙◌, sym, inl, inr, ℕ, ◌+◌, ◌^◌, Bool, true, false, not, ◌==◌, cond, List, [], ◌∷◌, ◌++◌, Option, None, Some, Result, Ok, Err, filter, map, if◌then◌else◌}
 use Rattle.std.specs.Prelude.{option_map, option_and_then, option_to_list, nat_lt, zero, suc, find, sum, is_none, ⊤}
 use Rattle.std.specs.Map.{lookup}
 use Rattle.resolver_base.specs.declared.base.fault.Fault.{Fault}
@@ -7,7 +7,6 @@ use Rattle.resolver_base.specs.declared.base.fault.Fault.TheVariants.{OutOfRange
 use Rattle.resolver_base.specs.declared.root.Outcome.{Outcome}
 use Rattle.resolver_base.specs.declared.root.Outcome.TheVariants.{Invalid, Resolved, Unresolved, Ignored}
 use Rattle.resolver_base.specs.Subscribers.{without}
-use Rattle.resolver_fetch.specs.Orders.{Orders}
 use Rattle.resolver_fetch.specs.declared.score.Averages.{Averages}
 use Rattle.resolver_fetch.specs.Choice as choice
 use Rattle.resolver_fetch.specs.Waiting.{Waiting}

@@ -6,7 +6,12 @@ use Rattle.std.specs.List.Sorted.{ties, IsNonDecreasingBy, IsStableByKey}
 use Rattle.resolver_base.specs.Names.{Names}
 use Rattle.resolver.specs.declared.opaque.overdue.Overdue.{Overdue}
 use Rattle.std.specs.Map.{lookup, set_value, keys_of}
-use Rattle.std.specs.List.{IsDistinct}
+use Rattle.std.specs.List.{IsDistinct, AllByRecursion}
+use Rattle.std.proofs.lemmas.Map.{keys-set_value}
+use Rattle.std.proofs.lemmas.Map.Keys.{IsDistinct-head, IsDistinct-tail}
+use Rattle.std.proofs.Common.{find}
+use Rattle.std.specs.Ordering.{is_eq}
+use Rattle.std.specs.declared.cmp.Ordering.{Ordering}
 use Rattle.std.specs.Cmp.{IsEquivalence}
 use Rattle.std.proofs.Common.{subst, ◌+◌, ◌^◌}
 use Rattle.resolver_base.specs.Names.{same_key}
@@ -306,6 +311,11 @@ module _ {K V S : Type 0} where
       at (Asked attempt) is rest = rest
       at (Judged j) is rest = rest
 
+-- each of these keys is one of the kept keys, and not merely equal to it
+abbrev pub AllOwn : {K : Type 0} → (K → K → Ordering) → List K → List (Overdue K) → Type 0
+AllOwn cmp ks [] = Unit {0}
+AllOwn cmp ks (o ∷ os) = (find (λ k. is_eq (cmp o.key k)) ks ≡ Some o.key) × AllOwn cmp ks os
+
 module _ {V S : Type 0} where
   -- a row that is there for these subscribers, and isn't judged
   pub record Waits (subscribers : List (S × ℕ)) (o : Option (Row V S)) : Type 0 where
@@ -420,13 +430,32 @@ module _ {K V S : Type 0} (n : Names K S) (laws : IsEquivalence (same_key n)) wh
   -- One key is asked for again, and those after it are as idle as before.
   pub one-started : (m next : Machine K V S) (o : Overdue K) (os : List (Overdue K)) (before after : List (Effect K V S)) → IsIdle (row_of n m o.key) → AllIdle n m os
       → IfSome (row_of n m o.key) (λ row. onto before (start_again n m o.key row.subscribers) ≡ Some (record { machine = next; effects = after }))
-      → (onto before (start_at n m o.key (row_of n m o.key)) ≡ Some (record { machine = next; effects = after })) × AllIdle n next os
+      → (onto before (start_at n m o.key (row_of n m o.key)) ≡ Some (record { machine = next; effects = after })) × AllIdle n next os × (keys_of next.rows ≡ keys_of m.rows)
   one-started m next o os before after idle all goes = at (row_of n m o.key) refl idle goes
     where
       at : (p : Option (Row V S)) → row_of n m o.key ≡ p → IsIdle p → IfSome p (λ row. onto before (start_again n m o.key row.subscribers) ≡ Some (record { machine = next; effects = after }))
-          → (onto before (start_at n m o.key p) ≡ Some (record { machine = next; effects = after })) × AllIdle n next os
+          → (onto before (start_at n m o.key p) ≡ Some (record { machine = next; effects = after })) × AllIdle n next os × (keys_of next.rows ≡ keys_of m.rows)
       at None found idle goes = absurd idle
-      at (Some row) found idle goes = (goes, all-idle-after m next o.key row os found idle (started-rows m next o.key row.subscribers before after goes) all)
+      at (Some row) found idle goes =
+          let rows = started-rows m next o.key row.subscribers before after goes in
+          (goes, all-idle-after m next o.key row os found idle rows all, ap keys_of rows ∙ keys-set_value (same_key n o.key) m.rows (record { subscribers = row.subscribers; phase = Asked m.next_attempt }))
+
+  each_own : (rs : List (K × Row V S)) → IsDistinct (same_key n) (keys_of rs) → Each (λ r. find (same_key n r.0) (keys_of rs) ≡ Some r.0) rs
+  each_own [] distinct = tt
+  each_own (r ∷ rs) distinct = (rw (laws.refl r.0) refl, later rs (each_own rs (IsDistinct-tail (same_key n) r.0 (keys_of rs) distinct)) (IsDistinct-head (same_key n) r.0 (keys_of rs) distinct))
+    where
+      later : (qs : List (K × Row V S)) → Each (λ q. find (same_key n q.0) (keys_of rs) ≡ Some q.0) qs → AllByRecursion (λ k. same_key n r.0 k ≡ false) (keys_of qs)
+          → Each (λ q. find (same_key n q.0) (keys_of (r ∷ rs)) ≡ Some q.0) qs
+      later [] own apart = tt
+      later (q ∷ qs) own apart = (rw (laws.symm q.0 r.0, apart.0) own.0, later qs own.1 apart.1)
+
+  pub all-own : (now : ℕ) (m : Machine K V S) → IsDistinct (same_key n) (keys_of m.rows) → AllOwn n.key (keys_of m.rows) (map overdue_of (waiting_by_due now m.rows))
+  all-own now m distinct =
+      each (waiting_by_due now m.rows) (Each-waiting (λ r. find (same_key n r.0) (keys_of m.rows) ≡ Some r.0) now m.rows (each_own m.rows distinct))
+    where
+      each : (qs : List (ℕ × (K × Row V S))) → Each (λ q. (find (same_key n q.1.0) (keys_of m.rows) ≡ Some q.1.0) × IsIdlePhase q.1.1.phase) qs → AllOwn n.key (keys_of m.rows) (map overdue_of qs)
+      each [] all = tt
+      each (q ∷ qs) all = (all.0.0, each qs all.1)
 
 module _ {K V S : Type 0} where
   -- a part of a step, and what comes after it

@@ -16,7 +16,6 @@ use Rattle.resolver_base.specs.declared.root.Resolution.TheVariants.{Complete, P
 use Rattle.resolver.specs.Parties.{Parties, orders_of}
 use Rattle.resolver.specs.PeerRows.{Row, Phase, Waits, Asked, Judged}
 use Rattle.resolver_fetch.specs.declared.fetcher.request.Request.{Request}
-use Rattle.resolver_fetch.specs.declared.fetcher.scan.Answer.{Answer}
 use Rattle.resolver_fetch.specs.declared.fetcher.scan.Ask.{Ask as Question}
 use Rattle.resolver_fetch.specs.Scan as scans
 use Rattle.resolver_fetch.specs.Scan.{Turn, Scan, is_over}

@@ -1,4 +1,5 @@
 pub mod Mapped
+pub mod Led
 pub mod Going
 pub mod Running
 pub mod Dues

@@ -4,7 +4,6 @@ use Rattle.std.specs.List.{IsDistinct}
 use Rattle.std.specs.Map.{keys_of}
 use Rattle.std.specs.Ordering.{is_eq}
 use Rattle.std.specs.declared.cmp.Ordering.{Ordering}
-use Rattle.resolver_demand.specs.declared.delivery.entry.Entry.{Entry}
 use Rattle.resolver_demand.specs.declared.delivery.entry.Open.{Open}
 use Rattle.resolver_demand.specs.declared.delivery.entry.Response.{Response}
 use Rattle.resolver_demand.specs.Entries.{Numbered}
@@ -15,10 +14,7 @@ use Rattle.resolver.specs.declared.opaque.actor.Status.TheVariants as statuses
 use Rattle.resolver.specs.declared.opaque.actor.Actor.TheInside.{Inside}
 use Rattle.resolver.specs.Account.{Handed}
 use Rattle.resolver.specs.Opaque.{Machine, Row, Phase, Waiting, Asked, Judged, Status, Running, Ended, Failed}
-
--- what the entries keep of a key, without what was said of its response
-abbrev pub Kept : Type 0 → Type 0
-Kept V = Entry V (Unit {0}) Stage
+pub use Rattle.resolver.specs.OpaqueStages.{Kept}
 
 abbrev pub staged : {V : Type 0} → Stage → Phase V
 staged (stages.Waiting due) = Waiting due
@@ -86,8 +82,8 @@ module _ {K V S : Type 0} where
     pub cached : AreCached keys
 
 abbrev pub machine_of : {K V S Q : Type 0} → Inside K V S Q → Machine K V S
-machine_of a = machine_with a.demand a.entries a.attempts a.delay (status_of a.status)
+machine_of a = machine_with a.demand a.stages.entries a.stages.next_attempt a.delay (status_of a.status)
 
 pub record IsSound {K V S Q : Type 0} (cmp : K → K → Ordering) (a : Inside K V S Q) : Type 0 where
   pub delay : a.delay < 2 ^ 94
-  pub agree : Agree cmp a.demand a.entries.keys
+  pub agree : Agree cmp a.demand a.stages.entries.keys

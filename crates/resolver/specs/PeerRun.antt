@@ -5,7 +5,7 @@ use Rattle.resolver_base.specs.Demand.{Pair}
 use Rattle.resolver.specs.Account.{Handed, Change, Adds, Keeps, Judges, Empties, Leaves, pairs, account_of, nothing_asked}
 use Rattle.resolver.specs.Parties.{Parties, names_of}
 use Rattle.resolver.specs.PeerRows.{Row}
-use Rattle.resolver.specs.Peer.{Machine, Fetch, Retain, Verdict, End, Input, Happens, Effect, Deliver, Item, step}
+use Rattle.resolver.specs.Peer.{Machine, Fetch, Retain, Verdict, End, Input, Happens, Effect, Deliver, step}
 
 -- an input, and its moment
 pub record Fed (K S P : Type 0) : Type 0 where

@@ -5,6 +5,7 @@
 mod actor;
 mod overdue;
 mod rows;
+mod stages;
 
 pub use actor::{Actor, Effect, Event, Input};
 pub use rows::{Phase, Row};

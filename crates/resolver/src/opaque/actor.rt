@@ -9,13 +9,11 @@ ghost use Rattle.resolver.specs.OpaqueFound.{IsRefusal, flagged, handed_again};
 ghost use Rattle.resolver.specs.Steps.{stops};
 
 use super::overdue::{by_due, is_any_due};
-use super::rows::{
-    Keys, Row, Stage, asked_by, call_off_all, call_off_each, first_due, forget_each, listed,
-};
+use super::rows::{Row, call_off_all, call_off_each, first_due, forget_each, listed};
+use super::stages::Stages;
 use crate::ruling::{Ruling, rule_on};
-use resolver_base::base::{Fault, NonEmptyVec, Numbers, Predicate};
+use resolver_base::base::{Fault, NonEmptyVec, Predicate};
 use resolver_base::root::{Delivery, Outcome};
-use resolver_demand::delivery::Entries;
 use resolver_demand::ingress::FetchKey;
 use resolver_demand::subscribers::Tracker;
 use std::alloc::Global;
@@ -95,8 +93,7 @@ enum Status {
 #[derive(Drop)]
 pub struct Actor<K: Ord, V, S: Ord, Q> {
     demand: Tracker<K, S>,
-    entries: Keys<K, S, V>,
-    attempts: Numbers,
+    stages: Stages<K, S, V>,
     delay: u128,
     status: Status,
     alloc: Global,
@@ -117,7 +114,7 @@ impl<K: Ord, V, S: Ord, Q> Model for Actor<K, V, S, Q> {
 }
 
 impl<K: Ord + Clone, V: Clone, S: Ord + Clone, Q: Predicate<K, S> + Drop> Actor<K, V, S, Q> {
-    ghost use Rattle.std.specs.Prelude.{◌==◌, Err, Some, false, is_none, length};
+    ghost use Rattle.std.specs.Prelude.{◌==◌, Err, Some, false, find, is_none, length};
     ghost use Rattle.std.specs.List.{IsDistinct};
     ghost use Rattle.std.specs.Map.{lookup};
     ghost use Rattle.std.specs.Ordering.{is_eq, nat_cmp};
@@ -139,8 +136,7 @@ impl<K: Ord + Clone, V: Clone, S: Ord + Clone, Q: Predicate<K, S> + Drop> Actor<
     {
         Actor {
             demand: Tracker::new(alloc),
-            entries: Entries::new(alloc),
-            attempts: Numbers::new(),
+            stages: Stages::new(alloc),
             delay,
             status: Status::Running,
             alloc,
@@ -152,8 +148,8 @@ impl<K: Ord + Clone, V: Clone, S: Ord + Clone, Q: Predicate<K, S> + Drop> Actor<
     ///
     /// `OutOfMemory` and `Exhausted` fail the actor for good: each later step answers `Failed` and
     /// changes nothing, as after `End` each answers `Ended`. A verdict that is passed over takes no
-    /// memory. A fetched value and `RetriesDue` take time linear in the demanded keys, and a verdict
-    /// logarithmic time.
+    /// memory. A fetched value and a verdict take time logarithmic in the demanded keys, and
+    /// `RetriesDue` linear time.
     pub fn step(&mut self, input: Input<K, V, S, Q>) -> Result<Vec<Effect<K, V, S>>, Fault>
         requires keys_clone { (x y : K) → K.is_clone x y → y ≡ x }
         requires values_clone { (x y : V) → V.is_clone x y → y ≡ x }
@@ -217,7 +213,7 @@ impl<K: Ord + Clone, V: Clone, S: Ord + Clone, Q: Predicate<K, S> + Drop> Actor<
             (λ rows. IsDistinct (λ k l. is_eq (K.cmp k l)) (map (λ row. row.key) rows.items)) }
         ensures only { IfErr result (λ fault. fault ≡ Fault.OutOfMemory) }
     {
-        listed(self.alloc, &self.demand, &self.entries)
+        listed(self.alloc, &self.demand, self.stages.entries())
     }
 
     /// The earliest moment at which a waiting key is due, if a key is waiting. It takes time
@@ -225,7 +221,7 @@ impl<K: Ord + Clone, V: Clone, S: Ord + Clone, Q: Predicate<K, S> + Drop> Actor<
     pub fn next_retry(&self) -> Option<u128>
         ensures { result ≡ next_retry self.now.rows }
     {
-        first_due(&self.entries)
+        first_due(self.stages.entries())
     }
 
     fn advance(
@@ -302,17 +298,16 @@ impl<K: Ord + Clone, V: Clone, S: Ord + Clone, Q: Predicate<K, S> + Drop> Actor<
             (attached_all S.cmp [] subscribers))
             effects.old.items effects.new.items self.new result }
     {
-        let attempt = self.attempts.take().ok_or(Fault::Exhausted)?;
         let wanted = key.clone()?;
         let tracked = key.clone()?;
         self.demand.insert(wanted, subscribers)?;
-        let asked = self.entries.insert_state(tracked, Stage::Asked { attempt });
-        if let Err(fault) = asked {
-            self.demand.remove(&key);
-            return Err(fault);
+        match self.stages.ask(tracked) {
+            Ok(attempt) => Ok(effects.push(Effect::Start { attempt, key })?),
+            Err(fault) => {
+                self.demand.remove(&key);
+                Err(fault)
+            }
         }
-        effects.push(Effect::Start { attempt, key })?;
-        Ok(())
     }
 
     fn retain(&mut self, keep: &Q, effects: &mut Vec<Effect<K, V, S>>) -> Result<(), Fault>
@@ -321,8 +316,8 @@ impl<K: Ord + Clone, V: Clone, S: Ord + Clone, Q: Predicate<K, S> + Drop> Actor<
             effects.old.items effects.new.items self.new result }
     {
         let emptied = self.demand.retain(keep)?;
-        let called_off = call_off_each(&self.entries, emptied.as_slice(), effects);
-        forget_each(&mut self.entries, emptied);
+        let called_off = call_off_each(self.stages.entries(), emptied.as_slice(), effects);
+        forget_each(&mut self.stages, emptied);
         called_off
     }
 
@@ -340,13 +335,13 @@ impl<K: Ord + Clone, V: Clone, S: Ord + Clone, Q: Predicate<K, S> + Drop> Actor<
         ensures { Goes (fetched (names K.cmp S.cmp) self.old now attempt value)
             effects.old.items effects.new.items self.new result }
     {
-        let Some(key) = asked_by(&self.entries, attempt)? else {
+        let Some(held) = self.stages.asked_by(attempt) else {
             return Ok(());
         };
+        let key = held.clone()?;
         match value {
             None => {
-                let due = now + self.delay;
-                self.entries.set_state(&key, Stage::Waiting { due });
+                self.stages.wait(&key, now + self.delay);
                 Ok(())
             }
             Some(value) => self.hand_out(key, value, effects),
@@ -374,7 +369,7 @@ impl<K: Ord + Clone, V: Clone, S: Ord + Clone, Q: Predicate<K, S> + Drop> Actor<
         let delivery = Delivery { key, subscribers };
         let told = delivery.clone()?;
         let copy = value.clone()?;
-        let number = self.entries.deliver(delivery, (), copy)?;
+        let number = self.stages.deliver(delivery, copy)?;
         effects.push(Effect::Deliver {
             number,
             response: number,
@@ -400,30 +395,30 @@ impl<K: Ord + Clone, V: Clone, S: Ord + Clone, Q: Predicate<K, S> + Drop> Actor<
         ensures memory { result ≡ Err Fault.OutOfMemory
             → is_none (lookup (is_at (nat_cmp number)) self.old.deliveries) ≡ false }
     {
-        let Ok(completion) = self.entries.completed(number, outcome) else {
+        let Ok(completion) = self.stages.completed(number, outcome) else {
             return Ok(());
         };
         if completion.canceled {
             return Ok(());
         }
         let Delivery { key, subscribers } = completion.delivery;
-        match rule_on(outcome, self.entries.response_accepted(&key)) {
+        match rule_on(outcome, self.stages.entries().response_accepted(&key)) {
             Ruling::Serve { accepted } => {
                 let Some(subscribers) = self.demand.remove_delivered(&key, &subscribers)? else {
-                    self.entries.remove(&key);
+                    self.stages.remove(&key);
                     return Ok(());
                 };
                 let delivery = Delivery { key, subscribers };
-                hand_out_again(&mut self.entries, delivery, accepted, effects)
+                hand_out_again(&mut self.stages, delivery, accepted, effects)
             }
             Ruling::Retry => {
                 let later = now + self.delay;
-                self.entries.set_state(&key, Stage::Waiting { due: later });
+                self.stages.wait(&key, later);
                 Ok(())
             }
             Ruling::Retire => {
                 self.demand.remove(&key);
-                self.entries.remove(&key);
+                self.stages.remove(&key);
                 Ok(())
             }
         }
@@ -437,23 +432,24 @@ impl<K: Ord + Clone, V: Clone, S: Ord + Clone, Q: Predicate<K, S> + Drop> Actor<
         ensures memory { result ≡ Err Fault.OutOfMemory
             → (length (waiting_by_due now self.old.rows) == 0) ≡ false }
     {
-        if !is_any_due(&self.entries, now) {
+        if !is_any_due(self.stages.entries(), now) {
             return Ok(());
         }
-        for one in by_due(self.alloc, &self.entries, now)? {
+        for one in by_due(self.alloc, self.stages.entries(), now)? {
             self.start_again(one.key, effects)?;
         }
         Ok(())
     }
 
     fn start_again(&mut self, key: K, effects: &mut Vec<Effect<K, V, S>>) -> Result<(), Fault>
+        requires keys_clone { (x y : K) → K.is_clone x y → y ≡ x }
+        requires own { find (λ k. is_eq (K.cmp key k)) (keys_of self.old.rows) ≡ Some key }
         requires idle { IsIdle (row_of (names K.cmp S.cmp) self.old key) }
         ensures { IfSome (row_of (names K.cmp S.cmp) self.old key) (λ row.
             Goes (start_again (names K.cmp S.cmp) self.old key row.subscribers)
             effects.old.items effects.new.items self.new result) }
     {
-        let attempt = self.attempts.take().ok_or(Fault::Exhausted)?;
-        self.entries.set_state(&key, Stage::Asked { attempt });
+        let attempt = self.stages.ask_again(&key)?;
         effects.push(Effect::Start { attempt, key })?;
         Ok(())
     }
@@ -462,9 +458,9 @@ impl<K: Ord + Clone, V: Clone, S: Ord + Clone, Q: Predicate<K, S> + Drop> Actor<
         ensures { Goes (Some (end self.old))
             effects.old.items effects.new.items self.new result }
     {
-        call_off_all(&self.entries, effects)?;
+        call_off_all(self.stages.entries(), effects)?;
         self.demand.clear();
-        self.entries.clear();
+        self.stages.clear();
         self.status = Status::Ended;
         Ok(())
     }
@@ -472,7 +468,7 @@ impl<K: Ord + Clone, V: Clone, S: Ord + Clone, Q: Predicate<K, S> + Drop> Actor<
 
 /// Hands the cached response out once more, accepted or not.
 fn hand_out_again<K: Ord + Clone + Drop, V: Clone + Drop, S: Clone + Drop>(
-    entries: &mut Keys<K, S, V>,
+    stages: &mut Stages<K, S, V>,
     delivery: Delivery<K, S>,
     accepted: bool,
     effects: &mut Vec<Effect<K, V, S>>,
@@ -480,25 +476,27 @@ fn hand_out_again<K: Ord + Clone + Drop, V: Clone + Drop, S: Clone + Drop>(
     requires keys_clone { (x y : K) → K.is_clone x y → y ≡ x }
     requires values_clone { (x y : V) → V.is_clone x y → y ≡ x }
     requires subscribers_clone { (x y : S) → S.is_clone x y → y ≡ x }
-    requires cached { IsSome (response_of K.cmp entries.old delivery.key) }
-    requires free { number_of K.cmp entries.old delivery.key ≡ None }
-    ensures ok { OnOk result (entries.new ≡ handed_again K.cmp delivery accepted entries.old) }
-    ensures told { OnOk result (IfSome (response_of K.cmp entries.old delivery.key) (λ r.
+    requires cached { IsSome (response_of K.cmp stages.old.entries delivery.key) }
+    requires free { number_of K.cmp stages.old.entries delivery.key ≡ None }
+    ensures ok { OnOk result (stages.new.entries
+        ≡ handed_again K.cmp delivery accepted stages.old.entries) }
+    ensures attempts { stages.new.next_attempt ≡ stages.old.next_attempt }
+    ensures told { OnOk result (IfSome (response_of K.cmp stages.old.entries delivery.key) (λ r.
         effects.new.items ≡ effects.old.items
-        ++ Deliver entries.old.next r.name delivery r.value ∷ [])) }
-    ensures room { OnOk result (entries.old.next < 2 ^ 64) }
-    ensures same { keys_of entries.new.keys ≡ keys_of entries.old.keys }
-    ensures cached { AreCached entries.old.keys → AreCached entries.new.keys }
-    ensures only { IfErr result (λ fault. IsRefusal entries.old.next fault) }
+        ++ Deliver stages.old.entries.next r.name delivery r.value ∷ [])) }
+    ensures room { OnOk result (stages.old.entries.next < 2 ^ 64) }
+    ensures same { keys_of stages.new.entries.keys ≡ keys_of stages.old.entries.keys }
+    ensures cached { AreCached stages.old.entries.keys → AreCached stages.new.entries.keys }
+    ensures only { IfErr result (λ fault. IsRefusal stages.old.entries.next fault) }
 {
-    note_accepted(entries, &delivery.key, accepted);
-    let Some(response) = entries.response(&delivery.key) else {
+    note_accepted(stages, &delivery.key, accepted);
+    let Some(response) = stages.entries().response(&delivery.key) else {
         unreachable!()
     };
     let name = response.name;
     let value = response.value.clone()?;
     let told = delivery.clone()?;
-    let number = entries.redeliver(delivery)?;
+    let number = stages.redeliver(delivery)?;
     effects.push(Effect::Deliver {
         number,
         response: name,
@@ -510,15 +508,17 @@ fn hand_out_again<K: Ord + Clone + Drop, V: Clone + Drop, S: Clone + Drop>(
 
 /// Notes that a key's cached response is right, if it is.
 fn note_accepted<K: Ord + Drop, V: Drop, S: Drop>(
-    entries: &mut Keys<K, S, V>,
+    stages: &mut Stages<K, S, V>,
     key: &K,
     accepted: bool,
 )
-    requires cached { IsSome (response_of K.cmp entries.old key.now) }
-    ensures { entries.new ≡ flagged K.cmp accepted key.now entries.old }
+    requires cached { IsSome (response_of K.cmp stages.old.entries key.now) }
+    ensures { stages.new ≡ record stages.old {
+      entries = flagged K.cmp accepted key.now stages.old.entries;
+    } }
 {
     if accepted {
-        entries.accept_response(key);
+        stages.accept_response(key);
     }
 }
 

@@ -4,10 +4,11 @@ ghost use Rattle.std.specs.Prelude.{◌≡◌, ◌++◌, IfErr, IfOk, OnOk, map}
 ghost use Rattle.resolver_base.specs.declared.base.fault.Fault.TheVariants.{OutOfMemory};
 ghost use Rattle.resolver.specs.Opaque.{called_off};
 ghost use Rattle.resolver.specs.OpaqueActor.{phase_of, rows_of};
-ghost use Rattle.resolver.specs.OpaqueFound.{all_kept_called_off, asked_key, each_called_off, first_due, without_each};
+ghost use Rattle.resolver.specs.OpaqueFound.{all_kept_called_off, each_called_off, first_due, without_each};
 ghost use Rattle.resolver.specs.OpaqueListed.{listed, listed_phase};
 
 use super::actor::Effect;
+use super::stages::Stages;
 use resolver_base::base::{Fault, NonEmptyVec};
 use resolver_demand::delivery::{Entries, Entry};
 use resolver_demand::subscribers::Tracker;
@@ -115,25 +116,6 @@ pub fn first_due<K: Ord + Drop, V: Drop, S: Drop>(entries: &Keys<K, S, V>) -> Op
     first
 }
 
-/// The key that is asked for by this attempt.
-pub fn asked_by<K: Ord + Clone + Drop, V: Drop, S: Drop>(
-    entries: &Keys<K, S, V>,
-    attempt: u64,
-) -> Result<Option<K>, Fault>
-    requires keys_clone { (x y : K) → K.is_clone x y → y ≡ x }
-    ensures found { IfOk result (λ found. found ≡ asked_key attempt entries.now.keys) }
-    ensures only { IfErr result (λ fault. fault ≡ OutOfMemory) }
-{
-    for (key, entry) in entries.iter() {
-        if let Phase::Asked { attempt: asked } = listed_phase(entry) {
-            if attempt == asked {
-                return Ok(Some(key.clone()?));
-            }
-        }
-    }
-    Ok(None)
-}
-
 /// Calls off what is being done for each key.
 pub fn call_off_all<K: Ord + Drop, V: Drop, S: Drop>(
     entries: &Keys<K, S, V>,
@@ -184,12 +166,14 @@ fn call_off<K: Drop, V: Drop, S: Drop>(
 }
 
 /// Lets these keys go.
-pub fn forget_each<K: Ord + Drop, V: Drop, S: Drop>(entries: &mut Keys<K, S, V>, keys: Vec<K>)
-    ensures { entries.new ≡ record entries.old {
-      keys = without_each K.cmp keys.items entries.old.keys;
+pub fn forget_each<K: Ord + Drop, V: Drop, S: Drop>(stages: &mut Stages<K, S, V>, keys: Vec<K>)
+    ensures { stages.new ≡ record stages.old {
+      entries = record stages.old.entries {
+        keys = without_each K.cmp keys.items stages.old.entries.keys;
+      };
     } }
 {
     for key in keys {
-        entries.remove(&key);
+        stages.remove(&key);
     }
 }

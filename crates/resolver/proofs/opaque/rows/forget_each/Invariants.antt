@@ -6,5 +6,5 @@ use Rattle.resolver.proofs.opaque.rows.forget_each.Given as goal
 -- the entries now without the keys that are left are the first ones without all keys
 abbrev pub invariant-loop-key : goal.invariant-loop-key
 invariant-loop-key g l =
-    record l.entries { keys = without_each g.K.Ord.cmp (into_iter_items l.key-iterator) l.entries.keys }
-    ≡ record l.fn.entries { keys = without_each g.K.Ord.cmp l.fn.keys.items l.fn.entries.keys }
+    record l.stages { entries = record l.stages.entries { keys = without_each g.K.Ord.cmp (into_iter_items l.key-iterator) l.stages.entries.keys } }
+    ≡ record l.fn.stages { entries = record l.fn.stages.entries { keys = without_each g.K.Ord.cmp l.fn.keys.items l.fn.stages.entries.keys } }

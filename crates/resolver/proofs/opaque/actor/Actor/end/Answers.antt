@@ -10,4 +10,4 @@ invariant_of-self g c = record { delay = c.self.invariant.delay; agree = rw (c.c
 pub returns : goal.returns
 returns g c =
     rw (← c.self.view_is, c.clear.ensures, c.clear-2.ensures)
-    (end_goes (names g.K.Ord.cmp g.S.Ord.cmp) c.self.inside.demand c.self.inside.entries c.self.invariant.agree c.self.inside.attempts c.self.inside.delay (status_of c.self.inside.status) c.args.effects.now.items c.call_off_all.new.effects.items c.in_ok-call_off_all.ensures.told)
+    (end_goes (names g.K.Ord.cmp g.S.Ord.cmp) c.self.inside.demand c.self.inside.stages.entries c.self.invariant.agree c.self.inside.stages.next_attempt c.self.inside.delay (status_of c.self.inside.status) c.args.effects.now.items c.call_off_all.new.effects.items (rw c.entries.ensures at c.in_ok-call_off_all.ensures.told))

@@ -1,4 +1,4 @@
-use Rattle.std.proofs.Common.{◌∙◌, sym, refl}
+use Rattle.std.proofs.Common.{◌∙◌, ap, refl, Some}
 use Rattle.std.proofs.lemmas.Cmp.{eq_by_cmp_equiv}
 use Rattle.resolver_base.specs.Names.{names}
 use Rattle.resolver.specs.OpaqueActor.{status_of}
@@ -7,28 +7,28 @@ use Rattle.resolver.proofs.opaque.actor.Actor.fetched.Goals as goal
 
 pub returns-in_default : goal.returns-in_default
 returns-in_default g c =
-    let none = nothing-found (names g.K.Ord.cmp g.S.Ord.cmp) c.self.inside.demand c.self.inside.entries c.self.invariant.agree c.self.inside.attempts c.self.inside.delay (status_of c.self.inside.status) c.args.attempt (sym c.in_default.is ∙ c.in_ok-key.ensures.found) in
+    let none = nothing-found (names g.K.Ord.cmp g.S.Ord.cmp) c.self.inside.demand c.self.inside.stages.entries c.self.invariant.agree c.self.inside.stages.next_attempt c.self.inside.delay (status_of c.self.inside.status) c.args.attempt c.in_default.ensures in
     rw (← c.self.view_is, none) (quiet_goes _ c.args.effects.now.items)
 
 pub invariant_of-self : goal.invariant_of-self
 invariant_of-self g c = record {
   delay = c.self.invariant.delay;
-  agree = agree-staged (names g.K.Ord.cmp g.S.Ord.cmp) c.self.inside.demand c.self.inside.entries c.self.invariant.agree c.self.inside.attempts c.self.inside.delay (status_of c.self.inside.status) c.in-Some.key _ c.set_state.new.self c.set_state.ensures;
+  agree = agree-staged (names g.K.Ord.cmp g.S.Ord.cmp) c.self.inside.demand c.self.inside.stages.entries c.self.invariant.agree c.self.inside.stages.next_attempt c.self.inside.delay (status_of c.self.inside.status) c.in_ok-key.key _ c.wait.new.self.entries (ap (λ s. s.entries) c.wait.ensures);
 }
 
 pub hand_out-requires-clause-idle : goal.hand_out-requires-clause-idle
 hand_out-requires-clause-idle g c =
-    let f = found-key (names g.K.Ord.cmp g.S.Ord.cmp) c.self.inside.demand c.self.inside.entries c.self.invariant.agree c.self.inside.attempts c.self.inside.delay (status_of c.self.inside.status) (eq_by_cmp_equiv g.met.K.Ord.total) c.args.attempt c.in-Some.key (sym c.in-Some.is ∙ c.in_ok-key.ensures.found) in
+    let f = found-key (names g.K.Ord.cmp g.S.Ord.cmp) c.self.inside.demand c.self.inside.stages.entries c.self.invariant.agree c.self.inside.stages.next_attempt c.self.inside.delay (status_of c.self.inside.status) (eq_by_cmp_equiv g.met.K.Ord.total) c.args.attempt c.in_ok-key.key (ap Some (c.requires.keys_clone _ _ c.in_ok-key.ensures.cases) ∙ c.in-Some.ensures) in
     rw (← c.self.view_is) (idle-row _ f.row f.at_key f.idle)
 
 pub returns-in-None : goal.returns-in-None
 returns-in-None g c =
-    let f = found-key (names g.K.Ord.cmp g.S.Ord.cmp) c.self.inside.demand c.self.inside.entries c.self.invariant.agree c.self.inside.attempts c.self.inside.delay (status_of c.self.inside.status) (eq_by_cmp_equiv g.met.K.Ord.total) c.args.attempt c.in-Some.key (sym c.in-Some.is ∙ c.in_ok-key.ensures.found) in
-    rw (← c.self.view_is, c.in-None.is, f.at_attempt)
-    (retry_goes (names g.K.Ord.cmp g.S.Ord.cmp) c.self.inside.demand c.self.inside.entries c.self.invariant.agree c.self.inside.attempts c.self.inside.delay (status_of c.self.inside.status) c.in-Some.key f.row c.args.now _ c.args.effects.now.items c.set_state.new.self f.at_key f.idle refl c.set_state.ensures)
+    let f = found-key (names g.K.Ord.cmp g.S.Ord.cmp) c.self.inside.demand c.self.inside.stages.entries c.self.invariant.agree c.self.inside.stages.next_attempt c.self.inside.delay (status_of c.self.inside.status) (eq_by_cmp_equiv g.met.K.Ord.total) c.args.attempt c.in_ok-key.key (ap Some (c.requires.keys_clone _ _ c.in_ok-key.ensures.cases) ∙ c.in-Some.ensures) in
+    rw (← c.self.view_is, c.in-None.is, f.at_attempt, ap (λ s. s.next_attempt) c.wait.ensures)
+    (retry_goes (names g.K.Ord.cmp g.S.Ord.cmp) c.self.inside.demand c.self.inside.stages.entries c.self.invariant.agree c.self.inside.stages.next_attempt c.self.inside.delay (status_of c.self.inside.status) c.in_ok-key.key f.row c.args.now _ c.args.effects.now.items c.wait.new.self.entries f.at_key f.idle refl (ap (λ s. s.entries) c.wait.ensures))
 
 pub returns-in-Some-value : goal.returns-in-Some-value
 returns-in-Some-value g c =
-    let f = found-key (names g.K.Ord.cmp g.S.Ord.cmp) c.self.inside.demand c.self.inside.entries c.self.invariant.agree c.self.inside.attempts c.self.inside.delay (status_of c.self.inside.status) (eq_by_cmp_equiv g.met.K.Ord.total) c.args.attempt c.in-Some.key (sym c.in-Some.is ∙ c.in_ok-key.ensures.found) in
+    let f = found-key (names g.K.Ord.cmp g.S.Ord.cmp) c.self.inside.demand c.self.inside.stages.entries c.self.invariant.agree c.self.inside.stages.next_attempt c.self.inside.delay (status_of c.self.inside.status) (eq_by_cmp_equiv g.met.K.Ord.total) c.args.attempt c.in_ok-key.key (ap Some (c.requires.keys_clone _ _ c.in_ok-key.ensures.cases) ∙ c.in-Some.ensures) in
     let goes = rw (← c.self.view_is) at c.hand_out.ensures in
     rw (← c.self.view_is, c.in-Some-value.is, f.at_attempt) (row-found _ f.row _ f.at_key goes)

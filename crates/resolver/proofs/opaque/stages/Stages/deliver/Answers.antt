@@ -1,0 +1,6 @@
+use Rattle.std.proofs.lemmas.Cmp.{eq_by_cmp_equiv}
+use Rattle.resolver.proofs.Led.{led-delivered}
+use Rattle.resolver.proofs.opaque.stages.Stages.deliver.Goals as goal
+
+pub invariant_of-self : goal.invariant_of-self
+invariant_of-self g c = led-delivered g.met.K.Ord.total (eq_by_cmp_equiv g.met.K.Ord.total) c.self.inside.attempts c.self.inside.asked.entries c.self.inside.entries c.self.invariant c.args.delivery c.args.value c.deliver.new.self c.deliver.result c.deliver.ensures.ok c.deliver.ensures.err

@@ -1,0 +1,56 @@
+-- The demanded keys by what was done last for them.
+use Rattle.std.specs.Prelude.{◌≡◌, ◌≤◌, ℕ, Bool, false, ◌==◌, List, [], Option, None, Some, find, if◌then◌else◌}
+use Rattle.std.specs.List.Sorted.{IsStrictlySortedBy}
+use Rattle.std.specs.Map.{keys_of, lookup}
+use Rattle.std.specs.BTreeMap.{is_at}
+use Rattle.std.specs.Ordering.{is_eq, nat_cmp}
+use Rattle.std.specs.declared.cmp.Ordering.{Ordering}
+use Rattle.resolver_demand.specs.Entries.{Numbered}
+use Rattle.resolver.specs.declared.opaque.rows.Stage.{Stage}
+use Rattle.resolver.specs.declared.opaque.rows.Stage.TheVariants as stages
+use Rattle.resolver_demand.specs.declared.delivery.entry.Entry.{Entry}
+
+-- what the entries keep of a key, without what was said of its response
+abbrev pub Kept : Type 0 → Type 0
+Kept V = Entry V (Unit {0}) Stage
+
+-- the entries, and the attempt that comes next
+pub record Staged (K V S : Type 0) : Type 0 where
+  pub entries : Numbered K S V (Unit {0}) Stage
+  pub next_attempt : ℕ
+
+-- no key, and no attempt so far
+abbrev pub unstaged : {K V S : Type 0} → Staged K V S
+unstaged = record { entries = record { keys = []; going = []; next = 0 }; next_attempt = 0 }
+
+-- whether a key stands under this attempt
+abbrev pub stands_under : (attempt : ℕ) → Option Stage → Bool
+stands_under attempt (Some (stages.Asked a)) = attempt == a
+stands_under attempt stage = false
+
+-- a key, if it stands under this attempt
+abbrev pub if_under : {K : Type 0} → (attempt : ℕ) → K → Stage → Option K
+if_under attempt key (stages.Asked a) = if attempt == a then Some key else None
+if_under attempt key (stages.Waiting due) = None
+
+abbrev pub key_under : {K V : Type 0} → (attempt : ℕ) → Option (K × Kept V) → Option K
+key_under attempt None = None
+key_under attempt (Some e) = if_under attempt e.0 e.1.state
+
+-- a key, if it is equal to this one
+abbrev pub if_same : {K : Type 0} → (K → K → Ordering) → K → Option K → Option K
+if_same cmp key None = None
+if_same cmp key (Some k) = if is_eq (cmp key k) then Some k else None
+
+module _ {K V : Type 0} (cmp : K → K → Ordering) where
+  -- the entry of a key, with the key as it is kept
+  abbrev pub kept_at : List (K × Kept V) → K → Option (K × Kept V)
+  kept_at es key = find (λ e. is_eq (cmp key e.0)) es
+
+  -- `asked` has the keys by the attempts under which they stand.
+  pub record IsLed (next_attempt : ℕ) (asked : List (ℕ × K)) (es : List (K × Kept V)) : Type 0 where
+    pub ordered : IsStrictlySortedBy cmp (keys_of es)
+    -- An attempt leads to a key, as it is kept, exactly where the key stands under it.
+    pub led : (key : K) (attempt : ℕ) → if_same cmp key (lookup (is_at (nat_cmp attempt)) asked) ≡ key_under attempt (kept_at es key)
+    -- An attempt that is still to come leads nowhere.
+    pub fresh : (attempt : ℕ) → next_attempt ≤ attempt → lookup (is_at (nat_cmp attempt)) asked ≡ None
