@@ -12,7 +12,12 @@ use Rattle.resolver_fetch.specs.Orders.{Orders, same_key, same_peer}
 use Rattle.resolver_fetch.specs.Times.{never}
 use Rattle.resolver_fetch.specs.Waiting.{Waiting}
 use Rattle.resolver_fetch.specs.Snapshot.{Snapshot, eligible}
-use Rattle.resolver_fetch.specs.Scan.{Scan, Turn, Try, Expected, Mode, ByWeight, ByPlace, Checking, FirstId, Sending, Reason, Limited, Refused, next, left, was_tried, is_due, mode_of, weights, by_weight, by_place, takes, takes_for, draws, goes_on_with, goes_on, clears, sends, asks_for, fails, answered, least, least_until, limit_of, trail_moment, next_due, question_of}
+use Rattle.resolver_fetch.specs.declared.fetcher.trail.Expected.{Expected}
+use Rattle.resolver_fetch.specs.declared.fetcher.trail.Expected.TheVariants.{Mode, ByWeight, ByPlace, Checking, FirstId, Sending}
+use Rattle.resolver_fetch.specs.declared.fetcher.trail.Reason.{Reason}
+use Rattle.resolver_fetch.specs.declared.fetcher.trail.Reason.TheVariants.{Limited, Refused}
+use Rattle.resolver_fetch.specs.declared.fetcher.trail.Try.{Try}
+use Rattle.resolver_fetch.specs.Scan.{Scan, Turn, next, left, was_tried, is_due, mode_of, weights, by_weight, by_place, takes, takes_for, draws, goes_on_with, goes_on, clears, sends, asks_for, fails, answered, least, least_until, limit_of, trail_moment, next_due, question_of}
 use Rattle.resolver_fetch.specs.FetcherLaws.{is_empty, IsLikeTrail, IsLikeTurn, IsLikeResult, NeedsPairs}
 
 least-assoc : (a b c : Option ℕ) → least a (least b c) ≡ least (least a b) c

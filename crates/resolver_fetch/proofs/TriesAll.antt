@@ -10,7 +10,10 @@ use Rattle.resolver_fetch.specs.declared.fetcher.scan.Answer.TheVariants.{Drawn,
 use Rattle.resolver_fetch.specs.Orders.{Orders}
 use Rattle.resolver_fetch.specs.Waiting.{Waiting}
 use Rattle.resolver_fetch.specs.Snapshot.{Snapshot, eligible}
-use Rattle.resolver_fetch.specs.Scan.{Scan, Turn, Expected, Mode, ByWeight, ByPlace, Checking, FirstId, Sending, Limited, Refused, is_due, can_be_tried, mode_of, by_weight, by_place, next, left, was_tried, takes, takes_for, draws, goes_on_with, goes_on, clears, sends, asks_for, answered}
+use Rattle.resolver_fetch.specs.declared.fetcher.trail.Expected.{Expected}
+use Rattle.resolver_fetch.specs.declared.fetcher.trail.Expected.TheVariants.{Mode, ByWeight, ByPlace, Checking, FirstId, Sending}
+use Rattle.resolver_fetch.specs.declared.fetcher.trail.Reason.TheVariants.{Limited, Refused}
+use Rattle.resolver_fetch.specs.Scan.{Scan, Turn, is_due, can_be_tried, mode_of, by_weight, by_place, next, left, was_tried, takes, takes_for, draws, goes_on_with, goes_on, clears, sends, asks_for, answered}
 use Rattle.resolver_fetch.specs.FetcherLaws.{AllAre, HasTriedAll, IsInVain, TriesAll}
 
 none-left : (b : Bool) → not b ≡ false → b ≡ true

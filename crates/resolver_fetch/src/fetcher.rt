@@ -12,6 +12,8 @@ pub mod request;
 mod requests;
 pub mod scan;
 mod targets;
+mod trail;
+mod trying;
 
 ghost use Rattle.std.specs.Prelude.{◌≡◌, Bool, false, ◌<◌, ◌^◌, [], length, is_some, unwrap_or, IfErr, OnErr, OnOk};
 ghost use Rattle.std.specs.BTreeMap.{insert_entry, is_at};
