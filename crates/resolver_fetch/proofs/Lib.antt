@@ -20,3 +20,4 @@ pub mod Soonest
 pub mod Timed
 pub mod NextIds
 pub mod Placed
+pub mod Seeking

@@ -20,5 +20,6 @@ pub mod Snapshot
 pub mod Scan
 pub mod Trying
 pub mod Fetcher
+pub mod Seeking
 pub mod FetcherRows
 pub mod FetcherLaws

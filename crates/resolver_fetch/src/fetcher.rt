@@ -11,6 +11,7 @@ pub mod place;
 pub mod request;
 mod requests;
 pub mod scan;
+mod scanning;
 mod targets;
 mod trail;
 mod trying;

@@ -1,4 +1,4 @@
-use Rattle.std.proofs.Common.{◌≡◌, ◌∙◌, ap, rules}
+use Rattle.std.proofs.Common.{◌≡◌, ap, rules}
 use Rattle.std.proofs.lemmas.Fn.{filter_same}
 use Rattle.resolver_fetch.specs.Trying.{Trying, apart_from}
 use Rattle.resolver_fetch.proofs.fetcher.trying.Trying.forget.Goals as goal
