@@ -1,15 +1,39 @@
 -- How a fetcher finds what a scan tries next, and when a scan in vain may be begun again.
-use Rattle.std.specs.Prelude.{ℕ, not, List, map, Option, None, option_and_then, filter}
+use Rattle.std.specs.Prelude.{◌≡◌, ℕ, ◌<◌, ◌^◌, false, not, List, map, Option, None, Some, option_and_then, filter}
+use Rattle.resolver_fetch.specs.declared.fetcher.place.Place.{Place}
 use Rattle.resolver_fetch.specs.declared.fetcher.trail.Try.{Try}
 use Rattle.resolver_fetch.specs.Orders.{Orders}
+use Rattle.resolver_fetch.specs.Known.{Known}
 use Rattle.resolver_fetch.specs.Snapshot.{eligible}
 use Rattle.resolver_fetch.specs.Scan.{Scan, next_due, was_tried}
 use Rattle.resolver_fetch.specs.Trying.{Trying, weighed, trying}
-use Rattle.resolver_fetch.specs.Fetcher.{Fetcher, retries_of, snapshot, targets_of, waiting_of}
+use Rattle.resolver_fetch.specs.Fetcher.{Fetcher, IsTimely, opening, retries_of, snapshot, targets_of, waiting_of}
 
 -- a scan that tried this so far
 abbrev pub scan_at : {K P : Type 0} → (moment : ℕ) → List (Try K P) → Scan K P
 scan_at moment trail = record { moment = moment; trail = trail; expects = None }
+
+-- what the key to try depends on
+abbrev pub searched : {K P : Type 0} → List (Place × K) → (targets : List (K × List P)) → (retries : List (K × ℕ)) → Known P → Fetcher K P
+searched waiting targets retries known =
+    record (opening (record { me = known.local; fetch_timeout = 0; retry_delay = 0; priority_requests = false })) {
+      waiting = waiting;
+      targets = targets;
+      retries = retries;
+      peers = known.set;
+      blocked = known.blocked;
+    }
+
+-- what is kept of the key to try is right; nothing may be kept
+abbrev pub IsRight : {K P : Type 0} → (kept found : Option (Trying K P)) → Type 0
+IsRight None found = Unit {0}
+IsRight (Some kept) found = found ≡ Some kept
+
+-- what is so of every fetcher
+pub record IsKept {K P : Type 0} (timeout delay moment : ℕ) (kept found : Option (Trying K P)) : Type 0 where
+  pub timely : IsTimely timeout delay
+  pub moment_fits : moment < 2 ^ 94
+  pub right : IsRight kept found
 
 module _ {K P : Type 0} (o : Orders K P) where
   -- what there is to try of a key
