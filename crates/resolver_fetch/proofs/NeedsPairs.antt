@@ -123,7 +123,7 @@ module _ {K P : Type 0} (o : Orders K P) where
   answered-like : (s : Snapshot K P) (scan : Scan K P) (y : List (Try K P)) → IsLikeTrail o scan.trail y → (w : K × Waiting P) (expected : Expected P) (answer : Answer)
       → IsLikeResult o (answered o s scan w expected answer) (answered o s (record scan { trail = y }) w expected answer)
   answered-like s scan y like w Mode (Drawn n) =
-      if-like (nat_lt n (w.1.retries + 4)) (asks_for o s scan (mode_of o n)) (asks_for o s (record scan { trail = y }) (mode_of o n)) (refl, refl, like, refl, refl, refl)
+      if-like (nat_lt n (w.1.retries + 4)) (asks_for o s scan (mode_of n)) (asks_for o s (record scan { trail = y }) (mode_of n)) (refl, refl, like, refl, refl, refl)
   answered-like s scan y like w Mode (Checked check) = refl
   answered-like s scan y like w Mode (Sent accepted) = refl
   answered-like s scan y like w ByWeight (Drawn n) =

@@ -88,7 +88,7 @@ module _ {K P : Type 0} (o : Orders K P) where
   after-clears s scan peer (Some last) = λ vain. cc
 
   after-answer : (s : Snapshot K P) (scan : Scan K P) (w : K × Waiting P) (expected : Expected P) (answer : Answer) → After s (answered o s scan w expected answer)
-  after-answer s scan w Mode (Drawn n) = after-if s (nat_lt n (w.1.retries + 4)) (asks_for o s scan (mode_of o n)) (λ vain. cc)
+  after-answer s scan w Mode (Drawn n) = after-if s (nat_lt n (w.1.retries + 4)) (asks_for o s scan (mode_of n)) (λ vain. cc)
   after-answer s scan w Mode (Checked check) = tt
   after-answer s scan w Mode (Sent accepted) = tt
   after-answer s scan w ByWeight (Drawn n) = after-draws s scan (by_weight (left o s scan.trail w) n)

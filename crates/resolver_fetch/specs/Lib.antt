@@ -21,5 +21,6 @@ pub mod Scan
 pub mod Trying
 pub mod Fetcher
 pub mod Seeking
+pub mod Stepping
 pub mod FetcherRows
 pub mod FetcherLaws

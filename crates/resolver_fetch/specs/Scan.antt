@@ -62,6 +62,10 @@ by_place ps number = option_map (λ p. p.0) (slice_get ps number)
 abbrev pub by_weight : {P : Type 0} → List (P × Averages) → (number : ℕ) → Option P
 by_weight ps number = if nat_lt number (sum (weights ps)) then by_place ps (chosen (weights ps) number) else None
 
+-- the way in which a number says that the peer is drawn
+abbrev pub mode_of : {P : Type 0} → (number : ℕ) → Expected P
+mode_of number = if means_weighted number then ByWeight else ByPlace
+
 module _ {K P : Type 0} where
   abbrev pub least_until : List (Try K P) → Option ℕ
   least_until [] = None
@@ -148,9 +152,6 @@ module _ {K P : Type 0} (o : Orders K P) where
   abbrev pub draws : Snapshot K P → Scan K P → Option P → Result (Turn K P) Fault
   draws s scan None = Err OutOfRange
   draws s scan (Some peer) = Ok (asks_for s scan (Checking peer))
-
-  abbrev pub mode_of : (number : ℕ) → Expected P
-  mode_of number = if means_weighted number then ByWeight else ByPlace
 
   abbrev pub answered : Snapshot K P → Scan K P → K × Waiting P → Expected P → Answer → Result (Turn K P) Fault
   answered s scan w Mode (Drawn n) = if nat_lt n (w.1.retries + 4) then Ok (asks_for s scan (mode_of n)) else Err OutOfRange

@@ -12,6 +12,7 @@ pub mod request;
 mod requests;
 pub mod scan;
 mod scanning;
+mod step;
 mod targets;
 mod trail;
 mod trying;
