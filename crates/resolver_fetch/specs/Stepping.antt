@@ -1,5 +1,5 @@
 -- What an answer makes of the key that a scan tries, and what that makes of the fetcher.
-use Rattle.std.specs.Prelude.{ℕ, ◌+◌, ◌^◌, Bool, true, false, nat_lt, length, sum, Option, None, Some, Result, Ok, Err, if◌then◌else◌}
+use Rattle.std.specs.Prelude.{ℕ, ◌+◌, ◌^◌, Bool, true, false, nat_lt, length, sum, Option, None, Some, Result, Ok, Err, option_and_then, if◌then◌else◌}
 use Rattle.resolver_base.specs.declared.base.check.Check.{Check}
 use Rattle.resolver_base.specs.declared.base.check.Check.TheVariants.{Clear, Until}
 use Rattle.resolver_base.specs.declared.base.fault.Fault.{Fault}
@@ -81,6 +81,19 @@ module _ {K P : Type 0} where
   ask_for priority t (FirstId peer) = asks.Draw (2 ^ 64)
   ask_for priority t (Sending peer id) = asks.Request peer id t.key priority
 
+module _ {K P : Type 0} where
+  -- what the open scan expects
+  abbrev pub expected_now : Fetcher K P → Option (Expected P)
+  expected_now f = option_and_then (λ scan. scan.expects) f.scan
+
+  abbrev pub step_if : Trying K P → Answer → Option (Expected P) → Result (Step P) Fault
+  step_if t answer None = Err Unasked
+  step_if t answer (Some expected) = step_of t expected answer
+
+  -- what an answer means to the open scan
+  abbrev pub step_now : Trying K P → Answer → Fetcher K P → Result (Step P) Fault
+  step_now t answer f = step_if t answer (expected_now f)
+
 module _ {K P : Type 0} (o : Orders K P) where
   -- what a step makes of a scan that tries a key
   abbrev pub stepped : Snapshot K P → Scan K P → K → Step P → Turn K P
@@ -97,6 +110,10 @@ module _ {K P : Type 0} (o : Orders K P) where
   -- the open scan takes a step
   abbrev pub after_step : K → Step P → Fetcher K P → Fetcher K P
   after_step key step f = turned_by f (λ scan. stepped (snapshot o f) scan key step) f.scan
+
+  -- the open scan expects this, and the last id is this one
+  abbrev pub expecting : Expected P → (last_id : Option ℕ) → Fetcher K P → Fetcher K P
+  expecting expected last_id f = turned_by f (λ scan. record (asks_for o (snapshot o f) scan expected) { last_id = last_id }) f.scan
 
   -- the open scan tries what is next, or ends
   abbrev pub after_all : Fetcher K P → Fetcher K P

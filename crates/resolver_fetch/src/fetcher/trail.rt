@@ -56,9 +56,7 @@ pub(super) enum Expected<P> {
 pub(super) fn was_tried<K: Ord, P: Ord>(trail: &[Try<K, P>], key: &K, peer: &P) -> bool
     ensures { result ≡ was_tried (orders K.cmp P.cmp) trail.now key.now peer.now }
 {
-    trail
-        .iter()
-        .any(|tried| key.cmp(&tried.key).is_eq() && peer.cmp(&tried.peer).is_eq())
+    trail.iter().any(|tried| key.cmp(&tried.key).is_eq() && peer.cmp(&tried.peer).is_eq())
 }
 
 /// The least moment until which a peer may not be sent to, if there is one.
