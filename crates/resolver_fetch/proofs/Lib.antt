@@ -19,3 +19,5 @@ pub mod Entries
 pub mod Soonest
 pub mod Timed
 pub mod NextIds
+pub mod Seeking
+pub mod Stepping

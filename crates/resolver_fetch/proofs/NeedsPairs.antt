@@ -12,7 +12,12 @@ use Rattle.resolver_fetch.specs.Orders.{Orders, same_key, same_peer}
 use Rattle.resolver_fetch.specs.Times.{never}
 use Rattle.resolver_fetch.specs.Waiting.{Waiting}
 use Rattle.resolver_fetch.specs.Snapshot.{Snapshot, eligible}
-use Rattle.resolver_fetch.specs.Scan.{Scan, Turn, Try, Expected, Mode, ByWeight, ByPlace, Checking, FirstId, Sending, Reason, Limited, Refused, next, left, was_tried, is_due, mode_of, weights, by_weight, by_place, takes, takes_for, draws, goes_on_with, goes_on, clears, sends, asks_for, fails, answered, least, least_until, limit_of, trail_moment, next_due, question_of}
+use Rattle.resolver_fetch.specs.declared.fetcher.trail.Expected.{Expected}
+use Rattle.resolver_fetch.specs.declared.fetcher.trail.Expected.TheVariants.{Mode, ByWeight, ByPlace, Checking, FirstId, Sending}
+use Rattle.resolver_fetch.specs.declared.fetcher.trail.Reason.{Reason}
+use Rattle.resolver_fetch.specs.declared.fetcher.trail.Reason.TheVariants.{Limited, Refused}
+use Rattle.resolver_fetch.specs.declared.fetcher.trail.Try.{Try}
+use Rattle.resolver_fetch.specs.Scan.{Scan, Turn, next, left, was_tried, is_due, mode_of, weights, by_weight, by_place, takes, takes_for, draws, goes_on_with, goes_on, clears, sends, asks_for, fails, answered, least, least_until, limit_of, trail_moment, next_due, question_of}
 use Rattle.resolver_fetch.specs.FetcherLaws.{is_empty, IsLikeTrail, IsLikeTurn, IsLikeResult, NeedsPairs}
 
 least-assoc : (a b c : Option ℕ) → least a (least b c) ≡ least (least a b) c
@@ -118,7 +123,7 @@ module _ {K P : Type 0} (o : Orders K P) where
   answered-like : (s : Snapshot K P) (scan : Scan K P) (y : List (Try K P)) → IsLikeTrail o scan.trail y → (w : K × Waiting P) (expected : Expected P) (answer : Answer)
       → IsLikeResult o (answered o s scan w expected answer) (answered o s (record scan { trail = y }) w expected answer)
   answered-like s scan y like w Mode (Drawn n) =
-      if-like (nat_lt n (w.1.retries + 4)) (asks_for o s scan (mode_of o n)) (asks_for o s (record scan { trail = y }) (mode_of o n)) (refl, refl, like, refl, refl, refl)
+      if-like (nat_lt n (w.1.retries + 4)) (asks_for o s scan (mode_of n)) (asks_for o s (record scan { trail = y }) (mode_of n)) (refl, refl, like, refl, refl, refl)
   answered-like s scan y like w Mode (Checked check) = refl
   answered-like s scan y like w Mode (Sent accepted) = refl
   answered-like s scan y like w ByWeight (Drawn n) =

@@ -10,7 +10,10 @@ use Rattle.resolver_fetch.specs.declared.fetcher.scan.Answer.TheVariants.{Drawn,
 use Rattle.resolver_fetch.specs.Orders.{Orders}
 use Rattle.resolver_fetch.specs.Waiting.{Waiting}
 use Rattle.resolver_fetch.specs.Snapshot.{Snapshot, eligible}
-use Rattle.resolver_fetch.specs.Scan.{Scan, Turn, Expected, Mode, ByWeight, ByPlace, Checking, FirstId, Sending, Limited, Refused, is_due, can_be_tried, mode_of, by_weight, by_place, next, left, was_tried, takes, takes_for, draws, goes_on_with, goes_on, clears, sends, asks_for, answered}
+use Rattle.resolver_fetch.specs.declared.fetcher.trail.Expected.{Expected}
+use Rattle.resolver_fetch.specs.declared.fetcher.trail.Expected.TheVariants.{Mode, ByWeight, ByPlace, Checking, FirstId, Sending}
+use Rattle.resolver_fetch.specs.declared.fetcher.trail.Reason.TheVariants.{Limited, Refused}
+use Rattle.resolver_fetch.specs.Scan.{Scan, Turn, is_due, can_be_tried, mode_of, by_weight, by_place, next, left, was_tried, takes, takes_for, draws, goes_on_with, goes_on, clears, sends, asks_for, answered}
 use Rattle.resolver_fetch.specs.FetcherLaws.{AllAre, HasTriedAll, IsInVain, TriesAll}
 
 none-left : (b : Bool) → not b ≡ false → b ≡ true
@@ -85,7 +88,7 @@ module _ {K P : Type 0} (o : Orders K P) where
   after-clears s scan peer (Some last) = λ vain. cc
 
   after-answer : (s : Snapshot K P) (scan : Scan K P) (w : K × Waiting P) (expected : Expected P) (answer : Answer) → After s (answered o s scan w expected answer)
-  after-answer s scan w Mode (Drawn n) = after-if s (nat_lt n (w.1.retries + 4)) (asks_for o s scan (mode_of o n)) (λ vain. cc)
+  after-answer s scan w Mode (Drawn n) = after-if s (nat_lt n (w.1.retries + 4)) (asks_for o s scan (mode_of n)) (λ vain. cc)
   after-answer s scan w Mode (Checked check) = tt
   after-answer s scan w Mode (Sent accepted) = tt
   after-answer s scan w ByWeight (Drawn n) = after-draws s scan (by_weight (left o s scan.trail w) n)

@@ -3,9 +3,10 @@ use Rattle.std.specs.Prelude.{◌≡◌, ℕ, Bool, true, false, List, [], ◌�
 use Rattle.resolver_base.specs.declared.base.fault.Fault.{Fault}
 use Rattle.resolver_fetch.specs.declared.score.Averages.{Averages}
 use Rattle.resolver_fetch.specs.declared.fetcher.scan.Answer.{Answer}
+use Rattle.resolver_fetch.specs.declared.fetcher.trail.Try.{Try}
 use Rattle.resolver_fetch.specs.Orders.{Orders}
 use Rattle.resolver_fetch.specs.Snapshot.{Snapshot, eligible}
-use Rattle.resolver_fetch.specs.Scan.{Scan, Turn, Try, is_over, is_due, was_tried, least_until, weights, by_weight, by_place, begins, takes, question}
+use Rattle.resolver_fetch.specs.Scan.{Scan, Turn, is_over, is_due, was_tried, least_until, weights, by_weight, by_place, begins, takes, question}
 
 -- each of these is so
 abbrev pub AllAre : {X : Type 0} → (X → Type 0) → List X → Type 0

@@ -18,6 +18,9 @@ pub mod Peers
 pub mod Known
 pub mod Snapshot
 pub mod Scan
+pub mod Trying
 pub mod Fetcher
+pub mod Seeking
+pub mod Stepping
 pub mod FetcherRows
 pub mod FetcherLaws

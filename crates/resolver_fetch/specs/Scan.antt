@@ -10,6 +10,11 @@ use Rattle.resolver_fetch.specs.declared.fetcher.scan.Answer.{Answer}
 use Rattle.resolver_fetch.specs.declared.fetcher.scan.Answer.TheVariants.{Drawn, Checked, Sent}
 use Rattle.resolver_fetch.specs.declared.fetcher.scan.Ask.{Ask}
 use Rattle.resolver_fetch.specs.declared.fetcher.scan.Ask.TheVariants as asks
+use Rattle.resolver_fetch.specs.declared.fetcher.trail.Expected.{Expected}
+use Rattle.resolver_fetch.specs.declared.fetcher.trail.Expected.TheVariants.{Mode, ByWeight, ByPlace, Checking, FirstId, Sending}
+use Rattle.resolver_fetch.specs.declared.fetcher.trail.Reason.{Reason}
+use Rattle.resolver_fetch.specs.declared.fetcher.trail.Reason.TheVariants.{Limited, Refused}
+use Rattle.resolver_fetch.specs.declared.fetcher.trail.Try.{Try}
 use Rattle.resolver_fetch.specs.Orders.{Orders, same_key, same_peer}
 use Rattle.resolver_fetch.specs.Scores.{weight_of}
 use Rattle.resolver_fetch.specs.Choice.{chosen, means_weighted}
@@ -17,30 +22,6 @@ use Rattle.resolver_fetch.specs.Times.{never}
 use Rattle.resolver_fetch.specs.Waiting.{Waiting}
 use Rattle.resolver_fetch.specs.Snapshot.{Snapshot, eligible}
 use Rattle.resolver_fetch.specs.Ids.{next_id}
-
--- why a peer was not asked for a key
-pub data Reason : Type 0 where
-  Limited : (until : ℕ) → Reason
-  Refused : Reason
-
-pub record Try (K P : Type 0) : Type 0 where
-  pub key : K
-  pub peer : P
-  pub reason : Reason
-
--- what a scan expects
-pub data Expected (P : Type 0) : Type 0 where
-  -- a number that says how the peer is drawn
-  Mode : Expected P
-  -- the numbers that draw it
-  ByWeight : Expected P
-  ByPlace : Expected P
-  -- a word on the peer
-  Checking : P → Expected P
-  -- the first id ever
-  FirstId : P → Expected P
-  -- a word on the request
-  Sending : P → (id : ℕ) → Expected P
 
 pub record Scan (K P : Type 0) : Type 0 where
   pub moment : ℕ
@@ -80,6 +61,10 @@ by_place ps number = option_map (λ p. p.0) (slice_get ps number)
 -- the peer in whose interval a number lies
 abbrev pub by_weight : {P : Type 0} → List (P × Averages) → (number : ℕ) → Option P
 by_weight ps number = if nat_lt number (sum (weights ps)) then by_place ps (chosen (weights ps) number) else None
+
+-- the way in which a number says that the peer is drawn
+abbrev pub mode_of : {P : Type 0} → (number : ℕ) → Expected P
+mode_of number = if means_weighted number then ByWeight else ByPlace
 
 module _ {K P : Type 0} where
   abbrev pub least_until : List (Try K P) → Option ℕ
@@ -167,9 +152,6 @@ module _ {K P : Type 0} (o : Orders K P) where
   abbrev pub draws : Snapshot K P → Scan K P → Option P → Result (Turn K P) Fault
   draws s scan None = Err OutOfRange
   draws s scan (Some peer) = Ok (asks_for s scan (Checking peer))
-
-  abbrev pub mode_of : (number : ℕ) → Expected P
-  mode_of number = if means_weighted number then ByWeight else ByPlace
 
   abbrev pub answered : Snapshot K P → Scan K P → K × Waiting P → Expected P → Answer → Result (Turn K P) Fault
   answered s scan w Mode (Drawn n) = if nat_lt n (w.1.retries + 4) then Ok (asks_for s scan (mode_of n)) else Err OutOfRange

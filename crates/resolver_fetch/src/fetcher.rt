@@ -11,7 +11,11 @@ pub mod place;
 pub mod request;
 mod requests;
 pub mod scan;
+mod scanning;
+mod step;
 mod targets;
+mod trail;
+mod trying;
 
 ghost use Rattle.std.specs.Prelude.{◌≡◌, Bool, false, ◌<◌, ◌^◌, [], length, is_some, unwrap_or, IfErr, OnErr, OnOk};
 ghost use Rattle.std.specs.BTreeMap.{insert_entry, is_at};
@@ -30,6 +34,8 @@ ghost use Rattle.resolver_fetch.specs.Waiting.{once_more, place_order};
 use crate::fetcher::peers::Peers;
 use crate::fetcher::requests::Requests;
 use crate::fetcher::targets::Targets;
+use crate::fetcher::trail::{Expected, Try};
+use crate::fetcher::trying::Trying;
 use crate::score::DURATION_MAX;
 pub use config::{Config, ID};
 pub use place::Place;
@@ -56,12 +62,22 @@ pub struct Fetcher<K: Ord, P: Ord> {
     priority_requests: bool,
     waiter: Option<u128>,
     last_id: Option<ID>,
+    /// The moment of the last scan.
+    moment: u128,
+    /// What the last scan tried in vain.
+    trail: Vec<Try<K, P>>,
+    /// What the open scan expects.
+    expects: Option<Expected<P>>,
+    /// What the open scan tries, if that is known.
+    trying: Option<Trying<K, P>>,
     alloc: Global,
 }
 
 impl<K: Ord, P: Ord> Model for Fetcher<K, P> {
-    ghost use Rattle.std.specs.Prelude.{None};
-    ghost use Rattle.resolver_fetch.specs.Fetcher.{Fetcher, IsTimely};
+    ghost use Rattle.std.specs.Prelude.{Some, option_map};
+    ghost use Rattle.resolver_fetch.specs.Fetcher.{Fetcher};
+    ghost use Rattle.resolver_fetch.specs.Orders.{orders};
+    ghost use Rattle.resolver_fetch.specs.Seeking.{IsKept, searched, tried_next};
 
     ghost Value = { Fetcher K P };
 
@@ -80,10 +96,16 @@ impl<K: Ord, P: Ord> Model for Fetcher<K, P> {
       };
       waiter = a.waiter;
       last_id = a.last_id;
-      scan = None;
+      scan = option_map (λ expected. record {
+        moment = a.moment;
+        trail = a.trail.items;
+        expects = Some expected;
+      }) a.expects;
     } };
 
-    ghost invariant = { λ a. IsTimely a.fetch_timeout a.retry_delay };
+    ghost invariant = { λ a. IsKept a.fetch_timeout a.retry_delay a.moment a.trying
+        (tried_next (orders K.cmp P.cmp)
+        (searched a.pending a.targets.entries a.retries.entries a.peers) a.moment a.trail.items) };
 }
 
 impl<K: Ord + Drop, P: Ord + Drop> Fetcher<K, P> {
@@ -103,6 +125,10 @@ impl<K: Ord + Drop, P: Ord + Drop> Fetcher<K, P> {
             priority_requests: config.priority_requests,
             waiter: None,
             last_id: None,
+            moment: 0,
+            trail: Vec::new(alloc),
+            expects: None,
+            trying: None,
             alloc,
         }
     }
@@ -172,6 +198,7 @@ impl<K: Ord + Drop, P: Ord + Drop> Fetcher<K, P> {
         ensures err { OnErr result (self.new ≡ self.old) }
         ensures only { IfErr result (λ fault. fault ≡ OutOfMemory) }
     {
+        self.trying = None;
         self.peers.reconcile(peers)?;
         self.waiter = None;
         Ok(())
@@ -185,6 +212,7 @@ impl<K: Ord + Drop, P: Ord + Drop> Fetcher<K, P> {
         ensures err { OnErr result (self.new ≡ self.old) }
         ensures only { IfErr result (λ fault. fault ≡ OutOfMemory) }
     {
+        self.trying = None;
         self.peers.set_blocked(peers)?;
         self.waiter = None;
         Ok(())
@@ -203,6 +231,7 @@ impl<K: Ord + Drop, P: Ord + Drop> Fetcher<K, P> {
         ensures err { OnErr result (self.new ≡ self.old) }
         ensures only { IfErr result (λ fault. fault ≡ OutOfMemory) }
     {
+        self.trying = None;
         self.pending.put(key, Place::fresh(now))?;
         self.waiter = None;
         Ok(())
@@ -222,6 +251,7 @@ impl<K: Ord + Drop, P: Ord + Drop> Fetcher<K, P> {
         ensures err { OnErr result (self.new ≡ self.old) }
         ensures only { IfErr result (λ fault. fault ≡ OutOfMemory) }
     {
+        self.trying = None;
         let place = Place::retry(now + self.retry_delay);
         count_retry(&mut self.retries, &mut self.pending, key, place)?;
         self.waiter = None;
@@ -237,6 +267,7 @@ impl<K: Ord + Drop, P: Ord + Drop> Fetcher<K, P> {
         ensures err { OnErr result (self.new ≡ self.old) }
         ensures only { IfErr result (λ fault. fault ≡ OutOfMemory) }
     {
+        self.trying = None;
         join_targets(self.alloc, &mut self.targets, key, peers.into_vec())?;
         self.waiter = None;
         Ok(())
@@ -246,6 +277,7 @@ impl<K: Ord + Drop, P: Ord + Drop> Fetcher<K, P> {
     pub fn clear_targets(&mut self, key: &K)
         ensures { self.new ≡ calls.clear_targets (orders K.cmp P.cmp) key.now self.old }
     {
+        self.trying = None;
         self.targets.remove(key);
         self.waiter = None;
     }
@@ -254,6 +286,7 @@ impl<K: Ord + Drop, P: Ord + Drop> Fetcher<K, P> {
     pub fn clear(&mut self, key: &K)
         ensures { self.new ≡ calls.clear (orders K.cmp P.cmp) key.now self.old }
     {
+        self.trying = None;
         self.targets.remove(key);
         self.retries.remove(key);
     }
@@ -265,6 +298,7 @@ impl<K: Ord + Drop, P: Ord + Drop> Fetcher<K, P> {
         ensures { (test : K → Bool) → AnswersBy F.Fn keep test
             → self.new ≡ calls.retain (orders K.cmp P.cmp) test self.old }
     {
+        self.trying = None;
         self.pending.retain(
             |key| -> bool
                 requires { F.IsAlwaysCallable keep }
@@ -300,6 +334,7 @@ impl<K: Ord + Drop, P: Ord + Drop> Fetcher<K, P> {
         ensures { self.new
             ≡ calls.record_response (orders K.cmp P.cmp) peer.now elapsed bytes self.old }
     {
+        self.trying = None;
         self.peers.record(peer, elapsed, bytes);
     }
 
@@ -310,6 +345,7 @@ impl<K: Ord + Drop, P: Ord + Drop> Fetcher<K, P> {
         ensures { (result, self.new) ≡ calls.pop_active (orders K.cmp P.cmp) now self.old }
     {
         let request = self.requests.take_overdue(now)?;
+        self.trying = None;
         let time = charged(self.fetch_timeout, self.retry_delay);
         self.peers.record(&request.peer, time, 0);
         Some(request.key)
@@ -334,6 +370,7 @@ impl<K: Ord + Drop, P: Ord + Drop> Fetcher<K, P> {
             ≡ calls.pop_missing (orders K.cmp P.cmp) id peer.now now self.old }
     {
         let request = self.requests.take_matching(id, peer)?;
+        self.trying = None;
         let time = charged(elapsed_since(request.start, now), self.retry_delay);
         self.peers.record(&request.peer, time, 0);
         Some(request.key)

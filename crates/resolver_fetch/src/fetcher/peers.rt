@@ -1,10 +1,13 @@
 //! The peers that may be asked.
 
 ghost use Rattle.std.specs.Prelude.{◌≡◌, None, [], length, IfOk, IfErr, OnErr, OnOk};
+ghost use Rattle.std.specs.Option.{option_copied};
 ghost use Rattle.resolver_base.specs.declared.base.fault.Fault.TheVariants.{OutOfMemory};
-ghost use Rattle.resolver_fetch.specs.Known.{is_local, may_be_asked, weight_in};
+ghost use Rattle.resolver_fetch.specs.Known.{eligible, is_eligible, is_local, is_target, may_be_asked, weight_in};
 ghost use Rattle.resolver_fetch.specs.Peers.{observed, replaced, set_of};
+ghost use Rattle.resolver_fetch.specs.Trying.{weighed};
 
+use crate::fetcher::targets::Targets;
 use crate::score::Score;
 use resolver_base::base::Fault;
 use std::alloc::{AllocError, Global};
@@ -54,6 +57,34 @@ impl<P: Ord + Drop> Peers<P> {
         } else {
             Some(0)
         }
+    }
+
+    /// The peers that may be asked for a key with these targets, in their order, with what they
+    /// weigh. It takes one pass over the peers, and looks at the targets for each of them.
+    ///
+    /// The names are cloned; clones are to equal their sources.
+    pub(super) fn eligible(&self, targets: Option<&Targets<P>>) -> Result<Vec<(P, u64)>, Fault>
+    where
+        P: Clone,
+        requires peers_clone { (x y : P) → P.is_clone x y → y ≡ x }
+        ensures ok { IfOk result
+            (λ peers. peers.items ≡ weighed (eligible P.cmp self.now (option_copied targets.entry))) }
+        ensures only { IfErr result (λ fault. fault ≡ OutOfMemory) }
+    {
+        let mut peers = Vec::new(self.alloc);
+        for (peer, score) in &self.set {
+            if self.is_eligible(targets, peer) {
+                peers.push((peer.clone()?, score.weight()))?;
+            }
+        }
+        Ok(peers)
+    }
+
+    /// Whether a peer of the set may be asked for a key with these targets.
+    fn is_eligible(&self, targets: Option<&Targets<P>>, peer: &P) -> bool
+        ensures { result ≡ is_eligible P.cmp self.now (option_copied targets.entry) peer.now }
+    {
+        self.may_be_asked(peer) && is_target(targets, peer)
     }
 
     /// Whether a peer of the set may be asked for any key.
@@ -115,6 +146,16 @@ fn is_local<P: Ord>(local: &Option<P>, peer: &P) -> bool
     match local {
         Some(name) => name.cmp(peer).is_eq(),
         None => false,
+    }
+}
+
+/// Whether a key with these targets may be asked of a peer.
+fn is_target<P: Ord + Drop>(targets: Option<&Targets<P>>, peer: &P) -> bool
+    ensures { result ≡ is_target P.cmp (option_copied targets.entry) peer.now }
+{
+    match targets {
+        Some(targets) => targets.contains(peer),
+        None => true,
     }
 }
 

@@ -1,6 +1,6 @@
 //! The requests without an answer.
 
-ghost use Rattle.std.specs.Prelude.{◌≡◌, ◌≤◌, ℕ, Bool, false, None, Some, [], filter, is_some, length, IfErr, IfNone, IfOk, IfSome, OnErr, OnOk};
+ghost use Rattle.std.specs.Prelude.{◌≡◌, ◌≤◌, ℕ, Bool, None, Some, [], filter, is_some, length, IfErr, IfNone, IfOk, IfSome, OnErr, OnOk};
 ghost use Rattle.std.specs.BTreeMap.{insert_entry};
 ghost use Rattle.std.specs.Fn.{FnReturnsAt};
 ghost use Rattle.std.specs.Option.{option_copied, option_map};
@@ -8,7 +8,7 @@ ghost use Rattle.std.specs.Ordering.{nat_cmp};
 ghost use Rattle.resolver_base.specs.Answering.{AnswersBy};
 ghost use Rattle.resolver_base.specs.declared.base.fault.Fault.TheVariants.{OutOfMemory};
 ghost use Rattle.resolver_fetch.specs.declared.fetcher.request.Request.{Request};
-ghost use Rattle.resolver_fetch.specs.Ids.{is_held, next_id};
+ghost use Rattle.resolver_fetch.specs.Ids.{next_id};
 ghost use Rattle.resolver_fetch.specs.Requests.{request_of, soonest, taken_matching, taken_overdue, without_request};
 
 use crate::fetcher::{ID, Request};
@@ -66,7 +66,6 @@ impl<K: Drop, P: Drop> Requests<K, P> {
 
     /// Puts a request at its place. Where memory is wanting, nothing changes.
     pub(super) fn insert(&mut self, id: ID, request: Request<K, P>) -> Result<(), Fault>
-        requires { is_held self.old id ≡ false }
         ensures ok { OnOk result (self.new ≡ insert_entry nat_cmp self.old id request) }
         ensures err { OnErr result (self.new ≡ self.old) }
         ensures only { IfErr result (λ fault. fault ≡ OutOfMemory) }

@@ -1,0 +1,17 @@
+use Rattle.std.proofs.Common.{ap, sym}
+use Rattle.resolver_fetch.specs.Fetcher.{Fetcher}
+use Rattle.resolver_fetch.specs.Orders.{orders}
+use Rattle.resolver_fetch.proofs.Stepping.{tried-kept}
+use Rattle.resolver_fetch.proofs.fetcher.Fetcher.keep.Goals as goal
+
+pub invariant_of-self : goal.invariant_of-self
+invariant_of-self g c =
+    let o = orders g.K.Ord.cmp g.P.Ord.cmp in
+    let scan = sym (ap (λ (f : Fetcher g.row.K.Denot g.row.P.Denot). f.scan) c.self.view_is) in
+    let f = c.args.self.now in
+    let a = c.self.inside in
+    record {
+      timely = c.self.invariant.timely;
+      moment_fits = c.self.invariant.moment_fits;
+      right = rw (← c.self.view_is) at (tried-kept o f a.moment a.trail.items a.expects scan c.args.trying c.requires);
+    }

@@ -1,0 +1,358 @@
+//! The scans of a fetcher.
+
+ghost use Rattle.std.specs.Prelude.{◌≡◌, ◌≢◌, ◌<◌, ◌^◌, Ok, Err, Some, None, IfErr, IfOk, IsSome, OnErr, OnOk};
+ghost use Rattle.resolver_base.specs.declared.base.fault.Fault.TheVariants.{OutOfMemory};
+ghost use Rattle.resolver_fetch.specs.declared.fetcher.step.Step.TheVariants.{Accept, Clear, Fail};
+ghost use Rattle.resolver_fetch.specs.Fetcher as calls;
+ghost use Rattle.resolver_fetch.specs.Fetcher.{question, snapshot};
+ghost use Rattle.resolver_fetch.specs.Orders.{orders};
+ghost use Rattle.resolver_fetch.specs.Scan.{waiter_of};
+ghost use Rattle.resolver_fetch.specs.Seeking.{due_after, scan_at, tried_next, tried_now, trying_key};
+ghost use Rattle.resolver_fetch.specs.Stepping.{after_all, after_step, ask_for, expecting, step_now};
+
+use crate::fetcher::step::{Step, step_of};
+use crate::fetcher::trail::{Expected, Reason, Try, least, trail_moment, was_tried};
+use crate::fetcher::trying::Trying;
+use crate::fetcher::{Answer, Ask, Fetcher, ID, Request};
+use resolver_base::base::Fault;
+
+impl<K: Ord + Clone + Drop, P: Ord + Clone + Drop> Fetcher<K, P> {
+    /// Begins a scan at this moment, and says what it asks; nothing where it is over at once.
+    /// Where memory is wanting, nothing changes.
+    ///
+    /// The waiting keys that are due are gone over in their order, up to the first with a peer that
+    /// may be asked, with one pass over the peers for each. Where there is none, all waiting keys
+    /// are gone over. Keys and names are cloned; clones are to equal their sources.
+    pub fn scan_begin(&mut self, now: u128) -> Result<Option<Ask<K, P>>, Fault>
+    where
+        requires moment { now < 2 ^ 94 }
+        requires keys_clone { (x y : K) → K.is_clone x y → y ≡ x }
+        requires peers_clone { (x y : P) → P.is_clone x y → y ≡ x }
+        ensures ok { OnOk result
+            (self.new ≡ calls.scan_begin (orders K.cmp P.cmp) now self.old) }
+        ensures asked { IfOk result (λ ask. ask ≡ question (orders K.cmp P.cmp) self.new) }
+        ensures err { OnErr result (self.new ≡ self.old) }
+        ensures only { IfErr result (λ fault. fault ≡ OutOfMemory) }
+    {
+        let trail = Vec::new(self.alloc);
+        let found = self.seek(now, &trail)?;
+        self.trying = None;
+        self.moment = now;
+        self.trail.clear();
+        self.expects = Some(Expected::Mode);
+        Ok(self.go_on(found))
+    }
+
+    /// Takes an answer to what the open scan asked, and says what it asks now; nothing where it is
+    /// over. An answer that the scan doesn't expect is `Unasked`, a number that isn't below the
+    /// asked bound `OutOfRange`; then, and where memory is wanting, nothing changes.
+    ///
+    /// A word that a peer can't be asked takes time as `scan_begin`, times the length of what was
+    /// tried; else it takes time linear in the peers. Keys and names are cloned; clones are to
+    /// equal their sources.
+    pub fn scan_answer(&mut self, answer: Answer) -> Result<Option<Ask<K, P>>, Fault>
+    where
+        requires keys_clone { (x y : K) → K.is_clone x y → y ≡ x }
+        requires peers_clone { (x y : P) → P.is_clone x y → y ≡ x }
+        ensures ok { OnOk result
+            (calls.scan_answer (orders K.cmp P.cmp) answer self.old ≡ (Ok tt, self.new)) }
+        ensures asked { IfOk result (λ ask. ask ≡ question (orders K.cmp P.cmp) self.new) }
+        ensures refused { IfErr result (λ fault. fault ≢ OutOfMemory
+            → calls.scan_answer (orders K.cmp P.cmp) answer self.old ≡ (Err fault, self.old)) }
+        ensures err { OnErr result (self.new ≡ self.old) }
+    {
+        let Some(trying) = self.take_trying()? else {
+            return Err(Fault::Unasked);
+        };
+        match self.step(&trying, answer) {
+            Ok(step) => self.go(trying, step),
+            Err(fault) => {
+                self.keep(trying);
+                Err(fault)
+            }
+        }
+    }
+
+    /// What the open scan tries, if a scan is open and there is anything.
+    fn take_trying(&mut self) -> Result<Option<Trying<K, P>>, Fault>
+    where
+        requires keys_clone { (x y : K) → K.is_clone x y → y ≡ x }
+        requires peers_clone { (x y : P) → P.is_clone x y → y ≡ x }
+        ensures found { IfOk result (λ found. found ≡ tried_now (orders K.cmp P.cmp) self.old) }
+        ensures same { self.new ≡ self.old }
+        ensures only { IfErr result (λ fault. fault ≡ OutOfMemory) }
+    {
+        if self.expects.is_none() {
+            return Ok(None);
+        }
+        if let Some(trying) = self.trying.take() {
+            return Ok(Some(trying));
+        }
+        self.seek(self.moment, &self.trail)
+    }
+
+    /// Keeps what the open scan tries.
+    fn keep(&mut self, trying: Trying<K, P>)
+        requires { tried_now (orders K.cmp P.cmp) self.old ≡ Some trying }
+        ensures { self.new ≡ self.old }
+    {
+        self.trying = Some(trying);
+    }
+
+    /// What an answer means to the open scan.
+    fn step(&self, trying: &Trying<K, P>, answer: Answer) -> Result<Step<P>, Fault>
+    where
+        requires peers_clone { (x y : P) → P.is_clone x y → y ≡ x }
+        ensures ok { IfOk result (λ step. step_now trying.now answer self.now ≡ Ok step) }
+        ensures refused { IfErr result
+            (λ fault. fault ≢ OutOfMemory → step_now trying.now answer self.now ≡ Err fault) }
+    {
+        match &self.expects {
+            Some(expected) => step_of(trying, expected, answer),
+            None => Err(Fault::Unasked),
+        }
+    }
+
+    /// The open scan takes a step.
+    fn go(&mut self, trying: Trying<K, P>, step: Step<P>) -> Result<Option<Ask<K, P>>, Fault>
+    where
+        requires keys_clone { (x y : K) → K.is_clone x y → y ≡ x }
+        requires peers_clone { (x y : P) → P.is_clone x y → y ≡ x }
+        requires tried { tried_now (orders K.cmp P.cmp) self.old ≡ Some trying }
+        ensures ok { OnOk result
+            (self.new ≡ after_step (orders K.cmp P.cmp) trying.key step self.old) }
+        ensures asked { IfOk result (λ ask. ask ≡ question (orders K.cmp P.cmp) self.new) }
+        ensures err { OnErr result (self.new ≡ self.old) }
+        ensures only { IfErr result (λ fault. fault ≡ OutOfMemory) }
+    {
+        match step {
+            Step::Expect(expected) => self.expect(trying, expected, self.last_id),
+            Step::Clear(peer) => self.clear_to_send(trying, peer),
+            Step::Send(peer, id) => self.expect(trying, Expected::Sending(peer, id), Some(id)),
+            Step::Fail(peer, reason) => self.fail(trying, peer, reason),
+            Step::Accept(peer, id) => self.accept(trying, peer, id),
+        }
+    }
+
+    /// The open scan expects this, and the last id is this one.
+    fn expect(
+        &mut self,
+        trying: Trying<K, P>,
+        expected: Expected<P>,
+        last_id: Option<ID>,
+    ) -> Result<Option<Ask<K, P>>, Fault>
+    where
+        requires keys_clone { (x y : K) → K.is_clone x y → y ≡ x }
+        requires peers_clone { (x y : P) → P.is_clone x y → y ≡ x }
+        requires tried { tried_now (orders K.cmp P.cmp) self.old ≡ Some trying }
+        ensures ok { OnOk result
+            (self.new ≡ expecting (orders K.cmp P.cmp) expected last_id self.old) }
+        ensures asked { IfOk result (λ ask. ask ≡ question (orders K.cmp P.cmp) self.new) }
+        ensures err { OnErr result (self.new ≡ self.old) }
+        ensures only { IfErr result (λ fault. fault ≡ OutOfMemory) }
+    {
+        let ask = ask_for(self.priority_requests, &trying, &expected)?;
+        self.expects = Some(expected);
+        self.last_id = last_id;
+        self.waiter = None;
+        self.trying = Some(trying);
+        Ok(Some(ask))
+    }
+
+    /// The peer may be sent to: the id of the request is drawn, or the next one is taken.
+    fn clear_to_send(&mut self, trying: Trying<K, P>, peer: P) -> Result<Option<Ask<K, P>>, Fault>
+    where
+        requires keys_clone { (x y : K) → K.is_clone x y → y ≡ x }
+        requires peers_clone { (x y : P) → P.is_clone x y → y ≡ x }
+        requires tried { tried_now (orders K.cmp P.cmp) self.old ≡ Some trying }
+        ensures ok { OnOk result
+            (self.new ≡ after_step (orders K.cmp P.cmp) trying.key (Clear peer) self.old) }
+        ensures asked { IfOk result (λ ask. ask ≡ question (orders K.cmp P.cmp) self.new) }
+        ensures err { OnErr result (self.new ≡ self.old) }
+        ensures only { IfErr result (λ fault. fault ≡ OutOfMemory) }
+    {
+        match self.last_id {
+            Some(last) => {
+                let id = self.requests.next_id(last);
+                self.expect(trying, Expected::Sending(peer, id), Some(id))
+            }
+            None => self.expect(trying, Expected::FirstId(peer), None),
+        }
+    }
+
+    /// The peer was tried in vain: the scan goes on.
+    fn fail(
+        &mut self,
+        trying: Trying<K, P>,
+        peer: P,
+        reason: Reason,
+    ) -> Result<Option<Ask<K, P>>, Fault>
+    where
+        requires keys_clone { (x y : K) → K.is_clone x y → y ≡ x }
+        requires peers_clone { (x y : P) → P.is_clone x y → y ≡ x }
+        requires tried { tried_now (orders K.cmp P.cmp) self.old ≡ Some trying }
+        ensures ok { OnOk result
+            (self.new ≡ after_step (orders K.cmp P.cmp) trying.key (Fail peer reason) self.old) }
+        ensures asked { IfOk result (λ ask. ask ≡ question (orders K.cmp P.cmp) self.new) }
+        ensures err { OnErr result (self.new ≡ self.old) }
+        ensures only { IfErr result (λ fault. fault ≡ OutOfMemory) }
+    {
+        self.trying = None;
+        let key = trying.key.clone()?;
+        self.trail.push(Try { key, peer, reason })?;
+        match self.seek(self.moment, &self.trail) {
+            Ok(found) => Ok(self.go_on(found)),
+            Err(fault) => {
+                self.trail.pop();
+                Err(fault)
+            }
+        }
+    }
+
+    /// The request is on its way, and the scan is over.
+    fn accept(&mut self, trying: Trying<K, P>, peer: P, id: ID) -> Result<Option<Ask<K, P>>, Fault>
+    where
+        requires keys_clone { (x y : K) → K.is_clone x y → y ≡ x }
+        requires tried { tried_now (orders K.cmp P.cmp) self.old ≡ Some trying }
+        ensures ok { OnOk result
+            (self.new ≡ after_step (orders K.cmp P.cmp) trying.key (Accept peer id) self.old) }
+        ensures asked { IfOk result (λ ask. ask ≡ question (orders K.cmp P.cmp) self.new) }
+        ensures err { OnErr result (self.new ≡ self.old) }
+        ensures only { IfErr result (λ fault. fault ≡ OutOfMemory) }
+    {
+        self.trying = None;
+        let request = Request {
+            key: trying.key.clone()?,
+            peer,
+            start: self.moment,
+            deadline: self.moment + self.fetch_timeout,
+        };
+        self.requests.insert(id, request)?;
+        self.pending.remove(&trying.key);
+        self.waiter = None;
+        self.expects = None;
+        self.trail.clear();
+        Ok(None)
+    }
+
+    /// The open scan tries what is next, or ends where there is nothing.
+    fn go_on(&mut self, found: Option<Trying<K, P>>) -> Option<Ask<K, P>>
+    where
+        requires open_scan { IsSome self.old.scan }
+        requires next { found ≡ tried_now (orders K.cmp P.cmp) self.old }
+        ensures after { self.new ≡ after_all (orders K.cmp P.cmp) self.old }
+        ensures asked { result ≡ question (orders K.cmp P.cmp) self.new }
+    {
+        match found {
+            Some(trying) => {
+                let bound = u128::from(trying.retries) + 4;
+                self.waiter = None;
+                self.expects = Some(Expected::Mode);
+                self.trying = Some(trying);
+                Some(Ask::Draw(bound))
+            }
+            None => {
+                self.waiter = Some(self.waiter_after(self.moment, &self.trail));
+                self.trying = None;
+                self.expects = None;
+                self.trail.clear();
+                None
+            }
+        }
+    }
+
+    /// What a scan of this moment tries after this trail: the first waiting key that is due and
+    /// has a peer left.
+    ///
+    /// It takes a pass over the peers for each due key that it passes, times the length of the
+    /// trail.
+    fn seek(&self, moment: u128, trail: &[Try<K, P>]) -> Result<Option<Trying<K, P>>, Fault>
+    where
+        requires keys_clone { (x y : K) → K.is_clone x y → y ≡ x }
+        requires peers_clone { (x y : P) → P.is_clone x y → y ≡ x }
+        ensures ok { IfOk result (λ found. found
+            ≡ tried_next (orders K.cmp P.cmp) self.now moment trail.now) }
+        ensures only { IfErr result (λ fault. fault ≡ OutOfMemory) }
+    {
+        for (place, key) in self.pending.iter() {
+            if place.due <= moment {
+                let trying = self.trying(key, trail)?;
+                if !trying.left.is_empty() {
+                    return Ok(Some(trying));
+                }
+            }
+        }
+        Ok(None)
+    }
+
+    /// What there is to try of a key after this trail.
+    fn trying(&self, key: &K, trail: &[Try<K, P>]) -> Result<Trying<K, P>, Fault>
+    where
+        requires keys_clone { (x y : K) → K.is_clone x y → y ≡ x }
+        requires peers_clone { (x y : P) → P.is_clone x y → y ≡ x }
+        ensures ok { IfOk result (λ trying. trying
+            ≡ trying_key (orders K.cmp P.cmp) self.now trail.now key.now) }
+        ensures only { IfErr result (λ fault. fault ≡ OutOfMemory) }
+    {
+        let mut left = self.peers.eligible(self.targets.get(key))?;
+        left.retain(|peer| !was_tried(trail, key, &peer.0));
+        Ok(Trying {
+            key: key.clone()?,
+            retries: self.retries(key),
+            left,
+        })
+    }
+}
+
+impl<K: Ord + Drop, P: Ord + Drop> Fetcher<K, P> {
+    /// When a scan in vain of this moment and this trail may be begun again: where a key becomes
+    /// due, or what was tried may be tried again. It takes a pass over the waiting keys.
+    fn waiter_after(&self, moment: u128, trail: &[Try<K, P>]) -> u128
+        requires { moment < 2 ^ 94 }
+        ensures { result ≡ waiter_of (orders K.cmp P.cmp) (snapshot (orders K.cmp P.cmp) self.now)
+            (scan_at moment trail.now) }
+    {
+        let due = self.due_after(moment);
+        let tried = trail_moment(trail, moment, self.retry_delay);
+        least(due, tried).unwrap_or(u128::MAX)
+    }
+
+    /// When a key becomes due next, if one does after this moment.
+    fn due_after(&self, moment: u128) -> Option<u128>
+        ensures { result ≡ due_after (orders K.cmp P.cmp) self.now moment }
+    {
+        let mut next = None;
+        for (place, _) in self.pending.iter() {
+            if place.due > moment {
+                next = least(next, Some(place.due));
+            }
+        }
+        next
+    }
+}
+
+/// What a scan asks that tries a key and expects something.
+fn ask_for<K: Clone + Drop, P: Clone + Drop>(
+    priority: bool,
+    trying: &Trying<K, P>,
+    expected: &Expected<P>,
+) -> Result<Ask<K, P>, Fault>
+    requires keys_clone { (x y : K) → K.is_clone x y → y ≡ x }
+    requires peers_clone { (x y : P) → P.is_clone x y → y ≡ x }
+    ensures ok { IfOk result (λ ask. ask ≡ ask_for priority trying.now expected.now) }
+    ensures only { IfErr result (λ fault. fault ≡ OutOfMemory) }
+{
+    match expected {
+        Expected::Mode => Ok(Ask::Draw(u128::from(trying.retries) + 4)),
+        Expected::ByWeight => Ok(Ask::Draw(trying.total())),
+        Expected::ByPlace => Ok(Ask::Draw(trying.left.len() as u128)),
+        Expected::Checking(peer) => Ok(Ask::Check(peer.clone()?)),
+        Expected::FirstId(_) => Ok(Ask::Draw(1 << 64)),
+        Expected::Sending(peer, id) => Ok(Ask::Request {
+            peer: peer.clone()?,
+            id: *id,
+            key: trying.key.clone()?,
+            priority,
+        }),
+    }
+}

@@ -1,0 +1,149 @@
+//! What an answer means to a scan.
+
+ghost use Rattle.std.specs.Prelude.{◌≡◌, ◌≢◌, Ok, Err, IfErr, IfOk};
+ghost use Rattle.resolver_base.specs.declared.base.fault.Fault.TheVariants.{OutOfMemory};
+ghost use Rattle.std.specs.Option.{option_copied};
+ghost use Rattle.resolver_fetch.specs.Stepping.{checked_of, drawn_of, id_of, sent_of, step_checked, step_chosen, step_mode, step_of, step_sent};
+
+use crate::fetcher::trail::{Expected, Reason};
+use crate::fetcher::trying::Trying;
+use crate::fetcher::{Answer, ID};
+use crate::sampling::is_weighted;
+use resolver_base::base::{Check, Fault};
+
+/// What an answer means to a scan.
+#[derive(Debug, Drop)]
+pub(super) enum Step<P> {
+    /// It expects this next.
+    Expect(Expected<P>),
+    /// The peer may be sent to.
+    Clear(P),
+    /// The request to the peer gets this id, the first ever.
+    Send(P, ID),
+    /// The peer was tried in vain.
+    Fail(P, Reason),
+    /// The request to the peer is on its way.
+    Accept(P, ID),
+}
+
+/// What an answer means to a scan that tries a key and expects something. One that it doesn't
+/// expect, or a number out of range, is refused.
+pub(super) fn step_of<K, P: Clone + Drop>(
+    trying: &Trying<K, P>,
+    expected: &Expected<P>,
+    answer: Answer,
+) -> Result<Step<P>, Fault>
+    requires peers_clone { (x y : P) → P.is_clone x y → y ≡ x }
+    ensures ok { IfOk result (λ step. step_of trying.now expected.now answer ≡ Ok step) }
+    ensures refused { IfErr result
+        (λ fault. fault ≢ OutOfMemory → step_of trying.now expected.now answer ≡ Err fault) }
+{
+    match expected {
+        Expected::Mode => mode(trying.retries, drawn(answer)?),
+        Expected::ByWeight => chosen(trying.by_weight(drawn(answer)?)),
+        Expected::ByPlace => chosen(trying.by_place(drawn(answer)?)),
+        Expected::Checking(peer) => {
+            let check = checked(answer)?;
+            Ok(after_check(peer.clone()?, check))
+        }
+        Expected::FirstId(peer) => {
+            let id = id_of(drawn(answer)?)?;
+            Ok(Step::Send(peer.clone()?, id))
+        }
+        Expected::Sending(peer, id) => {
+            let accepted = sent(answer)?;
+            Ok(after_send(peer.clone()?, *id, accepted))
+        }
+    }
+}
+
+/// The way in which a peer is drawn, by a number below four and the key's retries.
+fn mode<P>(retries: u32, number: u128) -> Result<Step<P>, Fault>
+    ensures { result ≡ step_mode retries number }
+{
+    if number >= u128::from(retries) + 4 {
+        return Err(Fault::OutOfRange);
+    }
+    if is_weighted(number) {
+        Ok(Step::Expect(Expected::ByWeight))
+    } else {
+        Ok(Step::Expect(Expected::ByPlace))
+    }
+}
+
+/// The peer that a number chose is looked at; one that chose none was out of range.
+fn chosen<P: Clone + Drop>(peer: Option<&P>) -> Result<Step<P>, Fault>
+    requires peers_clone { (x y : P) → P.is_clone x y → y ≡ x }
+    ensures ok { IfOk result (λ step. step_chosen (option_copied peer.entry) ≡ Ok step) }
+    ensures refused { IfErr result
+        (λ fault. fault ≢ OutOfMemory → step_chosen (option_copied peer.entry) ≡ Err fault) }
+{
+    match peer {
+        Some(peer) => Ok(Step::Expect(Expected::Checking(peer.clone()?))),
+        None => Err(Fault::OutOfRange),
+    }
+}
+
+/// Whether a peer may be sent to now.
+fn after_check<P>(peer: P, check: Check) -> Step<P>
+    ensures { result ≡ step_checked peer check }
+{
+    match check {
+        Check::Clear => Step::Clear(peer),
+        Check::Until(moment) => Step::Fail(peer, Reason::Limited(moment)),
+    }
+}
+
+/// Whether a request is on its way.
+fn after_send<P>(peer: P, id: ID, accepted: bool) -> Step<P>
+    ensures { result ≡ step_sent peer id accepted }
+{
+    if accepted {
+        Step::Accept(peer, id)
+    } else {
+        Step::Fail(peer, Reason::Refused)
+    }
+}
+
+/// The id that a number is.
+fn id_of(number: u128) -> Result<ID, Fault>
+    ensures { result ≡ id_of number }
+{
+    if number > u128::from(u64::MAX) {
+        return Err(Fault::OutOfRange);
+    }
+    Ok(number as u64)
+}
+
+/// The number that an answer is.
+fn drawn(answer: Answer) -> Result<u128, Fault>
+    ensures { result ≡ drawn_of answer }
+{
+    match answer {
+        Answer::Drawn(number) => Ok(number),
+        Answer::Checked(_) => Err(Fault::Unasked),
+        Answer::Sent(_) => Err(Fault::Unasked),
+    }
+}
+
+/// The word on a peer that an answer is.
+fn checked(answer: Answer) -> Result<Check, Fault>
+    ensures { result ≡ checked_of answer }
+{
+    match answer {
+        Answer::Drawn(_) => Err(Fault::Unasked),
+        Answer::Checked(check) => Ok(check),
+        Answer::Sent(_) => Err(Fault::Unasked),
+    }
+}
+
+/// The word on a request that an answer is.
+fn sent(answer: Answer) -> Result<bool, Fault>
+    ensures { result ≡ sent_of answer }
+{
+    match answer {
+        Answer::Drawn(_) => Err(Fault::Unasked),
+        Answer::Checked(_) => Err(Fault::Unasked),
+        Answer::Sent(accepted) => Ok(accepted),
+    }
+}
