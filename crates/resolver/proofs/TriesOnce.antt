@@ -7,7 +7,12 @@ use Rattle.resolver_fetch.specs.Orders.{Orders, same_key, same_peer}
 use Rattle.resolver_fetch.specs.Waiting.{Waiting}
 use Rattle.resolver_fetch.specs.Snapshot.{Snapshot, eligible}
 use Rattle.resolver_fetch.specs.Scan as scans
-use Rattle.resolver_fetch.specs.Scan.{Scan, Turn, Try, Expected, Mode, ByWeight, ByPlace, Checking, FirstId, Sending, Reason, Limited, Refused, next, left, was_tried, takes, takes_for, draws, goes_on_with, begins, clears, sends, is_over, asks_for, fails, by_weight, by_place, weights, can_be_tried, mode_of}
+use Rattle.resolver_fetch.specs.declared.fetcher.trail.Expected.{Expected}
+use Rattle.resolver_fetch.specs.declared.fetcher.trail.Expected.TheVariants.{Mode, ByWeight, ByPlace, Checking, FirstId, Sending}
+use Rattle.resolver_fetch.specs.declared.fetcher.trail.Reason.{Reason}
+use Rattle.resolver_fetch.specs.declared.fetcher.trail.Reason.TheVariants.{Limited, Refused}
+use Rattle.resolver_fetch.specs.declared.fetcher.trail.Try.{Try}
+use Rattle.resolver_fetch.specs.Scan.{Scan, Turn, next, left, was_tried, takes, takes_for, draws, goes_on_with, begins, clears, sends, is_over, asks_for, fails, by_weight, by_place, weights, can_be_tried, mode_of}
 use Rattle.resolver_base.specs.declared.base.check.Check.TheVariants.{Clear, Until}
 use Rattle.resolver_fetch.specs.declared.fetcher.scan.Answer.{Answer}
 use Rattle.resolver_fetch.specs.declared.fetcher.scan.Answer.TheVariants.{Drawn, Checked, Sent}
