@@ -22,3 +22,4 @@ pub mod NextIds
 pub mod Placed
 pub mod Seeking
 pub mod Stepping
+pub mod Continues
