@@ -21,3 +21,4 @@ pub mod Timed
 pub mod NextIds
 pub mod Seeking
 pub mod Stepping
+pub mod Continues

@@ -43,7 +43,7 @@ module _ {K P : Type 0} where
   empty-append [] t = refl
   empty-append (u ∷ x) t = refl
 
-  any-append : (f : Try K P → Bool) (x : List (Try K P)) (t : Try K P) → list_any f (x ++ t ∷ []) ≡ (list_any f x || (f t || false))
+  pub any-append : (f : Try K P → Bool) (x : List (Try K P)) (t : Try K P) → list_any f (x ++ t ∷ []) ≡ (list_any f x || (f t || false))
   any-append f [] t = refl
   any-append f (u ∷ x) t = ap (λ b. f u || b) (any-append f x t) ∙ or-assoc (f u) (list_any f x) (f t || false)
 

@@ -2,7 +2,7 @@
 use Rattle.std.proofs.Common.{◌≡◌, refl, ap, ◌∙◌, sym, ℕ, zero, suc, ◌+◌, ◌^◌, Bool, true, false, List, [], ◌∷◌, ◌++◌, Option, None, Some, Result, Ok, Err, option_map, if◌then◌else◌}
 use Rattle.std.proofs.lemmas.List.{length-map}
 use Rattle.std.specs.List.{slice_get}
-use Rattle.std.specs.Prelude.{OnOk, is_some, nat_lt, option_and_then, sum}
+use Rattle.std.specs.Prelude.{IsSome, OnOk, is_some, nat_lt, option_and_then, sum}
 use Rattle.resolver_base.specs.declared.base.check.Check.TheVariants.{Clear, Until}
 use Rattle.resolver_base.specs.declared.base.fault.Fault.{Fault}
 use Rattle.resolver_base.specs.declared.base.fault.Fault.TheVariants.{Unasked, OutOfRange}
@@ -182,6 +182,10 @@ module _ {K P : Type 0} (o : Orders K P) where
       → option_and_then (trying o s) (kept_scan moment trail expects) ≡ trying o s (scan_at moment trail)
   tried-open s moment trail None is = cc
   tried-open s moment trail (Some e) is = refl
+
+  pub open-kept : (moment : ℕ) (trail : List (Try K P)) (expects : Option (Expected P)) → IsSome (kept_scan moment trail expects) → is_some expects ≡ true
+  open-kept moment trail None is = cc
+  open-kept moment trail (Some e) is = refl
 
   some-kept : (s : Snapshot K P) (moment : ℕ) (trail : List (Try K P)) (t : Trying K P) (expects : Option (Expected P))
       → option_and_then (trying o s) (kept_scan moment trail expects) ≡ Some t → is_some expects ≡ true

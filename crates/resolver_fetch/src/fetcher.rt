@@ -147,6 +147,20 @@ impl<K: Ord + Drop, P: Ord + Drop> Fetcher<K, P> {
         self.requests.len()
     }
 
+    /// Whether this key waits.
+    pub fn is_waiting(&self, key: &K) -> bool
+        ensures { result ≡ has_item K.cmp self.now.waiting key.now }
+    {
+        self.pending.contains(key)
+    }
+
+    /// Whether a scan is open: it expects an answer.
+    pub fn is_scanning(&self) -> bool
+        ensures { result ≡ is_some self.now.scan }
+    {
+        self.expects.is_some()
+    }
+
     /// Whether the peers that may be asked for this key are limited to some.
     pub fn has_targets(&self, key: &K) -> bool
         ensures { result ≡ is_some (calls.targets_of (orders K.cmp P.cmp) self.now key.now) }
@@ -445,3 +459,6 @@ fn charged(time: u128, delay: u128) -> u128
 {
     (time + delay).min(DURATION_MAX)
 }
+
+#[cfg(test)]
+mod tests;

@@ -4,7 +4,7 @@ use crate::fetcher::ID;
 use resolver_base::base::Check;
 
 /// What a scan asks.
-#[derive(Clone, Debug, Drop)]
+#[derive(Clone, Debug, Drop, PartialEq, Eq)]
 pub enum Ask<K, P> {
     /// For a number below this one.
     Draw(u128),

@@ -1,6 +1,6 @@
 //! The scans of a fetcher.
 
-ghost use Rattle.std.specs.Prelude.{◌≡◌, ◌≢◌, ◌<◌, ◌^◌, Ok, Err, Some, None, IfErr, IfOk, IsSome, OnErr, OnOk};
+ghost use Rattle.std.specs.Prelude.{◌≡◌, ◌≢◌, ◌<◌, ◌^◌, Ok, Err, Some, None, length, IfErr, IfOk, IsSome, OnErr, OnOk};
 ghost use Rattle.resolver_base.specs.declared.base.fault.Fault.TheVariants.{OutOfMemory};
 ghost use Rattle.resolver_fetch.specs.declared.fetcher.step.Step.TheVariants.{Accept, Clear, Fail};
 ghost use Rattle.resolver_fetch.specs.Fetcher as calls;
@@ -47,9 +47,9 @@ impl<K: Ord + Clone + Drop, P: Ord + Clone + Drop> Fetcher<K, P> {
     /// over. An answer that the scan doesn't expect is `Unasked`, a number that isn't below the
     /// asked bound `OutOfRange`; then, and where memory is wanting, nothing changes.
     ///
-    /// A word that a peer can't be asked takes time as `scan_begin`, times the length of what was
-    /// tried; else it takes time linear in the peers. Keys and names are cloned; clones are to
-    /// equal their sources.
+    /// It takes time linear in the peers, unless the key that was tried has no peer left: then the
+    /// due keys are gone over from the first on, as in `scan_begin`, and what was tried is looked
+    /// at for each of their peers. Keys and names are cloned; clones are to equal their sources.
     pub fn scan_answer(&mut self, answer: Answer) -> Result<Option<Ask<K, P>>, Fault>
     where
         requires keys_clone { (x y : K) → K.is_clone x y → y ≡ x }
@@ -199,14 +199,33 @@ impl<K: Ord + Clone + Drop, P: Ord + Clone + Drop> Fetcher<K, P> {
     {
         self.trying = None;
         let key = trying.key.clone()?;
+        let mut rest = trying;
+        rest.forget(&peer);
         self.trail.push(Try { key, peer, reason })?;
-        match self.seek(self.moment, &self.trail) {
+        match self.next_after(rest) {
             Ok(found) => Ok(self.go_on(found)),
             Err(fault) => {
                 self.trail.pop();
                 Err(fault)
             }
         }
+    }
+
+    /// What the open scan tries next, after a key of which this is left.
+    fn next_after(&self, rest: Trying<K, P>) -> Result<Option<Trying<K, P>>, Fault>
+    where
+        requires keys_clone { (x y : K) → K.is_clone x y → y ≡ x }
+        requires peers_clone { (x y : P) → P.is_clone x y → y ≡ x }
+        requires open_scan { IsSome self.now.scan }
+        requires left { 0 < length rest.left
+            → tried_now (orders K.cmp P.cmp) self.now ≡ Some rest }
+        ensures ok { IfOk result (λ found. found ≡ tried_now (orders K.cmp P.cmp) self.now) }
+        ensures only { IfErr result (λ fault. fault ≡ OutOfMemory) }
+    {
+        if !rest.left.is_empty() {
+            return Ok(Some(rest));
+        }
+        self.seek(self.moment, &self.trail)
     }
 
     /// The request is on its way, and the scan is over.

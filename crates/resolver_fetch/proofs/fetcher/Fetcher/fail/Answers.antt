@@ -1,19 +1,27 @@
-use Rattle.std.proofs.Common.{◌≡◌, ap, ◌∙◌, sym, [], ◌∷◌, ◌++◌, rules}
-use Rattle.resolver_fetch.specs.Fetcher.{Fetcher, snapshot}
+use Rattle.std.proofs.Common.{◌≡◌, ap, ◌∙◌, sym, subst, ◌<◌, Some, [], ◌∷◌, ◌++◌, length, rules}
+use Rattle.resolver_fetch.specs.Fetcher.{Fetcher}
 use Rattle.resolver_fetch.specs.Orders.{orders}
+use Rattle.resolver_fetch.specs.Seeking.{tried_now}
+use Rattle.resolver_fetch.specs.Trying.{Trying, apart_from}
+use Rattle.resolver_fetch.proofs.Continues.{tries-on}
 use Rattle.resolver_fetch.specs.Stepping.{after_all}
-use Rattle.resolver_fetch.proofs.Stepping.{kept_scan, fails-on, is-open, tried-open}
+use Rattle.resolver_fetch.proofs.Stepping.{kept_scan, fails-on}
 use Rattle.resolver_fetch.proofs.fetcher.Fetcher.fail.Goals as goal
 
-pub go_on-requires-clause-next : goal.go_on-requires-clause-next
-go_on-requires-clause-next g c =
+pub next_after-requires-clause-left : goal.next_after-requires-clause-left
+next_after-requires-clause-left g c = λ some.
     let o = orders g.K.Ord.cmp g.P.Ord.cmp in
     let scan = sym (ap (λ (f : Fetcher g.row.K.Denot g.row.P.Denot). f.scan) c.self.view_is) in
     let f = c.args.self.now in
     let a = c.self.inside in
-    let some = is-open o f a.moment a.trail.items a.expects scan c.args.trying c.requires.tried in
-    c.in-Ok.ensures.ok
-    ∙ rw c.deref.ensures.value (sym (rw (← c.self.view_is) at (tried-open o (snapshot o f) a.moment c.push.new.self.items a.expects some)))
+    let t = c.args.trying in
+    let key : c.in_ok-key.key ≡ t.key = search rules in
+    let noted : c.push.new.self.items ≡ a.trail.items ++ record { key = t.key; peer = c.args.peer; reason = c.args.reason } ∷ [] = rw (← key) c.in_ok-push.ensures.items in
+    let rest : c.forget.new.self ≡ record t { left = apart_from g.P.Ord.cmp c.args.peer t.left } = c.forget.ensures in
+    let Left : Trying g.row.K.Denot g.row.P.Denot → Type 0 = λ n. 0 < length n.left in
+    ap (λ (f : Fetcher g.row.K.Denot g.row.P.Denot). tried_now o (record f { scan = kept_scan o a.moment c.push.new.self.items a.expects })) c.self.view_is
+    ∙ tries-on o f a.moment a.trail.items a.expects scan g.met.K.Ord.total t c.args.peer c.args.reason c.requires.tried c.push.new.self.items noted (subst Left rest some)
+    ∙ ap Some (sym rest)
 
 pub returns-in-Ok-clause-ok : goal.returns-in-Ok-clause-ok
 returns-in-Ok-clause-ok g c =
