@@ -1,13 +1,13 @@
 //! What lies under a mailbox's lock.
 
-ghost use Rattle.std.specs.Prelude.{◌≡◌, ◌≢◌, ◌+◌, ◌++◌, ◌^◌, ◌-◌, [], false, true, is_some, map, None, IfOk, IfErr, OnErr};
+ghost use Rattle.std.specs.Prelude.{◌≡◌, ◌≢◌, ◌+◌, ◌++◌, ◌^◌, ◌-◌, [], false, true, is_some, map, None, IfOk, IfErr, OnOk, OnErr};
 ghost use Rattle.std.specs.Option.{ForSome, option_map, option_to_list};
 ghost use Rattle.resolver_base.specs.declared.base.fault.Fault.TheVariants.{Exhausted, OutOfMemory};
 ghost use Rattle.resolver_base.specs.declared.base.feedback.Feedback.TheVariants.{Closed};
 ghost use Rattle.resolver_demand.specs.Backlog.{told_of};
 ghost use Rattle.resolver_base.specs.Names.{names};
 ghost use Rattle.resolver_demand.specs.Book.{IsBook, call_of};
-ghost use Rattle.resolver_demand.specs.Desk.{empty_book};
+ghost use Rattle.resolver_demand.specs.Desk.{desk_closed, desk_put, desk_taken, empty_book, feedback_of};
 ghost use Rattle.resolver_demand.specs.Shares.{IsAdded, IsCounted, marked};
 
 use crate::ingress::{Message, Metadata};
@@ -88,6 +88,9 @@ impl<
         share: &mut Option<Share<K, S, M, Q, N>>,
         message: Message<K, S, M, Q>,
     ) -> Result<Feedback, Fault>
+        ensures feedback { IfOk result (λ feedback. feedback ≡ feedback_of self.old.desk) }
+        ensures desk { OnOk result (self.new.desk ≡ desk_put (names K.cmp S.cmp) M.merged Q.keeps
+            (option_map (λ s. s.handle) share.old) (told_of message) self.old.desk) }
         ensures added { N.is_recorded ≡ true → IfOk result (λ feedback. feedback ≢ Closed
             → IsAdded (told_of message) share.old share.new) }
         ensures unrecorded { N.is_recorded ≡ false → IfOk result (λ feedback. feedback ≢ Closed
@@ -95,6 +98,7 @@ impl<
         ensures closed { IfOk result (λ feedback. feedback ≡ Closed
             → share.new ≡ option_map marked share.old) }
         ensures err { OnErr result (share.new ≡ share.old) }
+        ensures err_desk { OnErr result (self.new.desk ≡ self.old.desk) }
         ensures only { IfErr result (λ fault. fault ≢ OutOfMemory → fault ≡ Exhausted) }
         ensures exhausted { IfErr result (λ fault. fault ≡ Exhausted
             → (N.is_recorded ≡ true) × (share.old ≡ None)) }
@@ -130,10 +134,13 @@ impl<
         alloc: Global,
         taken: &mut Taken<K, S, M, Q, N>,
     ) -> Result<Option<Message<K, S, M, Q>>, Fault>
+        ensures desk { IfOk result (λ given. (option_map told_of given, self.new.desk)
+            ≡ desk_taken self.old.desk) }
         ensures listed { N.is_recorded ≡ true → IfOk result (λ given. taken.new
             ≡ taken.old ++ option_to_list (option_map told_of given)) }
         ensures unrecorded { N.is_recorded ≡ false → taken.new ≡ taken.old }
         ensures err { OnErr result (taken.new ≡ taken.old) }
+        ensures err_desk { OnErr result (self.new.desk ≡ self.old.desk) }
         ensures memory { OnErr result (N.is_recorded ≡ true) }
         ensures only { IfErr result (λ fault. fault ≡ OutOfMemory) }
     {
@@ -155,12 +162,16 @@ impl<
     }
 
     /// Closes the desk.
-    pub(super) fn close(&mut self) {
+    pub(super) fn close(&mut self)
+        ensures { self.new.desk ≡ desk_closed self.old.desk }
+    {
         self.desk.close();
     }
 
     /// Whether the desk was closed.
-    pub(super) fn is_closed(&self) -> bool {
+    pub(super) fn is_closed(&self) -> bool
+        ensures { result ≡ self.now.desk.is_closed }
+    {
         self.desk.is_closed()
     }
 }

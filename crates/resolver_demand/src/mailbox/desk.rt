@@ -128,7 +128,7 @@ impl<
     }
 
     /// The message that a take would give.
-    pub fn front(&self) -> Option<&Message<K, S, M, Q>>
+    pub(super) fn front(&self) -> Option<&Message<K, S, M, Q>>
         ensures { option_map told_of (option_copied result) ≡ (desk_taken self.now).0 }
     {
         self.ready.front()
