@@ -19,4 +19,3 @@ pub mod Entries
 pub mod Soonest
 pub mod Timed
 pub mod NextIds
-pub mod Placed
