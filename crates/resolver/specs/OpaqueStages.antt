@@ -19,9 +19,9 @@ pub record Staged (K V S : Type 0) : Type 0 where
   pub entries : Numbered K S V (Unit {0}) Stage
   pub next_attempt : ℕ
 
--- no key, and no attempt so far
-abbrev pub unstaged : {K V S : Type 0} → Staged K V S
-unstaged = record { entries = record { keys = []; going = []; next = 0 }; next_attempt = 0 }
+-- no key so far
+abbrev pub unstaged : {K V S : Type 0} → (next_attempt : ℕ) → Staged K V S
+unstaged next_attempt = record { entries = record { keys = []; going = []; next = 0 }; next_attempt = next_attempt }
 
 -- whether a key stands under this attempt
 abbrev pub stands_under : (attempt : ℕ) → Option Stage → Bool

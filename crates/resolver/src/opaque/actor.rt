@@ -12,7 +12,7 @@ use super::overdue::{by_due, is_any_due};
 use super::rows::{Row, call_off_all, call_off_each, first_due, forget_each, listed};
 use super::stages::Stages;
 use crate::ruling::{Ruling, rule_on};
-use resolver_base::base::{Fault, NonEmptyVec, Predicate};
+use resolver_base::base::{Fault, NonEmptyVec, Numbers, Predicate};
 use resolver_base::root::{Delivery, Outcome};
 use resolver_demand::ingress::FetchKey;
 use resolver_demand::subscribers::Tracker;
@@ -134,9 +134,17 @@ impl<K: Ord + Clone, V: Clone, S: Ord + Clone, Q: Predicate<K, S> + Drop> Actor<
         requires { delay < 2 ^ 94 }
         ensures { result ≡ opening delay }
     {
+        Self::starting_at(alloc, delay, Numbers::new())
+    }
+
+    /// An actor without demand, and the attempts to come.
+    fn starting_at(alloc: Global, delay: u128, attempts: Numbers) -> Self
+        requires { delay < 2 ^ 94 }
+        ensures { result ≡ record (opening delay) { next_attempt = attempts } }
+    {
         Actor {
             demand: Tracker::new(alloc),
-            stages: Stages::new(alloc),
+            stages: Stages::new(alloc, attempts),
             delay,
             status: Status::Running,
             alloc,

@@ -44,14 +44,14 @@ impl<K: Ord, S, V> Model for Stages<K, S, V> {
 }
 
 impl<K: Ord + Drop, S: Drop, V: Drop> Stages<K, S, V> {
-    /// No key. The first attempt will be 0.
-    pub fn new(alloc: Global) -> Self
-        ensures { result ≡ unstaged }
+    /// No key. These are the attempts to come.
+    pub fn new(alloc: Global, attempts: Numbers) -> Self
+        ensures { result ≡ unstaged attempts }
     {
         Stages {
             entries: Entries::new(alloc),
             asked: BTreeMap::new(alloc),
-            attempts: Numbers::new(),
+            attempts,
         }
     }
 

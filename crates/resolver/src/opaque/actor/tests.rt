@@ -1,4 +1,4 @@
-ghost use Rattle.std.specs.Prelude.{not, ◌==◌};
+ghost use Rattle.std.specs.Prelude.{not, true, ◌==◌};
 ghost use Rattle.std.proofs.Common.{rules};
 
 use super::*;
@@ -359,5 +359,99 @@ fn ends_in_each_phase(rt: HostRuntime) -> Result<(), Fail> {
     assert!(rt; actor.rows()?.is_empty());
     assert_eq!(rt; actor.next_retry(), None);
     assert_eq!(rt; actor.step(at(0, Event::End)).err(), Some(Fault::Ended));
+    Ok(())
+}
+
+// Where no attempt is left, a new key is refused, and the actor has failed. A key that is there
+// still takes subscribers before that.
+#[test]
+fn the_last_attempt_is_given_once(rt: HostRuntime) -> Result<(), Fail> {
+    let alloc = rt.alloc();
+    let mut actor: Plain = Actor::starting_at(alloc, 100, Numbers::starting_at(u64::MAX));
+    let effects = actor.step(at(0, fetch(alloc, 1, 10, 7)?))?;
+    assert_eq!(rt; started(&effects), Some((u64::MAX, 1)));
+    assert!(rt; actor.step(at(0, fetch(alloc, 1, 11, 8)?))?.is_empty());
+    let refused = actor.step(at(0, fetch(alloc, 2, 10, 7)?)).err();
+    assert_eq!(rt; refused, Some(Fault::Exhausted));
+    let refused = actor.step(at(0, fetch(alloc, 1, 12, 9)?)).err();
+    assert_eq!(rt; refused, Some(Fault::Failed));
+    assert_eq!(rt; actor.step(at(0, Event::End)).err(), Some(Fault::Failed));
+    Ok(())
+}
+
+/// Keeps every subscriber.
+#[derive(Drop)]
+struct Everyone;
+
+impl Predicate<u64, u16> for Everyone {
+    ghost keeps = { λ q key _. true };
+
+    fn keep(&self, _key: &u64, _subscriber: &u16) -> bool {
+        true
+    }
+
+    ghost alike = { λ q k l s t same_key same_subscriber. Prim.search rules };
+}
+
+type Crowd = Actor<u64, u32, u16, Everyone>;
+
+fn happens(now: u64, event: Event<u64, u32, u16, Everyone>) -> Input<u64, u32, u16, Everyone> {
+    Input {
+        now: u128::from(now),
+        event,
+    }
+}
+
+/// Fetches a key, and hands it out.
+fn hand_out_one(alloc: Global, actor: &mut Crowd, key: u64) -> Result<usize, Fault> {
+    let item = FetchKey {
+        key,
+        subscribers: NonEmptyVec::new(alloc, (10, 7))?,
+        metadata: (),
+    };
+    let mut items = Vec::new(alloc);
+    items.push(item)?;
+    let _ = actor.step(happens(0, Event::Fetch(items)))?;
+    let value = Event::Fetched {
+        attempt: key,
+        value: Some(1),
+    };
+    Ok(actor.step(happens(0, value))?.len())
+}
+
+/// Judges a number: an even one is complete, and the key of an odd one waits.
+fn judge(actor: &mut Crowd, number: u64) -> Result<usize, Fault> {
+    let outcome = if number % 2 == 0 {
+        Some(Outcome::Resolved(Resolution::Complete))
+    } else {
+        Some(Outcome::Unresolved)
+    };
+    Ok(
+        actor
+            .step(happens(0, Event::Verdict { number, outcome }))?
+            .len(),
+    )
+}
+
+// Ten thousand deliveries are open at once, and closed from the last on.
+#[test]
+fn ten_thousand_deliveries(rt: HostRuntime) -> Result<(), Fail> {
+    let alloc = rt.alloc();
+    let mut actor: Crowd = Actor::new(alloc, 100);
+    for key in 0..10_000 {
+        assert_eq!(rt; hand_out_one(alloc, &mut actor, key)?, 1);
+    }
+    assert_eq!(rt; actor.rows()?.len(), 10_000);
+    assert_eq!(rt; actor.next_retry(), None);
+    for number in (0..10_000).rev() {
+        assert_eq!(rt; judge(&mut actor, number)?, 0);
+    }
+    assert_eq!(rt; actor.rows()?.len(), 5_000);
+    assert_eq!(rt; actor.next_retry(), Some(100));
+    assert_eq!(rt; actor.step(happens(99, Event::RetriesDue))?.len(), 0);
+    assert_eq!(rt; actor.step(happens(100, Event::RetriesDue))?.len(), 5_000);
+    assert_eq!(rt; actor.next_retry(), None);
+    assert_eq!(rt; actor.step(happens(100, Event::End))?.len(), 5_000);
+    assert!(rt; actor.rows()?.is_empty());
     Ok(())
 }
