@@ -1,10 +1,15 @@
 -- What a receiver gives.
-use Rattle.std.specs.Prelude.{List, [], ◌∷◌, Option, None, Some, Result, Ok, Err}
+use Rattle.std.specs.Prelude.{ℕ, List, [], ◌∷◌, Option, None, Some, Result, Ok, Err}
 use Rattle.futures.specs.declared.task.Poll.{Poll}
 use Rattle.futures.specs.declared.task.Poll.TheVariants.{Pending, Ready}
 use Rattle.resolver_base.specs.declared.base.fault.Fault.{Fault}
 use Rattle.resolver_demand.specs.declared.ingress.Message.{Message}
 use Rattle.resolver_demand.specs.Backlog.{Told, told_of}
+
+-- what a receiver gave, in its order, and where its task is woken
+pub record Inbox (K S M Q : Type 0) : Type 0 where
+  pub taken : List (Told K S M Q)
+  pub arrived : ℕ
 
 -- the message that a poll gives, if any
 abbrev pub given : {K S M Q : Type 0} → Poll (Option (Result (Message K S M Q) Fault)) → List (Told K S M Q)

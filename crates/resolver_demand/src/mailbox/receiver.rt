@@ -1,7 +1,6 @@
 //! The end that takes messages.
 
 ghost use Rattle.std.specs.Prelude.{All, ◌≡◌, ◌≢◌, ◌++◌, [], false, true, if◌then◌else◌, map, IfOk, IfErr, IfSome, IsOk};
-ghost use Rattle.std.specs.Arc.{arc_value};
 ghost use Rattle.futures.specs.Poll.{IfReady, OnPending};
 ghost use Rattle.futures.specs.Task.{Covers, IsArmed, Keeps};
 ghost use Rattle.resolver_base.specs.declared.base.fault.Fault.TheVariants.{OutOfMemory, Uneven};
@@ -24,16 +23,32 @@ use futures::task::{Context, Poll};
 use resolver_base::base::{Faithful, Fault, Predicate};
 use std::alloc::Global;
 use std::hash::Hash;
+use std::marker::Model;
 use std::sync::{Arc, Wait};
 
 /// The end of a mailbox that takes messages: a stream, which ends when the mailbox is closed and
 /// nothing waits.
+///
+/// Contracts see what it gave, and the source at which its task is woken.
 #[derive(Drop)]
 pub struct Receiver<K: Ord + Hash, S: Ord, M: Metadata, Q: Predicate<K, S>, N: Naming, R> {
     pub(super) rt: R,
     pub(super) alloc: Global,
     pub(super) shared: Arc<Shared<K, S, M, Q, N>>,
     pub(super) taken: Taken<K, S, M, Q, N>,
+}
+
+impl<K: Ord + Hash, S: Ord, M: Metadata, Q: Predicate<K, S>, N: Naming, R> Model
+    for Receiver<K, S, M, Q, N, R> {
+    ghost use Rattle.std.specs.Arc.{arc_value};
+    ghost use Rattle.resolver_demand.specs.Given.{Inbox};
+
+    ghost Value = { Inbox K S M Q };
+
+    ghost view = { λ a. record {
+      taken = a.taken;
+      arrived = (arc_value a.shared).arrived.id;
+    } };
 }
 
 impl<K: Ord + Hash, S: Ord, M: Metadata, Q: Predicate<K, S>, N: Naming, R> Receiver<
@@ -116,14 +131,14 @@ impl<
 > Stream for Receiver<K, S, M, Q, N, R> {
     type Item = Result<Message<K, S, M, Q>, Fault>;
 
-    ghost needs = { λ r s. s ≡ (arc_value r.shared).arrived.id };
+    ghost needs = { λ r s. s ≡ r.arrived };
 
     /// Takes the first message that is ready. Where there is none, the task is woken by the next
     /// put and by a close. In a recorded mailbox a take needs memory; where it is wanting
     /// (`OutOfMemory`), nothing changes. In another mailbox it takes none.
     fn poll_next(&mut self, cx: &mut Context<'_>) -> Poll<Option<Self::Item>>
         ensures registered { OnPending result
-            (Covers cx.new (λ s. s ≡ (arc_value self.new.shared).arrived.id)) }
+            (Covers cx.new (λ s. s ≡ self.new.arrived)) }
         ensures armed { OnPending result (IsArmed cx.new) }
         ensures kept { Keeps cx.old cx.new }
         ensures listed { self.new.taken ≡ (if N.is_recorded
