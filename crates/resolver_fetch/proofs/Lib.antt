@@ -19,7 +19,6 @@ pub mod Entries
 pub mod Soonest
 pub mod Timed
 pub mod NextIds
-pub mod Placed
 pub mod Seeking
 pub mod Stepping
 pub mod Continues

@@ -22,13 +22,14 @@ ghost use Rattle.std.specs.BTreeMap.{insert_entry, is_at};
 ghost use Rattle.std.specs.Fn.{FnReturnsAt};
 ghost use Rattle.std.specs.Map.{lookup};
 ghost use Rattle.resolver_base.specs.Answering.{AnswersBy};
-ghost use Rattle.resolver_base.specs.Priorities.{has_item};
+ghost use Rattle.resolver_base.specs.Priorities.{has_item, put};
 ghost use Rattle.resolver_base.specs.declared.base.fault.Fault.TheVariants.{OutOfMemory};
 ghost use Rattle.resolver_fetch.specs.Fetcher as calls;
 ghost use Rattle.resolver_fetch.specs.Fetcher.{IsTimely, opening};
 ghost use Rattle.resolver_fetch.specs.Orders.{orders};
 ghost use Rattle.resolver_fetch.specs.Peers.{with_targets};
 ghost use Rattle.resolver_fetch.specs.Times.{charged, elapsed_since};
+ghost use Rattle.resolver_fetch.specs.Waiting.{once_more, place_order};
 
 use crate::fetcher::peers::Peers;
 use crate::fetcher::requests::Requests;
@@ -259,20 +260,14 @@ impl<K: Ord + Drop, P: Ord + Drop> Fetcher<K, P> {
         K: Clone,
         requires moment { now < 2 ^ 94 }
         requires keys_clone { (x y : K) → K.is_clone x y → y ≡ x }
-        requires new { has_item K.cmp self.old.waiting key ≡ false }
         ensures ok { OnOk result
             (self.new ≡ calls.add_retry (orders K.cmp P.cmp) key now self.old) }
         ensures err { OnErr result (self.new ≡ self.old) }
         ensures only { IfErr result (λ fault. fault ≡ OutOfMemory) }
     {
         self.trying = None;
-        let retries = self.retries(&key).saturating_add(1);
         let place = Place::retry(now + self.retry_delay);
-        self.pending.put(key.clone()?, place)?;
-        if let Err(refused) = self.retries.insert(key, retries) {
-            self.pending.remove(&refused.value.0);
-            return Err(Fault::OutOfMemory);
-        }
+        count_retry(&mut self.retries, &mut self.pending, key, place)?;
         self.waiter = None;
         Ok(())
     }
@@ -394,6 +389,37 @@ impl<K: Ord + Drop, P: Ord + Drop> Fetcher<K, P> {
         self.peers.record(&request.peer, time, 0);
         Some(request.key)
     }
+}
+
+/// Has a key wait at this place, and counts that it is tried once more.
+fn count_retry<K: Ord + Clone + Drop>(
+    retries: &mut BTreeMap<K, u32>,
+    pending: &mut PrioritySet<K, Place>,
+    key: K,
+    place: Place,
+) -> Result<(), Fault>
+    requires keys_clone { (x y : K) → K.is_clone x y → y ≡ x }
+    ensures ok { OnOk result (pending.new ≡ put place_order K.cmp pending.old (place, key)) }
+    ensures counted { OnOk result (retries.new.entries
+        ≡ insert_entry K.cmp retries.old.entries key
+        (once_more (unwrap_or (lookup (is_at (K.cmp key)) retries.old.entries) 0))) }
+    ensures err { OnErr result (pending.new ≡ pending.old) }
+    ensures as_before { OnErr result (retries.new.entries ≡ retries.old.entries) }
+    ensures only { IfErr result (λ fault. fault ≡ OutOfMemory) }
+{
+    if let Some(count) = retries.get_mut(&key) {
+        pending.put(key, place)?;
+        *count = count.saturating_add(1);
+        return Ok(());
+    }
+    let waits = key.clone()?;
+    let counted = key.clone()?;
+    retries.insert(counted, 1)?;
+    if let Err(fault) = pending.put(waits, place) {
+        retries.remove(&key);
+        return Err(fault);
+    }
+    Ok(())
 }
 
 /// Adds targets of a key.

@@ -28,6 +28,13 @@ impl Numbers {
         Numbers { next: Some(0) }
     }
 
+    /// The numbers from this one on, which is given first.
+    pub fn starting_at(first: u64) -> Self
+        ensures { result ≡ first }
+    {
+        Numbers { next: Some(first) }
+    }
+
     /// The number that is given next. There is none once `u64::MAX` was given.
     pub fn peek(&self) -> Option<u64>
         ensures number { IfSome result (λ number. (number ≡ self.now) × (number < 2 ^ 64)) }

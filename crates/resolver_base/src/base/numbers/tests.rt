@@ -11,9 +11,7 @@ fn counts_up(rt: HostRuntime) {
 
 #[test]
 fn ends_after_the_last(rt: HostRuntime) {
-    let mut numbers = Numbers {
-        next: Some(u64::MAX),
-    };
+    let mut numbers = Numbers::starting_at(u64::MAX);
     assert_eq!(rt; numbers.take(), Some(u64::MAX));
     assert_eq!(rt; numbers.take(), None);
     assert_eq!(rt; numbers.take(), None);
