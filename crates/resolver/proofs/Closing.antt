@@ -19,7 +19,7 @@ use Rattle.resolver_base.specs.declared.base.fault.Fault.TheVariants as faults
 use Rattle.resolver_base.specs.declared.root.Outcome.{Outcome}
 use Rattle.resolver_base.specs.declared.root.Outcome.TheVariants.{Invalid, Resolved, Unresolved, Ignored}
 use Rattle.resolver_base.specs.declared.root.Resolution.TheVariants.{Complete, Partial}
-use Rattle.resolver_demand.specs.Entries.{changed, changed_at, with_state, with_response, ended, numbered, accepted, removed, completed, completed_from, completion, completion_of, is_live, is_number, number_of, response_of, is_accepted, redelivered, begun_again, response_changed}
+use Rattle.resolver_demand.specs.Entries.{changed, changed_at, state_of, with_state, with_response, ended, numbered, accepted, removed, completed, completed_from, completion, completion_of, is_live, is_number, number_of, response_of, is_accepted, redelivered, begun_again, response_changed}
 use Rattle.resolver_demand.specs.declared.delivery.entry.Response.{Response}
 use Rattle.resolver_demand.specs.declared.delivery.entry.Open.{Open}
 use Rattle.resolver_base.specs.declared.root.Delivery.{Delivery}
@@ -42,7 +42,7 @@ use Rattle.resolver.proofs.Joined.{same_found, rows-found, rows-set_demand, rows
 use Rattle.resolver.proofs.Agrees.{cached-at, cached-set, cached-changed, keys-changed, agree-removed, agree-demand, agree-keys}
 use Rattle.std.specs.Cmp.{IsEquivalence}
 use Rattle.std.proofs.Common.{◌||◌}
-use Rattle.resolver.proofs.Going.{Entries, has, agree-staged}
+use Rattle.resolver.proofs.Going.{Entries, has}
 
 same-eq : (m n : ℕ) → (m == n) ≡ true → m ≡ n
 same-eq m n is = grind (arith, nat_tests)
@@ -449,9 +449,6 @@ module _ {K V S : Type 0} (n : Names K S) (ts : List (K × List (S × ℕ))) (d 
         at [] some = cc
         at (s ∷ ss) some = let same : rest ≡ s ∷ ss = cc in rw same refl
 
-    pub agree-retry : (f : Entries K S V) (stage : Stage) → f ≡ changed n.key c.delivery.key (with_state stage) e → Agree n.key ts f.keys
-    agree-retry f stage is = agree-staged n ts e agree-left attempts delay status c.delivery.key stage f is
-
 module _ {V : Type 0} where
   has-flagged : (number : Option ℕ) (response : Option (Response V (Unit {0}))) → has_cached number response → has_cached number (option_map accepted response)
   has-flagged None response is = tt
@@ -491,6 +488,16 @@ module _ {K V S : Type 0} (cmp : K → K → Ordering) where
           ap (λ p. option_and_then (λ e. e.number) (lookup (is_at (cmp key)) (changed_at (is_at (cmp key)) p (λ e. with_response (option_map accepted e.response) e) d.keys))) found
           ∙ (ap (option_and_then (λ e. e.number)) (lookup-set_self (is_at (cmp key)) d.keys y (with_response (option_map accepted y.response) y) found)
           ∙ is)
+
+  pub state-flagged : (accepts : Bool) (key : K) (d : Entries K S V) → state_of cmp (flagged cmp accepts key d) key ≡ state_of cmp d key
+  state-flagged false key d = refl
+  state-flagged true key d = at (lookup (is_at (cmp key)) d.keys) refl
+    where
+      at : (o : Option (Kept V)) → lookup (is_at (cmp key)) d.keys ≡ o → state_of cmp (flagged cmp true key d) key ≡ option_map (λ (e : Kept V). e.state) o
+      at None found = ap (λ p. option_map (λ (e : Kept V). e.state) (lookup (is_at (cmp key)) (changed_at (is_at (cmp key)) p (λ e. with_response (option_map accepted e.response) e) d.keys))) found ∙ ap (option_map (λ (e : Kept V). e.state)) found
+      at (Some y) found =
+          ap (λ p. option_map (λ (e : Kept V). e.state) (lookup (is_at (cmp key)) (changed_at (is_at (cmp key)) p (λ e. with_response (option_map accepted e.response) e) d.keys))) found
+          ∙ ap (option_map (λ (e : Kept V). e.state)) (lookup-set_self (is_at (cmp key)) d.keys y (with_response (option_map accepted y.response) y) found)
 
   pub keys-redelivered : (delivery : Delivery K S) (d : Entries K S V) → keys_of (redelivered cmp delivery d).keys ≡ keys_of d.keys
   keys-redelivered delivery d = at (response_of cmp d delivery.key)

@@ -2,7 +2,7 @@
 use Rattle.std.proofs.Common.{◌≡◌, refl, ap, ◌∙◌, sym, subst, ℕ, ◌+◌, ◌<◌, ◌^◌, Bool, true, false, cond, List, [], ◌∷◌, ◌++◌, Option, None, Some, IfSome, is_some, append-nil, find}
 use Rattle.std.specs.Prelude.{Result, Ok, Err}
 use Rattle.std.specs.Option.{option_map, option_and_then}
-use Rattle.std.specs.Result.{OnOk, IfErr}
+use Rattle.std.specs.Result.{OnOk, OnErr, IfErr}
 use Rattle.std.specs.Ordering.{nat_cmp}
 use Rattle.std.specs.Map.{lookup, set_value, keys_of}
 use Rattle.std.specs.Cmp.{IsEquivalence}
@@ -21,7 +21,8 @@ use Rattle.resolver.specs.declared.opaque.actor.Effect.{Effect}
 use Rattle.resolver.specs.declared.opaque.actor.Effect.TheVariants.{Start, Deliver}
 use Rattle.resolver.specs.Opaque.{Machine, Row, Phase, Asked, Waiting, Judged, Done, Status, Item, quiet, retry, is_asked_by, hand_out, fetch_one, row_of, start_new, start_again, retain, end, Ended, all_called_off, called_off}
 use Rattle.resolver.specs.OpaqueActor.{Kept, staged, phase_in, phase_of, has_cached, Agree, rows_of, row_of as code_row_of, handed_of, machine_with}
-use Rattle.resolver.specs.OpaqueFound.{asked_key, all_kept_called_off, each_called_off, without_each, IsIdle, IsIdlePhase}
+use Rattle.resolver.specs.OpaqueFound.{asked_key, all_kept_called_off, each_called_off, without_each, IsIdle, IsIdlePhase, IsAskedFor, IsAskedPhase}
+use Rattle.resolver.specs.OpaqueStages.{IsAsked, Staged}
 use Rattle.resolver.specs.OpaqueSteps.{onto, Goes}
 use Rattle.resolver.proofs.Mapped.{insert_entry-seen}
 use Rattle.resolver.proofs.Joined.{same_found, rows-found, rows-none, keys-rows, rows-set_demand, rows-set_keys, rows-inserted, head_key, tail_keys}
@@ -48,6 +49,12 @@ module _ {K V S : Type 0} where
   pub quiet_goes : (m : Machine K V S) (before : List (Effect K V S)) → onto before (quiet m) ≡ Some (record { machine = m; effects = before })
   quiet_goes m before = rw append-nil refl
 
+-- a key that is asked for has no delivery in progress
+asked-rests : {V : Type 0} (phase : Phase V) → IsAskedPhase phase → IsIdlePhase phase
+asked-rests (Waiting due) asked = tt
+asked-rests (Asked attempt) asked = tt
+asked-rests (Judged j) asked = asked
+
 module _ {V S : Type 0} where
   -- what holds of the row that is there
   pub at-idle : (o : Option (Row V S)) (P : Row V S → Type 0) → IsIdle o → ((row : Row V S) → o ≡ Some row → IsIdlePhase row.phase → P row) → IfSome o P
@@ -57,6 +64,13 @@ module _ {V S : Type 0} where
   pub idle-row : (o : Option (Row V S)) (row : Row V S) → o ≡ Some row → IsIdlePhase row.phase → IsIdle o
   idle-row o row found idle = rw found idle
 
+  pub asked-idle : (o : Option (Row V S)) → IsAskedFor o → IsIdle o
+  asked-idle None asked = asked
+  asked-idle (Some row) asked = asked-rests row.phase asked
+
+  pub asked-row : (o : Option (Row V S)) (row : Row V S) → o ≡ Some row → IsAskedPhase row.phase → IsAskedFor o
+  asked-row o row found asked = rw found asked
+
   pub row-found : (o : Option (Row V S)) (row : Row V S) (P : Row V S → Type 0) → o ≡ Some row → IfSome o P → P row
   row-found o row P found holds = rw found at holds
 
@@ -65,6 +79,12 @@ module _ {V : Type 0} where
   idle-free stage None response has idle = refl
   idle-free stage (Some number) None has idle = absurd has
   idle-free stage (Some number) (Some r) has idle = absurd idle
+
+  stage-asked : (stage : Stage) (number : Option ℕ) (response : Option (Response V (Unit {0}))) → IsAskedPhase (phase_in stage number response) → IsAsked (Some stage)
+  stage-asked (stages.Asked attempt) number response asked = tt
+  stage-asked (stages.Waiting due) None response asked = asked
+  stage-asked (stages.Waiting due) (Some number) None asked = asked
+  stage-asked (stages.Waiting due) (Some number) (Some r) asked = asked
 
   staged-phase : (stage : Stage) (number : Option ℕ) (response : Option (Response V (Unit {0}))) → number ≡ None → phase_in stage number response ≡ staged stage
   staged-phase stage number response none = rw none refl
@@ -129,6 +149,15 @@ module _ {K V S : Type 0} (n : Names K S) (ts : List (K × List (S × ℕ))) (es
       at : (o : Option (Row V S)) → lookup (same_key n key) (rows_of ts es) ≡ o → IsIdle o → is_some (lookup (same_key n key) es) ≡ true
       at None found idle = absurd idle
       at (Some row) found idle = tracked-at key row found
+
+  pub asked-stage : (key : K) → IsAskedFor (lookup (same_key n key) (rows_of ts es)) → IsAsked (option_map (λ (e : Kept V). e.state) (lookup (same_key n key) es))
+  asked-stage key asked = at (lookup (same_key n key) (rows_of ts es)) refl asked
+    where
+      at : (o : Option (Row V S)) → lookup (same_key n key) (rows_of ts es) ≡ o → IsAskedFor o → IsAsked (option_map (λ (e : Kept V). e.state) (lookup (same_key n key) es))
+      at None found asked = absurd asked
+      at (Some row) found asked =
+          let h = has key row found in
+          subst (λ (p : Option (Kept V)). IsAsked (option_map (λ (e : Kept V). e.state) p)) (sym h.second) (stage-asked h.entry.state h.entry.number h.entry.response (subst (λ r. IsAskedPhase r.phase) h.is asked))
 
   pub idle-asked : (key : K) → IsIdle (lookup (same_key n key) (rows_of ts es)) → is_some (lookup (same_key n key) ts) ≡ true
   idle-asked key idle = at (lookup (same_key n key) (rows_of ts es)) refl idle
@@ -292,6 +321,7 @@ module _ {K V S : Type 0} (n : Names K S) (ts : List (K × List (S × ℕ))) (d 
     pub at_attempt : find (λ r. is_asked_by attempt r.1.phase) m.rows ≡ Some (key, row)
     pub at_key : row_of n m key ≡ Some row
     pub idle : IsIdlePhase row.phase
+    pub asked : IsAskedPhase row.phase
 
   find-keys : (attempt : ℕ) (ts : List (K × List (S × ℕ))) (es : List (K × Kept V)) → keys_of ts ≡ keys_of es
       → option_map (λ r. r.0) (find (λ r. is_asked_by attempt r.1.phase) (rows_of {S = S} ts es)) ≡ asked_key attempt es
@@ -305,10 +335,10 @@ module _ {K V S : Type 0} (n : Names K S) (ts : List (K × List (S × ℕ))) (d 
       at true rest = ap Some (head_key t ts e es same)
       at false rest = rest
 
-  asked-idle : (attempt : ℕ) (phase : Phase V) → is_asked_by attempt phase ≡ true → IsIdlePhase phase
-  asked-idle attempt (Waiting due) is = tt
-  asked-idle attempt (Asked a) is = tt
-  asked-idle attempt (Judged j) is = cc
+  asked-by : (attempt : ℕ) (phase : Phase V) → is_asked_by attempt phase ≡ true → IsAskedPhase phase
+  asked-by attempt (Waiting due) is = cc
+  asked-by attempt (Asked a) is = tt
+  asked-by attempt (Judged j) is = cc
 
   pub nothing-found : (attempt : ℕ) → None ≡ asked_key attempt d.keys → find (λ r. is_asked_by attempt r.1.phase) m.rows ≡ None
   nothing-found attempt none = at (find (λ r. is_asked_by attempt r.1.phase) m.rows) refl (find-keys attempt ts d.keys agree.same ∙ sym none)
@@ -330,9 +360,26 @@ module _ {K V S : Type 0} (n : Names K S) (ts : List (K × List (S × ℕ))) (d 
             row = r.1;
             at_attempt = is ∙ ap (λ k. Some (k, r.1)) same;
             at_key = ap (λ k. lookup (same_key n k) m.rows) (sym same) ∙ here.0;
-            idle = asked-idle attempt r.1.phase here.1;
+            idle = asked-rests r.1.phase (asked-by attempt r.1.phase here.1);
+            asked = asked-by attempt r.1.phase here.1;
           }
 
 pub asked-none : {A : Type 0} (o : Option A) → is_some o ≡ true → None ≡ o → ⊥
 asked-none None asked none = cc
 asked-none (Some x) asked none = cc
+
+module _ {K V S : Type 0} (n : Names K S) (ts : List (K × List (S × ℕ))) (s t : Staged K V S) (key : K) (due : ℕ) (result : Result (Unit {0}) Fault)
+    (ok : OnOk result (t ≡ record s { entries = changed n.key key (with_state (stages.Waiting due)) s.entries })) where
+  -- a key waits, or memory was wanting and nothing changed
+  pub agree-waited : OnErr result (t ≡ s) → Agree n.key ts s.entries.keys → Agree n.key ts t.entries.keys
+  agree-waited err agree = at result ok err
+    where
+      at : (r : Result (Unit {0}) Fault) → OnOk r (t ≡ record s { entries = changed n.key key (with_state (stages.Waiting due)) s.entries }) → OnErr r (t ≡ s) → Agree n.key ts t.entries.keys
+      at (Ok done) ok err = agree-staged n ts s.entries agree 0 0 Ended key (stages.Waiting due) t.entries (ap (λ s. s.entries) ok)
+      at (Err fault) ok err = subst (λ s. Agree n.key ts s.entries.keys) (sym err) agree
+
+  pub waited_goes : (going : Option (Done K V S)) (before : List (Effect K V S)) (delay : ℕ) (status : Status) → IfErr result (λ fault. fault ≡ faults.OutOfMemory)
+      → onto before going ≡ Some (record { machine = machine_with ts (changed n.key key (with_state (stages.Waiting due)) s.entries) s.next_attempt delay status; effects = before })
+      → Goes going before before (machine_with ts t.entries t.next_attempt delay status) result
+  waited_goes going before delay status only goes =
+      goes-told going before before (machine_with ts t.entries t.next_attempt delay status) result (t ≡ record s { entries = changed n.key key (with_state (stages.Waiting due)) s.entries }) ok only (λ told. rw told goes)

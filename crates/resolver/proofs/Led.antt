@@ -425,11 +425,11 @@ module _ {K V : Type 0} {cmp : K → K → Ordering} (o : IsTotalOrder cmp) (law
       at a false is = refl
 
   -- Each entry is found by its key.
-  abbrev AreFound : List (K × Kept V) → List (K × Kept V) → Type 0
+  abbrev pub AreFound : List (K × Kept V) → List (K × Kept V) → Type 0
   AreFound es [] = Unit {0}
   AreFound es (f ∷ fs) = (kept_at cmp es f.0 ≡ Some f) × AreFound es fs
 
-  each_kept : (es : List (K × Kept V)) → IsDistinct (same_in cmp) (keys_of es) → AreFound es es
+  pub each_kept : (es : List (K × Kept V)) → IsDistinct (same_in cmp) (keys_of es) → AreFound es es
   each_kept [] distinct = tt
   each_kept (e ∷ es) distinct =
       (rw (laws.refl e.0) refl, later es (each_kept es (IsDistinct-tail (same_in cmp) e.0 (keys_of es) distinct)) (IsDistinct-head (same_in cmp) e.0 (keys_of es) distinct))

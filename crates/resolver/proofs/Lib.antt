@@ -1,5 +1,6 @@
 pub mod Mapped
 pub mod Led
+pub mod DueFirst
 pub mod Going
 pub mod Running
 pub mod Dues

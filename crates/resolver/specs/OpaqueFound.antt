@@ -9,7 +9,7 @@ use Rattle.resolver_base.specs.declared.root.Delivery.{Delivery}
 use Rattle.resolver_demand.specs.Entries.{Numbered, accepted, redelivered, response_changed}
 use Rattle.resolver.specs.declared.opaque.rows.Stage.{Stage}
 use Rattle.resolver.specs.declared.opaque.actor.Effect.{Effect}
-use Rattle.resolver.specs.Opaque.{Row, Phase, Judged, is_asked_by, called_off, least_due}
+use Rattle.resolver.specs.Opaque.{Row, Phase, Asked, Judged, is_asked_by, called_off, least_due}
 use Rattle.resolver.specs.OpaqueActor.{Kept, phase_of}
 
 module _ {K V : Type 0} where
@@ -50,6 +50,15 @@ IsIdlePhase phase = Unit {0}
 abbrev pub IsIdle : {V S : Type 0} → Option (Row V S) → Type 0
 IsIdle None = ⊥
 IsIdle (Some row) = IsIdlePhase row.phase
+
+-- whether a row is there that is asked for
+abbrev pub IsAskedPhase : {V : Type 0} → Phase V → Type 0
+IsAskedPhase (Asked attempt) = Unit {0}
+IsAskedPhase phase = ⊥
+
+abbrev pub IsAskedFor : {V S : Type 0} → Option (Row V S) → Type 0
+IsAskedFor None = ⊥
+IsAskedFor (Some row) = IsAskedPhase row.phase
 
 module _ {K S V : Type 0} (cmp : K → K → Ordering) where
   -- the cached response is noted to be right, if it is

@@ -1,8 +1,12 @@
 -- The waiting keys that are due.
-use Rattle.std.specs.Prelude.{ℕ, nat_le, List, [], ◌∷◌, if◌then◌else◌}
-use Rattle.resolver.specs.declared.opaque.overdue.Overdue.{Overdue}
+use Rattle.std.specs.Prelude.{ℕ, nat_le, List, [], ◌∷◌, Option, None, Some, if◌then◌else◌}
 use Rattle.resolver.specs.Opaque.{Phase, Waiting}
 use Rattle.resolver.specs.OpaqueActor.{Kept, phase_of}
+
+-- a waiting key, and when it is due
+pub record Overdue (K : Type 0) : Type 0 where
+  pub due : ℕ
+  pub key : K
 
 module _ {K V : Type 0} where
   -- before the others, if it is due
@@ -25,3 +29,8 @@ module _ {K : Type 0} where
   abbrev pub by_due : List (Overdue K) → List (Overdue K)
   by_due [] = []
   by_due (o ∷ os) = placed o (by_due os)
+
+  -- the key of the first
+  abbrev pub first_key : List (Overdue K) → Option K
+  first_key [] = None
+  first_key (o ∷ os) = Some o.key

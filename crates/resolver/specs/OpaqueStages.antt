@@ -1,10 +1,11 @@
 -- The demanded keys by what was done last for them.
-use Rattle.std.specs.Prelude.{◌≡◌, ◌≤◌, ℕ, Bool, false, ◌==◌, List, [], Option, None, Some, find, if◌then◌else◌}
+use Rattle.std.specs.Prelude.{◌≡◌, ◌≤◌, ℕ, Bool, false, ◌==◌, List, [], ◌∷◌, Option, None, Some, filter, find, if◌then◌else◌}
 use Rattle.std.specs.List.Sorted.{IsStrictlySortedBy}
 use Rattle.std.specs.Map.{keys_of, lookup}
 use Rattle.std.specs.BTreeMap.{is_at}
 use Rattle.std.specs.Ordering.{is_eq, nat_cmp}
 use Rattle.std.specs.declared.cmp.Ordering.{Ordering}
+use Rattle.resolver_base.specs.Priorities.{is_of}
 use Rattle.resolver_demand.specs.Entries.{Numbered}
 use Rattle.resolver.specs.declared.opaque.rows.Stage.{Stage}
 use Rattle.resolver.specs.declared.opaque.rows.Stage.TheVariants as stages
@@ -23,6 +24,11 @@ pub record Staged (K V S : Type 0) : Type 0 where
 abbrev pub unstaged : {K V S : Type 0} → (next_attempt : ℕ) → Staged K V S
 unstaged next_attempt = record { entries = record { keys = []; going = []; next = 0 }; next_attempt = next_attempt }
 
+-- the attempt of a key that was asked for last
+abbrev pub attempt_in : Stage → Option ℕ
+attempt_in (stages.Asked attempt) = Some attempt
+attempt_in (stages.Waiting due) = None
+
 -- whether a key stands under this attempt
 abbrev pub stands_under : (attempt : ℕ) → Option Stage → Bool
 stands_under attempt (Some (stages.Asked a)) = attempt == a
@@ -36,6 +42,30 @@ if_under attempt key (stages.Waiting due) = None
 abbrev pub key_under : {K V : Type 0} → (attempt : ℕ) → Option (K × Kept V) → Option K
 key_under attempt None = None
 key_under attempt (Some e) = if_under attempt e.0 e.1.state
+
+-- a key and its due, if it waits
+abbrev pub retry_at : {K : Type 0} → K → Stage → List (ℕ × K)
+retry_at key (stages.Waiting due) = (due, key) ∷ []
+retry_at key (stages.Asked attempt) = []
+
+abbrev pub retry_of : {K V : Type 0} → Option (K × Kept V) → List (ℕ × K)
+retry_of None = []
+retry_of (Some e) = retry_at e.0 e.1.state
+
+-- whether a key, if it waits, has no delivery in progress
+abbrev pub RestsAt : Stage → Option ℕ → Type 0
+RestsAt (stages.Waiting due) number = number ≡ None
+RestsAt (stages.Asked attempt) number = Unit {0}
+
+abbrev pub Rests : {K V : Type 0} → Option (K × Kept V) → Type 0
+Rests None = Unit {0}
+Rests (Some e) = RestsAt e.1.state e.1.number
+
+-- whether a key is there that was asked for last
+abbrev pub IsAsked : Option Stage → Type 0
+IsAsked None = ⊥
+IsAsked (Some (stages.Asked attempt)) = Unit {0}
+IsAsked (Some (stages.Waiting due)) = ⊥
 
 -- a key, if it is equal to this one
 abbrev pub if_same : {K : Type 0} → (K → K → Ordering) → K → Option K → Option K
@@ -54,3 +84,10 @@ module _ {K V : Type 0} (cmp : K → K → Ordering) where
     pub led : (key : K) (attempt : ℕ) → if_same cmp key (lookup (is_at (nat_cmp attempt)) asked) ≡ key_under attempt (kept_at es key)
     -- An attempt that is still to come leads nowhere.
     pub fresh : (attempt : ℕ) → next_attempt ≤ attempt → lookup (is_at (nat_cmp attempt)) asked ≡ None
+
+  -- `retries` has the waiting keys by their dues.
+  pub record AreDue (retries : List (ℕ × K)) (es : List (K × Kept V)) : Type 0 where
+    -- A key, as it is kept, is among them with its due, exactly where it waits.
+    pub due : (key : K) → filter (is_of cmp key) retries ≡ retry_of (kept_at es key)
+    -- A waiting key has no delivery in progress.
+    pub rests : (key : K) → Rests (kept_at es key)

@@ -3,7 +3,6 @@
 //! `Actor` is the machine: it takes inputs with their moments and answers with effects.
 
 mod actor;
-mod overdue;
 mod rows;
 mod stages;
 

@@ -2,14 +2,14 @@
 
 ghost use Rattle.std.specs.Prelude.{◌≡◌, ◌<◌, ◌^◌, ◌++◌, ◌∷◌, [], None, IfErr, IfOk, IfSome, IsSome, OnOk, map};
 ghost use Rattle.std.specs.Map.{keys_of};
-ghost use Rattle.resolver_demand.specs.Entries.{number_of, response_of};
+ghost use Rattle.resolver_demand.specs.Entries.{number_of, response_of, state_of};
 ghost use Rattle.resolver.specs.declared.opaque.actor.Effect.TheVariants.{Deliver};
 ghost use Rattle.resolver.specs.OpaqueActor.{AreCached};
 ghost use Rattle.resolver.specs.OpaqueFound.{IsRefusal, flagged, handed_again};
+ghost use Rattle.resolver.specs.OpaqueStages.{IsAsked};
 ghost use Rattle.resolver.specs.Steps.{stops};
 
-use super::overdue::{by_due, is_any_due};
-use super::rows::{Row, call_off_all, call_off_each, first_due, forget_each, listed};
+use super::rows::{Row, call_off_all, call_off_each, forget_each, listed};
 use super::stages::Stages;
 use crate::ruling::{Ruling, rule_on};
 use resolver_base::base::{Fault, NonEmptyVec, Numbers, Predicate};
@@ -124,7 +124,7 @@ impl<K: Ord + Clone, V: Clone, S: Ord + Clone, Q: Predicate<K, S> + Drop> Actor<
     ghost use Rattle.resolver.specs.Opaque.{opening, start_new, fetch_one, fetch, hand_out, fetched, verdict, does, row_of, next_retry, end, retain, start_again, start_all, waiting_by_due};
     ghost use Rattle.resolver.specs.OpaqueSteps.{Goes, Takes, Runs, answer_of, takes_no_memory};
     ghost use Rattle.resolver.specs.OpaqueInputs.{item_of, event_of, input_of};
-    ghost use Rattle.resolver.specs.OpaqueFound.{IsIdle};
+    ghost use Rattle.resolver.specs.OpaqueFound.{IsAskedFor, IsIdle};
     ghost use Rattle.resolver.specs.OpaqueListed.{listed};
     ghost use Rattle.resolver.specs.OpaqueLaws.{KeepsDemand};
 
@@ -156,8 +156,8 @@ impl<K: Ord + Clone, V: Clone, S: Ord + Clone, Q: Predicate<K, S> + Drop> Actor<
     ///
     /// `OutOfMemory` and `Exhausted` fail the actor for good: each later step answers `Failed` and
     /// changes nothing, as after `End` each answers `Ended`. A verdict that is passed over takes no
-    /// memory. A fetched value and a verdict take time logarithmic in the demanded keys, and
-    /// `RetriesDue` linear time.
+    /// memory. A fetched value, a verdict and each key that `RetriesDue` asks for again take time
+    /// logarithmic in the demanded keys.
     pub fn step(&mut self, input: Input<K, V, S, Q>) -> Result<Vec<Effect<K, V, S>>, Fault>
         requires keys_clone { (x y : K) → K.is_clone x y → y ≡ x }
         requires values_clone { (x y : V) → V.is_clone x y → y ≡ x }
@@ -225,11 +225,11 @@ impl<K: Ord + Clone, V: Clone, S: Ord + Clone, Q: Predicate<K, S> + Drop> Actor<
     }
 
     /// The earliest moment at which a waiting key is due, if a key is waiting. It takes time
-    /// linear in the demanded keys.
+    /// logarithmic in the waiting keys.
     pub fn next_retry(&self) -> Option<u128>
         ensures { result ≡ next_retry self.now.rows }
     {
-        first_due(self.stages.entries())
+        self.stages.next_retry()
     }
 
     fn advance(
@@ -348,10 +348,7 @@ impl<K: Ord + Clone, V: Clone, S: Ord + Clone, Q: Predicate<K, S> + Drop> Actor<
         };
         let key = held.clone()?;
         match value {
-            None => {
-                self.stages.wait(&key, now + self.delay);
-                Ok(())
-            }
+            None => self.stages.wait(&key, now + self.delay),
             Some(value) => self.hand_out(key, value, effects),
         }
     }
@@ -366,7 +363,7 @@ impl<K: Ord + Clone, V: Clone, S: Ord + Clone, Q: Predicate<K, S> + Drop> Actor<
         requires keys_clone { (x y : K) → K.is_clone x y → y ≡ x }
         requires values_clone { (x y : V) → V.is_clone x y → y ≡ x }
         requires subscribers_clone { (x y : S) → S.is_clone x y → y ≡ x }
-        requires idle { IsIdle (row_of (names K.cmp S.cmp) self.old key) }
+        requires asked { IsAskedFor (row_of (names K.cmp S.cmp) self.old key) }
         ensures { IfSome (row_of (names K.cmp S.cmp) self.old key) (λ row.
             Goes (hand_out (names K.cmp S.cmp) self.old key row.subscribers self.old.next_number
             value false) effects.old.items effects.new.items self.new result) }
@@ -419,11 +416,7 @@ impl<K: Ord + Clone, V: Clone, S: Ord + Clone, Q: Predicate<K, S> + Drop> Actor<
                 let delivery = Delivery { key, subscribers };
                 hand_out_again(&mut self.stages, delivery, accepted, effects)
             }
-            Ruling::Retry => {
-                let later = now + self.delay;
-                self.stages.wait(&key, later);
-                Ok(())
-            }
+            Ruling::Retry => self.stages.wait(&key, now + self.delay),
             Ruling::Retire => {
                 self.demand.remove(&key);
                 self.stages.remove(&key);
@@ -440,11 +433,9 @@ impl<K: Ord + Clone, V: Clone, S: Ord + Clone, Q: Predicate<K, S> + Drop> Actor<
         ensures memory { result ≡ Err Fault.OutOfMemory
             → (length (waiting_by_due now self.old.rows) == 0) ≡ false }
     {
-        if !is_any_due(self.stages.entries(), now) {
-            return Ok(());
-        }
-        for one in by_due(self.alloc, self.stages.entries(), now)? {
-            self.start_again(one.key, effects)?;
+        while let Some(first) = self.stages.due_first(now) {
+            let key = first.clone()?;
+            self.start_again(key, effects)?;
         }
         Ok(())
     }
@@ -468,7 +459,7 @@ impl<K: Ord + Clone, V: Clone, S: Ord + Clone, Q: Predicate<K, S> + Drop> Actor<
     {
         call_off_all(self.stages.entries(), effects)?;
         self.demand.clear();
-        self.stages.clear();
+        self.stages.clear(self.alloc);
         self.status = Status::Ended;
         Ok(())
     }
@@ -485,6 +476,7 @@ fn hand_out_again<K: Ord + Clone + Drop, V: Clone + Drop, S: Clone + Drop>(
     requires values_clone { (x y : V) → V.is_clone x y → y ≡ x }
     requires subscribers_clone { (x y : S) → S.is_clone x y → y ≡ x }
     requires cached { IsSome (response_of K.cmp stages.old.entries delivery.key) }
+    requires asked { IsAsked (state_of K.cmp stages.old.entries delivery.key) }
     requires free { number_of K.cmp stages.old.entries delivery.key ≡ None }
     ensures ok { OnOk result (stages.new.entries
         ≡ handed_again K.cmp delivery accepted stages.old.entries) }

@@ -4,7 +4,7 @@ ghost use Rattle.std.specs.Prelude.{◌≡◌, ◌++◌, IfErr, IfOk, OnOk, map}
 ghost use Rattle.resolver_base.specs.declared.base.fault.Fault.TheVariants.{OutOfMemory};
 ghost use Rattle.resolver.specs.Opaque.{called_off};
 ghost use Rattle.resolver.specs.OpaqueActor.{phase_of, rows_of};
-ghost use Rattle.resolver.specs.OpaqueFound.{all_kept_called_off, each_called_off, first_due, without_each};
+ghost use Rattle.resolver.specs.OpaqueFound.{all_kept_called_off, each_called_off, without_each};
 ghost use Rattle.resolver.specs.OpaqueListed.{listed, listed_phase};
 
 use super::actor::Effect;
@@ -98,22 +98,6 @@ pub fn listed_phase<V>(entry: &Entry<V, (), Stage>) -> Phase
         Stage::Waiting { due } => Phase::Waiting { due },
         Stage::Asked { attempt } => Phase::Asked { attempt },
     }
-}
-
-/// The earliest moment at which a waiting key is due.
-pub fn first_due<K: Ord + Drop, V: Drop, S: Drop>(entries: &Keys<K, S, V>) -> Option<u128>
-    ensures { result ≡ first_due entries.now.keys }
-{
-    let mut first: Option<u128> = None;
-    for (_, entry) in entries.iter() {
-        if let Phase::Waiting { due } = listed_phase(entry) {
-            first = match first {
-                Some(other) => Some(other.min(due)),
-                None => Some(due),
-            };
-        }
-    }
-    first
 }
 
 /// Calls off what is being done for each key.

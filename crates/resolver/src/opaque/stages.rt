@@ -1,17 +1,19 @@
 //! The demanded keys of the actor, by what was done last for them.
 
-ghost use Rattle.std.specs.Prelude.{◌≡◌, ◌+◌, ℕ, [], Some, None, false, find, if◌then◌else◌, IfErr, IfOk, IsSome, IsTrue, OnErr, OnOk};
+ghost use Rattle.std.specs.Prelude.{◌≡◌, ◌+◌, ℕ, [], Some, None, false, find, if◌then◌else◌, IfErr, IfOk, IsSome, IsTrue, OnErr, OnOk, option_and_then};
 ghost use Rattle.std.specs.BTreeMap.{is_at};
 ghost use Rattle.std.specs.Map.{keys_of, lookup};
 ghost use Rattle.std.specs.Option.{option_copied};
 ghost use Rattle.std.specs.Ordering.{is_eq, nat_cmp};
 ghost use Rattle.resolver_demand.specs.Entries.{accepted, changed, completed, delivered, inserted, is_accepted, is_tracked, number_of, redelivered, refusal_at, removed, response_changed, response_of, state_of, with_state};
 ghost use Rattle.resolver.specs.declared.opaque.rows.Stage.TheVariants.{Asked, Waiting};
-ghost use Rattle.resolver.specs.OpaqueFound.{asked_key};
-ghost use Rattle.resolver.specs.OpaqueStages.{stands_under, unstaged};
+ghost use Rattle.resolver.specs.OpaqueFound.{asked_key, first_due};
+ghost use Rattle.resolver.specs.OpaqueOverdue.{by_due, due_of, first_key};
+ghost use Rattle.resolver.specs.OpaqueStages.{IsAsked, attempt_in, stands_under, unstaged};
+ghost use Rattle.resolver_base.specs.declared.base.fault.Fault.TheVariants.{OutOfMemory};
 
 use super::rows::{Keys, Phase, Stage, listed_phase};
-use resolver_base::base::{Fault, Numbers};
+use resolver_base::base::{Fault, Numbers, PrioritySet};
 use resolver_base::root::{Delivery, Outcome};
 use resolver_demand::delivery::{Aborted, Completion, Entries};
 use std::alloc::Global;
@@ -27,11 +29,13 @@ pub struct Stages<K: Ord, S, V> {
     entries: Keys<K, S, V>,
     /// Each key that was asked for last, by its attempt.
     asked: BTreeMap<u64, K>,
+    /// Each key that waits, by its due.
+    retries: PrioritySet<K, u128>,
     attempts: Numbers,
 }
 
 impl<K: Ord, S, V> Model for Stages<K, S, V> {
-    ghost use Rattle.resolver.specs.OpaqueStages.{IsLed, Staged};
+    ghost use Rattle.resolver.specs.OpaqueStages.{AreDue, IsLed, Staged};
 
     ghost Value = { Staged K V S };
 
@@ -40,7 +44,8 @@ impl<K: Ord, S, V> Model for Stages<K, S, V> {
       next_attempt = a.attempts;
     } };
 
-    ghost invariant = { λ a. IsLed K.cmp a.attempts a.asked.entries a.entries.keys };
+    ghost invariant = { λ a. IsLed K.cmp a.attempts a.asked.entries a.entries.keys
+        × AreDue K.cmp a.retries a.entries.keys };
 }
 
 impl<K: Ord + Drop, S: Drop, V: Drop> Stages<K, S, V> {
@@ -51,6 +56,7 @@ impl<K: Ord + Drop, S: Drop, V: Drop> Stages<K, S, V> {
         Stages {
             entries: Entries::new(alloc),
             asked: BTreeMap::new(alloc),
+            retries: PrioritySet::new(alloc),
             attempts,
         }
     }
@@ -73,6 +79,22 @@ impl<K: Ord + Drop, S: Drop, V: Drop> Stages<K, S, V> {
             Phase::Waiting { .. } => None,
             Phase::Judged { .. } => None,
         }
+    }
+
+    /// The earliest moment at which a waiting key is due.
+    pub fn next_retry(&self) -> Option<u128>
+        ensures { result ≡ first_due self.now.entries.keys }
+    {
+        let (due, _) = self.retries.iter().next()?;
+        Some(*due)
+    }
+
+    /// The key that is due first, if one is due: of two that are due together the smaller one.
+    pub fn due_first(&self, now: u128) -> Option<&K>
+        ensures { option_copied result ≡ first_key (by_due (due_of now self.now.entries.keys)) }
+    {
+        let (due, key) = self.retries.iter().next()?;
+        if *due <= now { Some(key) } else { None }
     }
 
     /// A key that isn't there is asked for by the next attempt, which is answered. `Exhausted` is
@@ -123,19 +145,36 @@ impl<K: Ord + Drop, S: Drop, V: Drop> Stages<K, S, V> {
         let led = key.clone()?;
         self.asked.insert(attempt, led)?;
         leave(&mut self.asked, &self.entries, key);
+        self.retries.remove(key);
         self.entries.set_state(key, Stage::Asked { attempt });
         self.attempts.take();
         Ok(attempt)
     }
 
-    /// A key, if it is there, waits until this moment.
-    pub fn wait(&mut self, key: &K, due: u128)
-        ensures { self.new ≡ record self.old {
+    /// A key that was asked for last waits until this moment. Where memory is wanting, nothing
+    /// changes.
+    pub fn wait(&mut self, key: &K, due: u128) -> Result<(), Fault>
+    where
+        K: Clone,
+        requires keys_clone { (x y : K) → K.is_clone x y → y ≡ x }
+        requires asked { IsAsked (state_of K.cmp self.old.entries key.now) }
+        requires idle { number_of K.cmp self.old.entries key.now ≡ None }
+        ensures ok { OnOk result (self.new ≡ record self.old {
           entries = changed K.cmp key.now (with_state (Waiting due)) self.old.entries;
-        } }
+        }) }
+        ensures err { OnErr result (self.new ≡ self.old) }
+        ensures only { IfErr result (λ fault. fault ≡ OutOfMemory) }
     {
+        let Some(attempt) = attempt_of(&self.entries, key) else {
+            unreachable!()
+        };
+        let Some(held) = self.asked.get(&attempt) else {
+            unreachable!()
+        };
+        self.retries.put(held.clone()?, due)?;
         leave(&mut self.asked, &self.entries, key);
         self.entries.set_state(key, Stage::Waiting { due });
+        Ok(())
     }
 
     /// Lets a key go. Its delivery in progress stays open, and is canceled.
@@ -143,22 +182,25 @@ impl<K: Ord + Drop, S: Drop, V: Drop> Stages<K, S, V> {
         ensures { self.new ≡ record self.old { entries = removed K.cmp key.now self.old.entries } }
     {
         leave(&mut self.asked, &self.entries, key);
+        self.retries.remove(key);
         self.entries.remove(key);
     }
 
     /// Lets all keys go, and closes all deliveries. Numbers and attempts go on.
-    pub fn clear(&mut self)
+    pub fn clear(&mut self, alloc: Global)
         ensures { self.new ≡ record self.old {
           entries = record self.old.entries { keys = []; going = [] };
         } }
     {
         self.asked.clear();
+        self.retries = PrioritySet::new(alloc);
         self.entries.clear();
     }
 
     /// Begins a delivery of a new value, as the entries do.
     pub fn deliver(&mut self, delivery: Delivery<K, S>, value: V) -> Result<u64, Fault>
         requires tracked { IsTrue (is_tracked K.cmp self.old.entries delivery.key) }
+        requires asked { IsAsked (state_of K.cmp self.old.entries delivery.key) }
         requires idle { number_of K.cmp self.old.entries delivery.key ≡ None }
         ensures number { IfOk result (λ number. number ≡ self.old.entries.next) }
         ensures ok { OnOk result (self.new ≡ record self.old {
@@ -173,6 +215,7 @@ impl<K: Ord + Drop, S: Drop, V: Drop> Stages<K, S, V> {
     /// Begins a delivery of the cached value once more, as the entries do.
     pub fn redeliver(&mut self, delivery: Delivery<K, S>) -> Result<u64, Fault>
         requires cached { IsSome (response_of K.cmp self.old.entries delivery.key) }
+        requires asked { IsAsked (state_of K.cmp self.old.entries delivery.key) }
         requires idle { number_of K.cmp self.old.entries delivery.key ≡ None }
         ensures number { IfOk result (λ number. number ≡ self.old.entries.next) }
         ensures ok { OnOk result (self.new ≡ record self.old {
@@ -202,6 +245,8 @@ impl<K: Ord + Drop, S: Drop, V: Drop> Stages<K, S, V> {
     ) -> Result<Completion<K, S, ()>, Aborted>
         ensures answer { (result, self.new.entries)
             ≡ completed K.cmp self.old.entries number verdict }
+        ensures asked { IfOk result (λ c. c.canceled ≡ false
+            → IsAsked (state_of K.cmp self.new.entries c.delivery.key)) }
         ensures attempts { self.new.next_attempt ≡ self.old.next_attempt }
     {
         self.entries.completed(number, verdict)
@@ -218,7 +263,17 @@ fn leave<K: Ord + Drop, S: Drop, V: Drop>(
         ≡ if stands_under attempt (state_of K.cmp entries.now key.now) then None
         else lookup (is_at (nat_cmp attempt)) asked.old.entries }
 {
-    if let Some(Stage::Asked { attempt }) = entries.state(key) {
-        asked.remove(attempt);
+    if let Some(attempt) = attempt_of(entries, key) {
+        asked.remove(&attempt);
+    }
+}
+
+/// The attempt under which a key stands.
+fn attempt_of<K: Ord + Drop, S: Drop, V: Drop>(entries: &Keys<K, S, V>, key: &K) -> Option<u64>
+    ensures { result ≡ option_and_then attempt_in (state_of K.cmp entries.now key.now) }
+{
+    match entries.state(key)? {
+        Stage::Asked { attempt } => Some(*attempt),
+        Stage::Waiting { .. } => None,
     }
 }

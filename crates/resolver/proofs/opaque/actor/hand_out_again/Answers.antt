@@ -1,7 +1,7 @@
 use Rattle.std.proofs.Common.{None, ◌≡◌, ◌∙◌, ap, Some, ◌++◌, ◌∷◌, [], subst}
 use Rattle.resolver_demand.specs.Entries.{response_of}
 use Rattle.resolver.specs.OpaqueFound.{flagged}
-use Rattle.resolver.proofs.Closing.{keys-flagged, cached-flagged, response-flagged, number-flagged, keys-redelivered, cached-redelivered, some-is, holds-at, some-none, some-same, next-flagged, told-same}
+use Rattle.resolver.proofs.Closing.{keys-flagged, cached-flagged, response-flagged, number-flagged, state-flagged, keys-redelivered, cached-redelivered, some-is, holds-at, some-none, some-same, next-flagged, told-same}
 use Rattle.resolver.proofs.opaque.actor.hand_out_again.Goals as goal
 
 pub unreachable-requires : goal.unreachable-requires
@@ -9,6 +9,10 @@ unreachable-requires g c =
     let r = some-is (response_of g.K.Ord.cmp c.args.stages.now.entries c.args.delivery.key) c.requires.cached in
     let there = response-flagged g.K.Ord.cmp c.args.accepted c.args.delivery.key c.args.stages.now.entries r.0 r.1 in
     some-none _ _ there (subst (λ d. None ≡ response_of g.K.Ord.cmp d c.args.delivery.key) (c.entries.ensures ∙ ap (λ s. s.entries) c.note_accepted.ensures) c.in_default.ensures)
+
+pub redeliver-requires-clause-asked : goal.redeliver-requires-clause-asked
+redeliver-requires-clause-asked g c =
+    rw (c.note_accepted.ensures, state-flagged g.K.Ord.cmp c.args.accepted c.args.delivery.key c.args.stages.now.entries) c.requires.asked
 
 pub redeliver-requires-clause-idle : goal.redeliver-requires-clause-idle
 redeliver-requires-clause-idle g c =

@@ -4,7 +4,8 @@ use Rattle.resolver_base.specs.Names.{names}
 use Rattle.resolver_demand.specs.Entries.{is_accepted}
 use Rattle.resolver.specs.OpaqueActor.{status_of}
 use Rattle.resolver.specs.Verdicts.{ruling}
-use Rattle.resolver.proofs.Closing.{live, aborted_goes, canceled_goes, was-open, response-left, number-left, agree-left, retire_goes, retry_goes, served_goes, agree-gone, agree-served, agree-serve, agree-retry, serve_result}
+use Rattle.resolver.proofs.Closing.{live, aborted_goes, canceled_goes, was-open, response-left, number-left, agree-left, retire_goes, retry_goes, served_goes, agree-gone, agree-served, agree-serve, serve_result}
+use Rattle.resolver.proofs.Going.{agree-waited, waited_goes}
 use Rattle.resolver.proofs.opaque.actor.Actor.verdict.Goals as goal
 
 pub returns-in_default-clause-goes : goal.returns-in_default-clause-goes
@@ -58,11 +59,23 @@ invariant_of-self-in-Serve-1 g c =
     let rest = sym c.in-Some.is ∙ c.in_ok-subscribers-in-Serve.ensures.rest in
     record { delay = c.self.invariant.delay; agree = agree-serve (names g.K.Ord.cmp g.S.Ord.cmp) c.self.inside.demand c.self.inside.stages.entries c.self.invariant.agree c.self.inside.stages.next_attempt c.self.inside.delay (status_of c.self.inside.status) c.args.now c.args.number c.args.outcome c.in-Ok.completion c.completed.new.self.entries l c.remove_delivered.new.self c.hand_out_again.new.stages.entries c.in-Some.subscribers c.in_ok-subscribers-in-Serve.ensures.ok rest c.hand_out_again.ensures.same c.hand_out_again.ensures.cached }
 
+pub hand_out_again-requires-clause-asked : goal.hand_out_again-requires-clause-asked
+hand_out_again-requires-clause-asked g c = (rw c.in-Ok.is at c.completed.ensures.asked) c.if-completion.false
+
+pub wait-requires-clause-asked : goal.wait-requires-clause-asked
+wait-requires-clause-asked g c = (rw c.in-Ok.is at c.completed.ensures.asked) c.if-completion.false
+
+pub wait-requires-clause-idle : goal.wait-requires-clause-idle
+wait-requires-clause-idle g c =
+    let done = rw c.in-Ok.is at c.completed.ensures.answer in
+    let l = live (names g.K.Ord.cmp g.S.Ord.cmp) c.self.inside.demand c.self.inside.stages.entries c.self.invariant.agree c.self.inside.stages.next_attempt c.self.inside.delay (status_of c.self.inside.status) c.args.now c.args.number c.args.outcome c.completed.new.self.entries c.in-Ok.completion done c.if-completion.false in
+    number-left (names g.K.Ord.cmp g.S.Ord.cmp) c.self.inside.demand c.self.inside.stages.entries c.self.invariant.agree c.self.inside.stages.next_attempt c.self.inside.delay (status_of c.self.inside.status) c.args.now c.args.number c.args.outcome c.in-Ok.completion c.completed.new.self.entries l
+
 pub invariant_of-self-in-Retry-1 : goal.invariant_of-self-in-Retry-1
 invariant_of-self-in-Retry-1 g c =
     let done = rw c.in-Ok.is at c.completed.ensures.answer in
     let l = live (names g.K.Ord.cmp g.S.Ord.cmp) c.self.inside.demand c.self.inside.stages.entries c.self.invariant.agree c.self.inside.stages.next_attempt c.self.inside.delay (status_of c.self.inside.status) c.args.now c.args.number c.args.outcome c.completed.new.self.entries c.in-Ok.completion done c.if-completion.false in
-    record { delay = c.self.invariant.delay; agree = agree-retry (names g.K.Ord.cmp g.S.Ord.cmp) c.self.inside.demand c.self.inside.stages.entries c.self.invariant.agree c.self.inside.stages.next_attempt c.self.inside.delay (status_of c.self.inside.status) c.args.now c.args.number c.args.outcome c.in-Ok.completion c.completed.new.self.entries l c.wait.new.self.entries _ (ap (λ s. s.entries) c.wait.ensures) }
+    record { delay = c.self.invariant.delay; agree = agree-waited (names g.K.Ord.cmp g.S.Ord.cmp) c.self.inside.demand c.completed.new.self c.wait.new.self c.in-Ok.completion.delivery.key _ c.wait.result c.wait.ensures.ok c.wait.ensures.err (agree-left (names g.K.Ord.cmp g.S.Ord.cmp) c.self.inside.demand c.self.inside.stages.entries c.self.invariant.agree c.self.inside.stages.next_attempt c.self.inside.delay (status_of c.self.inside.status) c.args.now c.args.number c.args.outcome c.in-Ok.completion c.completed.new.self.entries l) }
 
 pub invariant_of-self-in-Retire-1 : goal.invariant_of-self-in-Retire-1
 invariant_of-self-in-Retire-1 g c =
@@ -87,7 +100,13 @@ pub returns-in-Retry-clause-goes : goal.returns-in-Retry-clause-goes
 returns-in-Retry-clause-goes g c =
     let done = rw c.in-Ok.is at c.completed.ensures.answer in
     let l = live (names g.K.Ord.cmp g.S.Ord.cmp) c.self.inside.demand c.self.inside.stages.entries c.self.invariant.agree c.self.inside.stages.next_attempt c.self.inside.delay (status_of c.self.inside.status) c.args.now c.args.number c.args.outcome c.completed.new.self.entries c.in-Ok.completion done c.if-completion.false in
-    rw (← c.self.view_is, c.wait.ensures, c.completed.ensures.attempts) (retry_goes (names g.K.Ord.cmp g.S.Ord.cmp) c.self.inside.demand c.self.inside.stages.entries c.self.invariant.agree c.self.inside.stages.next_attempt c.self.inside.delay (status_of c.self.inside.status) c.args.now c.args.number c.args.outcome c.in-Ok.completion c.completed.new.self.entries l _ c.args.effects.now.items refl (sym c.in-Retry.is ∙ (c.rule_on.ensures ∙ ap (λ b. ruling b c.args.outcome) (c.response_accepted.ensures ∙ ap (λ d. is_accepted g.K.Ord.cmp d c.in-Ok.completion.delivery.key) c.entries.ensures))))
+    rw (← c.self.view_is)
+    (waited_goes (names g.K.Ord.cmp g.S.Ord.cmp) c.self.inside.demand c.completed.new.self c.wait.new.self c.in-Ok.completion.delivery.key _ c.wait.result c.wait.ensures.ok _ c.args.effects.now.items c.self.inside.delay (status_of c.self.inside.status) c.wait.ensures.only
+    (rw c.completed.ensures.attempts (retry_goes (names g.K.Ord.cmp g.S.Ord.cmp) c.self.inside.demand c.self.inside.stages.entries c.self.invariant.agree c.self.inside.stages.next_attempt c.self.inside.delay (status_of c.self.inside.status) c.args.now c.args.number c.args.outcome c.in-Ok.completion c.completed.new.self.entries l _ c.args.effects.now.items refl (sym c.in-Retry.is ∙ (c.rule_on.ensures ∙ ap (λ b. ruling b c.args.outcome) (c.response_accepted.ensures ∙ ap (λ d. is_accepted g.K.Ord.cmp d c.in-Ok.completion.delivery.key) c.entries.ensures))))))
+
+pub returns-in-Retry-clause-memory : goal.returns-in-Retry-clause-memory
+returns-in-Retry-clause-memory g c = λ wants.
+    rw (← c.self.view_is) (was-open (names g.K.Ord.cmp g.S.Ord.cmp) c.self.inside.demand c.self.inside.stages.entries c.self.invariant.agree c.self.inside.stages.next_attempt c.self.inside.delay (status_of c.self.inside.status) c.args.now c.args.number c.args.outcome c.completed.new.self.entries c.in-Ok.completion (rw c.in-Ok.is at c.completed.ensures.answer))
 
 pub returns-in-Retire-clause-goes : goal.returns-in-Retire-clause-goes
 returns-in-Retire-clause-goes g c =
