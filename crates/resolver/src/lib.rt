@@ -8,7 +8,8 @@
 
 pub use resolver_base::base;
 pub use resolver_base::root::{Delivery, Fetch, Outcome, Resolution};
-pub use resolver_demand::{delivery, ingress, mailbox, subscribers};
+pub use resolver_demand::{delivery, ingress, subscribers};
+pub use resolver_mailbox::mailbox;
 
 pub mod laws;
 pub mod opaque;

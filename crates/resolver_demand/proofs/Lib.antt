@@ -6,7 +6,3 @@ pub mod Queue
 pub mod Pruned
 pub mod Drained
 pub mod Fetched
-pub mod Calls
-pub mod Desks
-pub mod Counts
-pub mod Agreeing

@@ -2,10 +2,9 @@
 //!
 //! `ingress::FetchKey` is a fetch of one key for its subscribers, `ingress::Pending` is what waits
 //! while a mailbox is full, and `subscribers::Tracker` is the demand: each key with the
-//! subscribers that wait for it. `mailbox::Desk` holds what callers leave for a resolver.
+//! subscribers that wait for it. `delivery::Entries` holds what was handed out and is judged.
 #![tactic(auto)]
 
 pub mod delivery;
 pub mod ingress;
-pub mod mailbox;
 pub mod subscribers;

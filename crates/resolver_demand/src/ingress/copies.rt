@@ -1,4 +1,4 @@
-//! Messages that are copied for a book.
+//! Messages that are copied.
 
 ghost use Rattle.std.specs.Prelude.{◌≡◌, map, IfOk};
 ghost use Rattle.resolver_demand.specs.Backlog.{item_of, told_of};
@@ -22,8 +22,8 @@ impl<K: Clone + Drop, S: Clone + Drop, M: Metadata + Drop> FetchKey<K, S, M> {
 }
 
 impl<K: Clone + Drop, S: Clone + Drop, M: Metadata + Drop, Q: Clone + Drop> Message<K, S, M, Q> {
-    /// The same again.
-    pub(crate) fn copy(&self, alloc: Global) -> Result<Self, AllocError>
+    /// The same again, which takes time and memory in proportion to the message.
+    pub fn copy(&self, alloc: Global) -> Result<Self, AllocError>
         requires keys_clone { (x y : K) → K.is_clone x y → y ≡ x }
         requires subscribers_clone { (x y : S) → S.is_clone x y → y ≡ x }
         requires tests_clone { (x y : Q) → Q.is_clone x y → y ≡ x }

@@ -141,8 +141,9 @@ impl<
         }
     }
 
-    /// Takes the first message that waits: a test, or all fetches as one batch. It takes no memory.
-    pub(crate) fn pop(&mut self) -> Option<Message<K, S, M, Q>>
+    /// Takes the first message that waits, if any does: a test, or all fetches as one batch. It takes
+    /// no memory.
+    pub fn pop(&mut self) -> Option<Message<K, S, M, Q>>
         ensures first { map told_of (option_to_list result) ≡ take 1 (waiting self.old) }
         ensures rest { self.new ≡ behind_first self.old }
     {

@@ -1,5 +1,0 @@
-use Rattle.resolver_demand.proofs.Agreeing.{closes-at}
-use Rattle.resolver_demand.proofs.mailbox.agreeing.has_close.Goals as goal
-
-pub returns-in-Close : goal.returns-in-Close
-returns-in-Close g c = λ found. closes-at c.args.book.now c.loop-entry.entry-index c.entry-item.result c.loop-entry-test.true c.entry-item.is c.in-Close.is

@@ -1,0 +1,4 @@
+pub mod Calls
+pub mod Desks
+pub mod Counts
+pub mod Agreeing

@@ -1,0 +1,8 @@
+//! Where callers leave what they ask of a resolver.
+//!
+//! `mailbox::Desk` holds what was left, and merges what comes while there is no room for more. A
+//! mailbox is a desk under one lock, between any number of `mailbox::Sender`s and one
+//! `mailbox::Receiver`.
+#![tactic(auto)]
+
+pub mod mailbox;

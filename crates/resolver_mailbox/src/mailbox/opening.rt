@@ -1,0 +1,116 @@
+//! Mailboxes that are opened.
+
+ghost use Rattle.std.specs.Prelude.{◌≡◌, ◌<◌, [], false, true, None, IfOk, IfErr};
+ghost use Rattle.resolver_base.specs.declared.base.fault.Fault.TheVariants.{OutOfMemory};
+
+use crate::mailbox::counted::{Counted, Totals};
+use crate::mailbox::desk::Desk;
+use crate::mailbox::naming::{Naming, Pages, Puts, Takes, Unrecorded};
+use crate::mailbox::receiver::Receiver;
+use crate::mailbox::sender::{Sender, Shared};
+use crate::mailbox::taken::Taken;
+use futures::task::Source;
+use resolver_base::base::{Faithful, Fault, Predicate};
+use resolver_demand::ingress::Metadata;
+use std::alloc::Global;
+use std::hash::Hash;
+use std::sync::{Arc, Mutex};
+
+/// A mailbox with room for this many ready messages. Takes the memory for them.
+pub fn new<
+    K: Ord + Hash + Faithful + Drop,
+    S: Ord + Faithful + Drop,
+    M: Metadata + Drop,
+    Q: Predicate<K, S> + Faithful + Drop,
+    R: Copy,
+>(
+    rt: R,
+    alloc: Global,
+    capacity: usize,
+) -> Result<
+    (
+        Sender<K, S, M, Q, Unrecorded, R>,
+        Receiver<K, S, M, Q, Unrecorded, R>,
+    ),
+    Fault,
+>
+    requires { 0 < capacity }
+    ensures share { IfOk result (λ ends. ends.0 ≡ None) }
+    ensures taken { IfOk result (λ ends. ends.1.taken ≡ []) }
+    ensures only { IfErr result (λ fault. fault ≡ OutOfMemory) }
+{
+    let desk = Desk::new(alloc, capacity)?;
+    let state = Counted::unrecorded(desk);
+    ends(rt, alloc, state, Taken::unrecorded(alloc))
+}
+
+/// The same, with a book of the calls. Its puts and takes are counted in these two ledgers, which
+/// `N` names.
+pub fn recorded<
+    K: Ord + Hash + Faithful + Drop,
+    S: Ord + Faithful + Drop,
+    M: Metadata + Drop,
+    Q: Predicate<K, S> + Faithful + Drop,
+    N: Naming,
+    R: Copy,
+>(
+    rt: R,
+    alloc: Global,
+    pages: Pages,
+    capacity: usize,
+) -> Result<(Sender<K, S, M, Q, N, R>, Receiver<K, S, M, Q, N, R>), Fault>
+    requires some { 0 < capacity }
+    requires recorded { N.is_recorded ≡ true }
+    requires puts { pages.puts.name ≡ N.puts }
+    requires takes { pages.takes.name ≡ N.takes }
+    ensures share { IfOk result (λ ends. ends.0 ≡ None) }
+    ensures taken { IfOk result (λ ends. ends.1.taken ≡ []) }
+    ensures only { IfErr result (λ fault. fault ≡ OutOfMemory) }
+{
+    let Pages { puts, takes } = pages;
+    let (puts, spare) = puts.open::<Puts<N>>();
+    let (takes, part) = takes.open::<Takes<N>>();
+    let desk = Desk::recorded(alloc, capacity)?;
+    let totals = Totals { puts, takes, spare };
+    let state = Counted::recorded(desk, totals);
+    ends(rt, alloc, state, Taken::new(alloc, part))
+}
+
+/// The first handle and the receiver of a mailbox of which nothing was taken.
+fn ends<
+    K: Ord + Hash + Faithful + Drop,
+    S: Ord + Faithful + Drop,
+    M: Metadata + Drop,
+    Q: Predicate<K, S> + Faithful + Drop,
+    N: Naming,
+    R: Copy,
+>(
+    rt: R,
+    alloc: Global,
+    state: Counted<K, S, M, Q, N>,
+    taken: Taken<K, S, M, Q, N>,
+) -> Result<(Sender<K, S, M, Q, N, R>, Receiver<K, S, M, Q, N, R>), Fault>
+    requires { taken ≡ [] }
+    ensures share { IfOk result (λ ends. ends.0 ≡ None) }
+    ensures taken { IfOk result (λ ends. ends.1.taken ≡ []) }
+    ensures only { IfErr result (λ fault. fault ≡ OutOfMemory) }
+{
+    let shared = Shared {
+        arrived: Source::new(),
+        state: Mutex::new(state),
+    };
+    let shared = Arc::new(alloc, shared)?;
+    let sender = Sender {
+        rt,
+        alloc,
+        shared: Arc::try_clone(&shared)?,
+        share: None,
+    };
+    let receiver = Receiver {
+        rt,
+        alloc,
+        shared,
+        taken,
+    };
+    Ok((sender, receiver))
+}

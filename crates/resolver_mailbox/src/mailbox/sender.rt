@@ -1,0 +1,155 @@
+//! A handle that puts messages.
+
+ghost use Rattle.std.specs.Prelude.{◌≡◌, ◌≢◌, false, true, None, Ok, IfOk, IfErr, IfSome, OnErr};
+ghost use Rattle.std.specs.Option.{option_copied, option_map};
+ghost use Rattle.resolver_base.specs.declared.base.fault.Fault.TheVariants.{Exhausted, OutOfMemory};
+ghost use Rattle.resolver_base.specs.declared.base.feedback.Feedback.TheVariants.{Closed};
+ghost use Rattle.resolver_demand.specs.Backlog.{told_of};
+ghost use Rattle.resolver_mailbox.specs.Shares.{IsAdded, marked};
+
+use crate::mailbox::counted::Counted;
+use crate::mailbox::naming::Naming;
+use crate::mailbox::share::Share;
+use futures::task::Source;
+use resolver_base::base::{Faithful, Fault, Feedback, Predicate};
+use resolver_demand::ingress::{Message, Metadata};
+use std::alloc::{AllocError, Global};
+use std::hash::Hash;
+use std::marker::Model;
+use std::sync::{Arc, Mutex, Wait};
+
+/// What senders and receiver have in common: a desk under one lock, and where a message or a close
+/// is awaited.
+#[derive(Drop)]
+pub(super) struct Shared<K: Ord + Hash, S: Ord, M: Metadata, Q: Predicate<K, S>, N: Naming> {
+    pub(super) arrived: Source,
+    pub(super) state: Mutex<Counted<K, S, M, Q, N>>,
+}
+
+impl<
+    K: Ord + Hash + Faithful + Drop,
+    S: Ord + Faithful + Drop,
+    M: Metadata + Drop,
+    Q: Predicate<K, S> + Faithful + Drop,
+    N: Naming,
+> Shared<K, S, M, Q, N> {
+    /// Closes the desk, and wakes who waits once the lock is free.
+    pub(super) fn close<R: Wait>(&self, rt: &R) {
+        let mut guard = self.state.lock(rt);
+        let state = &mut *guard;
+        state.close();
+        let woken = state.waker.take();
+        drop(guard);
+        drop(woken);
+    }
+}
+
+/// A handle of a mailbox, which puts messages. Any number of them may be used at once, each by its
+/// own thread.
+///
+/// Contracts see its share, or none. Dropping a handle closes nothing.
+#[derive(Drop)]
+pub struct Sender<K: Ord + Hash, S: Ord, M: Metadata, Q: Predicate<K, S>, N: Naming, R> {
+    pub(super) rt: R,
+    pub(super) alloc: Global,
+    pub(super) shared: Arc<Shared<K, S, M, Q, N>>,
+    pub(super) share: Option<Share<K, S, M, Q, N>>,
+}
+
+impl<K: Ord + Hash, S: Ord, M: Metadata, Q: Predicate<K, S>, N: Naming, R> Model
+    for Sender<K, S, M, Q, N, R> {
+    ghost use Rattle.std.specs.Prelude.{Option};
+    ghost use Rattle.resolver_mailbox.specs.Shares.{Share};
+
+    ghost Value = { Option (Share K S M Q) };
+
+    ghost view = { λ a. a.share };
+}
+
+impl<K: Ord + Hash, S: Ord, M: Metadata, Q: Predicate<K, S>, N: Naming, R> Sender<
+    K,
+    S,
+    M,
+    Q,
+    N,
+    R,
+> {
+    /// What this handle has put. There is none in a mailbox that isn't recorded, and before the
+    /// first put.
+    pub fn share(&self) -> Option<&Share<K, S, M, Q, N>>
+        ensures { option_copied result ≡ self.now }
+    {
+        self.share.as_ref()
+    }
+}
+
+impl<K: Ord + Hash, S: Ord, M: Metadata, Q: Predicate<K, S>, N: Naming, R: Copy> Sender<
+    K,
+    S,
+    M,
+    Q,
+    N,
+    R,
+> {
+    /// A new handle of the same mailbox, without a share.
+    pub fn clone(&self) -> Result<Self, AllocError>
+        ensures { IfOk result (λ handle. handle ≡ None) }
+    {
+        Ok(Sender {
+            rt: self.rt,
+            alloc: self.alloc,
+            shared: Arc::try_clone(&self.shared)?,
+            share: None,
+        })
+    }
+}
+
+impl<
+    K: Ord + Hash + Faithful + Drop,
+    S: Ord + Faithful + Drop,
+    M: Metadata + Drop,
+    Q: Predicate<K, S> + Faithful + Drop,
+    N: Naming,
+    R: Wait,
+> Sender<K, S, M, Q, N, R> {
+    /// Puts a message: in the ready list where it has room (Ok), else with what waits (Backoff). A
+    /// closed mailbox takes none (Closed). It waits for the mailbox's lock.
+    ///
+    /// In a recorded mailbox a message that is put goes last in this handle's share; the first one
+    /// numbers the handle. Once the share is marked, Closed is the only answer. Where memory is
+    /// wanting (`OutOfMemory`), or a number for the handle (`Exhausted`), nothing changes and the
+    /// message is dropped.
+    pub fn enqueue(&mut self, message: Message<K, S, M, Q>) -> Result<Feedback, Fault>
+        ensures added { N.is_recorded ≡ true → IfOk result (λ feedback. feedback ≢ Closed
+            → IsAdded (told_of message) self.old self.new) }
+        ensures unrecorded { N.is_recorded ≡ false → IfOk result (λ feedback. feedback ≢ Closed
+            → self.new ≡ self.old) }
+        ensures closed { IfOk result (λ feedback. feedback ≡ Closed
+            → self.new ≡ option_map marked self.old) }
+        ensures stays { IfSome self.old (λ share. share.is_closed ≡ true → result ≡ Ok Closed) }
+        ensures err { OnErr result (self.new ≡ self.old) }
+        ensures only { IfErr result (λ fault. fault ≢ OutOfMemory → fault ≡ Exhausted) }
+        ensures exhausted { IfErr result (λ fault. fault ≡ Exhausted
+            → (N.is_recorded ≡ true) × (self.old ≡ None)) }
+    {
+        if let Some(share) = &self.share {
+            if share.is_closed() {
+                return Ok(Feedback::Closed);
+            }
+        }
+        let mut guard = self.shared.state.lock(&self.rt);
+        let state = &mut *guard;
+        let answer = state.put(self.alloc, &mut self.share, message);
+        let woken = state.waker.take();
+        drop(guard);
+        drop(woken);
+        answer
+    }
+
+    /// Closes the mailbox, for good. What waits can still be taken. The share stays as it is.
+    pub fn close(&mut self)
+        ensures { self.new ≡ self.old }
+    {
+        self.shared.close(&self.rt);
+    }
+}

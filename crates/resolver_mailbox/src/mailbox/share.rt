@@ -1,0 +1,156 @@
+//! What one handle has put.
+
+ghost use Rattle.std.specs.Prelude.{◌≡◌, ◌≢◌, ◌≤◌, ◌<◌, ◌+◌, ◌^◌, ◌-◌, false, true, is_some, map, None, Some, IfOk, IfErr, OnOk, OnErr};
+ghost use Rattle.resolver_base.specs.declared.base.fault.Fault.TheVariants.{Exhausted, OutOfMemory};
+ghost use Rattle.resolver_base.specs.Names.{names};
+ghost use Rattle.resolver_demand.specs.Backlog.{told_of};
+ghost use Rattle.resolver_mailbox.specs.Desk.{desk_put, feedback_of};
+ghost use Rattle.resolver_mailbox.specs.Shares.{first_share, marked, numbered, with_message};
+
+use crate::mailbox::desk::Desk;
+use crate::mailbox::naming::{Names, Puts};
+use resolver_base::base::{Faithful, Fault, Feedback, Predicate};
+use resolver_demand::ingress::{Message, Metadata};
+use std::alloc::Global;
+use std::hash::Hash;
+use std::marker::Model;
+use std::sync::ledger;
+
+/// What one handle of a recorded mailbox has put, in its order, and whether it was answered Closed
+/// since.
+///
+/// Contracts see all of it. By its type it has a part in the total of its mailbox's puts, which is
+/// the number of its messages.
+#[derive(Drop)]
+pub struct Share<K, S, M, Q, N: Names> {
+    handle: u64,
+    puts: Vec<Message<K, S, M, Q>>,
+    is_closed: bool,
+    part: ledger::Share<Puts<N>>,
+}
+
+impl<K, S, M, Q, N: Names> Model for Share<K, S, M, Q, N> {
+    ghost use Rattle.std.specs.Prelude.{◌≡◌, ◌<◌, map};
+    ghost use Rattle.std.specs.Vec.{vec_len};
+    ghost use Rattle.resolver_demand.specs.Backlog.{told_of};
+    ghost use Rattle.resolver_mailbox.specs.Shares.{Share};
+
+    ghost Value = { Share K S M Q };
+
+    ghost view = { λ a. record {
+      handle = a.handle;
+      puts = map told_of a.puts.items;
+      is_closed = a.is_closed;
+    } };
+
+    ghost invariant = { λ a. (0 < a.part.parts) × (a.part.amount ≡ vec_len a.puts) };
+}
+
+impl<K, S, M, Q, N: Names> Share<K, S, M, Q, N> {
+    /// The number of the handle.
+    pub fn handle(&self) -> u64
+        ensures { result ≡ self.now.handle }
+    {
+        self.handle
+    }
+
+    /// The messages that were put and answered Ok or Backoff.
+    pub fn puts(&self) -> &[Message<K, S, M, Q>]
+        ensures { map told_of result.now ≡ self.now.puts }
+    {
+        self.puts.as_slice()
+    }
+
+    /// Whether the handle was answered Closed.
+    pub fn is_closed(&self) -> bool
+        ensures { result ≡ self.now.is_closed }
+    {
+        self.is_closed
+    }
+
+    /// Notes that the handle was answered Closed.
+    pub(super) fn mark(&mut self)
+        ensures { self.new ≡ marked self.old }
+    {
+        self.is_closed = true;
+    }
+}
+
+impl<
+    K: Ord + Hash + Faithful + Drop,
+    S: Ord + Faithful + Drop,
+    M: Metadata + Drop,
+    Q: Predicate<K, S> + Faithful + Drop,
+    N: Names,
+> Share<K, S, M, Q, N> {
+    /// Puts a message of this handle on an open recorded desk. Where memory is wanting, nothing
+    /// changes.
+    pub(super) fn put(
+        &mut self,
+        alloc: Global,
+        desk: &mut Desk<K, S, M, Q>,
+        total: &mut ledger::Book<Puts<N>>,
+        message: Message<K, S, M, Q>,
+    ) -> Result<Feedback, Fault>
+        requires unclosed { desk.old.is_closed ≡ false }
+        requires recorded { is_some desk.old.book ≡ true }
+        ensures feedback { IfOk result (λ feedback. feedback ≡ feedback_of desk.old) }
+        ensures listed { OnOk result (self.new ≡ with_message (told_of message) self.old) }
+        ensures desk { OnOk result (desk.new ≡ desk_put (names K.cmp S.cmp) M.merged Q.keeps
+            (Some self.old.handle) (told_of message) desk.old) }
+        ensures total { OnOk result (total.new.total ≡ total.old.total + 1) }
+        ensures err { OnErr result (self.new ≡ self.old) }
+        ensures err_desk { OnErr result (desk.new ≡ desk.old) }
+        ensures err_total { OnErr result (total.new.total ≡ total.old.total) }
+        ensures only { IfErr result (λ fault. fault ≡ OutOfMemory) }
+    {
+        let copy = message.copy(alloc)?;
+        self.puts.reserve(1)?;
+        let (feedback, _) = desk.put(Some(self.handle), message)?;
+        total.add(&mut self.part, 1);
+        self.puts.push_reserved(copy);
+        Ok(feedback)
+    }
+
+    /// Puts the first message of a handle on an open recorded desk, which numbers the handle. Where
+    /// memory or a number is wanting, nothing changes.
+    pub(super) fn first(
+        alloc: Global,
+        desk: &mut Desk<K, S, M, Q>,
+        total: &mut ledger::Book<Puts<N>>,
+        spare: &mut ledger::Share<Puts<N>>,
+        message: Message<K, S, M, Q>,
+    ) -> Result<(Feedback, Self), Fault>
+        requires unclosed { desk.old.is_closed ≡ false }
+        requires recorded { is_some desk.old.book ≡ true }
+        requires parts { spare.old.parts + numbered desk.old ≡ 2 ^ 64 - 1 }
+        requires unused { spare.old.amount ≡ 0 }
+        ensures feedback { IfOk result (λ answer. answer.0 ≡ feedback_of desk.old) }
+        ensures share { IfOk result (λ answer. answer.1
+            ≡ first_share (numbered desk.old) (told_of message)) }
+        ensures desk { OnOk result (desk.new ≡ desk_put (names K.cmp S.cmp) M.merged Q.keeps
+            None (told_of message) desk.old) }
+        ensures total { OnOk result (total.new.total ≡ total.old.total + 1) }
+        ensures spare { OnOk result (spare.new.parts + 1 ≡ spare.old.parts) }
+        ensures unused { spare.new.amount ≡ 0 }
+        ensures err_desk { OnErr result (desk.new ≡ desk.old) }
+        ensures err_total { OnErr result (total.new.total ≡ total.old.total) }
+        ensures err_spare { OnErr result (spare.new.parts ≡ spare.old.parts) }
+        ensures only { IfErr result (λ fault. fault ≢ OutOfMemory → fault ≡ Exhausted) }
+    {
+        let copy = message.copy(alloc)?;
+        let mut puts = Vec::with_capacity(alloc, 1)?;
+        let (feedback, number) = desk.put(None, message)?;
+        let Some(handle) = number else { unreachable!() };
+        let mut part = spare.split_off(1, 0);
+        total.add(&mut part, 1);
+        puts.push_reserved(copy);
+        let share = Share {
+            handle,
+            puts,
+            is_closed: false,
+            part,
+        };
+        Ok((feedback, share))
+    }
+}
