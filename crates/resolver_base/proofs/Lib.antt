@@ -3,4 +3,5 @@ pub mod Lexicographic
 pub mod Ordered
 pub mod Priorities
 pub mod Forgotten
+pub mod From
 pub mod KeepsAny

@@ -3,7 +3,7 @@ use Rattle.std.specs.Prelude.{◌≡◌, Bool, not, List, [], ◌∷◌, filter,
 use Rattle.std.specs.List.{list_any}
 use Rattle.std.specs.Option.{option_map_or}
 use Rattle.std.specs.List.Sorted.{IsStrictlySortedBy}
-use Rattle.std.specs.Ordering.{is_eq, ordering_then}
+use Rattle.std.specs.Ordering.{is_eq, is_le, is_lt, ordering_then}
 use Rattle.std.specs.declared.cmp.Ordering.{Ordering}
 use Rattle.std.specs.BTreeMap.{is_at}
 use Rattle.std.specs.BTreeSet.{insert_key}
@@ -45,7 +45,15 @@ module _ {I R : Type 0} (by_item : I → I → Ordering) where
 abbrev pub retained : {I R : Type 0} → (I → Bool) → List (R × I) → List (R × I)
 retained test pairs = filter (λ p. test p.1) pairs
 
+-- the pairs whose priority is no less than this one
+abbrev pub from : {I R : Type 0} → (R → R → Ordering) → R → List (R × I) → List (R × I)
+from by_priority priority pairs = filter (λ p. is_le (by_priority priority p.0)) pairs
+
 module _ {I R : Type 0} (by_priority : R → R → Ordering) (by_item : I → I → Ordering) where
+  -- the pairs that follow a pair
+  abbrev pub after : R × I → List (R × I) → List (R × I)
+  after pair pairs = filter (λ p. is_lt (pair_order by_priority by_item pair p)) pairs
+
   -- a pair at its place, as the only one of its item
   abbrev pub placed : List (R × I) → R × I → List (R × I)
   placed pairs p = insert_key (pair_order by_priority by_item) (without by_item p.1 pairs) p

@@ -15,6 +15,7 @@ pub mod Takes
 pub mod TriesAll
 pub mod NeedsPairs
 pub mod ChoosesBelow
+pub mod Askable
 pub mod Entries
 pub mod Soonest
 pub mod Timed

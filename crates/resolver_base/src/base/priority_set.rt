@@ -7,15 +7,16 @@ ghost use Rattle.std.specs.List.Sorted.{IsStrictlySortedBy};
 ghost use Rattle.std.specs.Map.{lookup};
 ghost use Rattle.std.specs.Map.Iter.{ShowsInOrder, deref};
 ghost use Rattle.resolver_base.specs.Answering.{AnswersBy};
-ghost use Rattle.resolver_base.specs.Priorities.{IsIndexed, has_item, indexed, listed, pair_order, priorities_of, put, retained, without};
+ghost use Rattle.resolver_base.specs.Priorities.{IsIndexed, after, from, has_item, indexed, listed, pair_order, priorities_of, put, retained, without};
 ghost use Rattle.resolver_base.specs.declared.base.fault.Fault.TheVariants.{OutOfMemory};
 
 use crate::base::Fault;
 use std::alloc::Global;
 use std::cmp::Ordering;
-use std::collections::btree_set::Iter;
+use std::collections::btree_set::{Iter, Range};
 use std::collections::{BTreeMap, BTreeSet};
 use std::marker::Model;
+use std::ops::Bound;
 
 /// Items with their priorities, each item once, ordered by priority and then by item.
 ///
@@ -91,7 +92,37 @@ impl<I: Ord, R: Ord> PrioritySet<I, R> {
     }
 }
 
+impl<I: Ord + Clone + Drop, R: Ord + Drop> PrioritySet<I, R> {
+    /// The priorities from this one on with their items, in order. The first is found in
+    /// logarithmic time.
+    ///
+    /// An item is cloned; clones are to equal their sources.
+    pub fn range_from(&self, priority: R) -> Result<Range<'_, (R, I)>, Fault>
+        requires items_clone { (x y : I) → I.is_clone x y → y ≡ x }
+        ensures rest { IfOk result (λ pairs. pairs ≡ from R.cmp priority self.now) }
+        ensures ordered { IfOk result (IsStrictlySortedBy (pair_order R.cmp I.cmp)) }
+        ensures runs { OnOk result (ShowsInOrder (deref {X = R × I})) }
+        ensures only { IfErr result (λ fault. fault ≡ OutOfMemory) }
+    {
+        let Some((least, _)) = self.priorities.first_key_value() else {
+            return Ok(self.ordered.range(..));
+        };
+        let start = (priority, least.clone()?);
+        Ok(self.ordered.range(start..))
+    }
+}
+
 impl<I: Ord + Drop, R: Ord + Drop> PrioritySet<I, R> {
+    /// The pairs that follow a pair, in order. The first is found in logarithmic time.
+    pub fn range_after(&self, pair: &(R, I)) -> Range<'_, (R, I)>
+        ensures rest { result ≡ after R.cmp I.cmp pair.now self.now }
+        ensures ordered { IsStrictlySortedBy (pair_order R.cmp I.cmp) result }
+        ensures runs { ShowsInOrder (deref {X = R × I}) }
+    {
+        self.ordered
+            .range((Bound::Excluded(pair), Bound::Unbounded))
+    }
+
     /// Puts an item at its place. An equal item that is there stays, and takes the priority.
     /// Where memory is wanting, nothing changes.
     ///

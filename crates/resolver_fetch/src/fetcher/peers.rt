@@ -1,9 +1,9 @@
 //! The peers that may be asked.
 
-ghost use Rattle.std.specs.Prelude.{◌≡◌, None, [], length, IfOk, IfErr, OnErr, OnOk};
+ghost use Rattle.std.specs.Prelude.{◌≡◌, ◌↔◌, None, [], length, IsTrue, IfOk, IfErr, OnErr, OnOk};
 ghost use Rattle.std.specs.Option.{option_copied};
 ghost use Rattle.resolver_base.specs.declared.base.fault.Fault.TheVariants.{OutOfMemory};
-ghost use Rattle.resolver_fetch.specs.Known.{eligible, is_eligible, is_local, is_target, may_be_asked, weight_in};
+ghost use Rattle.resolver_fetch.specs.Known.{askable, eligible, is_eligible, is_local, is_target, may_be_asked, weight_in};
 ghost use Rattle.resolver_fetch.specs.Peers.{observed, replaced, set_of};
 ghost use Rattle.resolver_fetch.specs.Trying.{weighed};
 
@@ -22,15 +22,21 @@ pub(super) struct Peers<P: Ord> {
     local: Option<P>,
     set: BTreeMap<P, Score>,
     blocked: BTreeSet<P>,
+    /// How many peers may be asked at all.
+    allowed: usize,
     alloc: Global,
 }
 
 impl<P: Ord> Model for Peers<P> {
-    ghost use Rattle.resolver_fetch.specs.Known.{Known};
+    ghost use Rattle.std.specs.Prelude.{◌≡◌};
+    ghost use Rattle.resolver_fetch.specs.Known.{Known, askable};
 
     ghost Value = { Known P };
 
     ghost view = { λ a. record { local = a.local; set = a.set.entries; blocked = a.blocked.keys } };
+
+    ghost invariant = { λ a. a.allowed ≡ askable P.cmp
+        (record { local = a.local; set = a.set.entries; blocked = a.blocked.keys }) };
 }
 
 impl<P: Ord + Drop> Peers<P> {
@@ -42,8 +48,16 @@ impl<P: Ord + Drop> Peers<P> {
             local,
             set: BTreeMap::new(alloc),
             blocked: BTreeSet::new(alloc),
+            allowed: 0,
             alloc,
         }
+    }
+
+    /// Whether no peer may be asked for any key, in constant time.
+    pub(super) fn none_askable(&self) -> bool
+        ensures { IsTrue result ↔ (askable P.cmp self.now ≡ 0) }
+    {
+        self.allowed == 0
     }
 
     /// The weight with which a peer of the set is drawn: 0 where it is the local one or blocked,
@@ -91,7 +105,7 @@ impl<P: Ord + Drop> Peers<P> {
     fn may_be_asked(&self, peer: &P) -> bool
         ensures { result ≡ may_be_asked P.cmp self.now peer.now }
     {
-        !is_local(&self.local, peer) && !self.blocked.contains(peer)
+        may_be_asked(&self.local, &self.blocked, peer)
     }
 
     /// Takes these peers in place of the last ones. Those that stay keep their scores. Where
@@ -102,7 +116,9 @@ impl<P: Ord + Drop> Peers<P> {
         ensures err { OnErr result (self.new ≡ self.old) }
         ensures only { IfErr result (λ fault. fault ≡ OutOfMemory) }
     {
-        self.set = rated(self.alloc, &self.set, peers)?;
+        let set = rated(self.alloc, &self.set, peers)?;
+        self.allowed = count_askable(&self.local, &set, &self.blocked);
+        self.set = set;
         Ok(())
     }
 
@@ -113,7 +129,9 @@ impl<P: Ord + Drop> Peers<P> {
         ensures err { OnErr result (self.new ≡ self.old) }
         ensures only { IfErr result (λ fault. fault ≡ OutOfMemory) }
     {
-        self.blocked = distinct(self.alloc, peers)?;
+        let blocked = distinct(self.alloc, peers)?;
+        self.allowed = count_askable(&self.local, &self.set, &blocked);
+        self.blocked = blocked;
         Ok(())
     }
 
@@ -127,6 +145,32 @@ impl<P: Ord + Drop> Peers<P> {
     {
         observe(&mut self.set, peer, elapsed, bytes);
     }
+}
+
+/// How many peers of a set may be asked, with this local name and these blocked peers.
+fn count_askable<P: Ord + Drop>(
+    local: &Option<P>,
+    set: &BTreeMap<P, Score>,
+    blocked: &BTreeSet<P>,
+) -> usize
+    ensures { result ≡ askable P.cmp
+        (record { local = local.now; set = set.now.entries; blocked = blocked.now.keys }) }
+{
+    let mut count = 0;
+    for (peer, _) in set.iter() {
+        if may_be_asked(local, blocked, peer) {
+            count += 1;
+        }
+    }
+    count
+}
+
+/// Whether a peer of a set may be asked, with this local name and these blocked peers.
+fn may_be_asked<P: Ord + Drop>(local: &Option<P>, blocked: &BTreeSet<P>, peer: &P) -> bool
+    ensures { result ≡ may_be_asked P.cmp
+        (record { local = local.now; set = []; blocked = blocked.now.keys }) peer.now }
+{
+    !is_local(local, peer) && !blocked.contains(peer)
 }
 
 /// Takes in what a request to a peer took and gave.

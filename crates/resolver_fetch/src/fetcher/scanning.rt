@@ -283,9 +283,24 @@ impl<K: Ord + Clone + Drop, P: Ord + Clone + Drop> Fetcher<K, P> {
     /// What a scan of this moment tries after this trail: the first waiting key that is due and
     /// has a peer left.
     ///
-    /// It takes a pass over the peers for each due key that it passes, times the length of the
-    /// trail.
+    /// It takes constant time where no peer may be asked at all, else a pass over the peers for
+    /// each due key that it passes, times the length of the trail.
     fn seek(&self, moment: u128, trail: &[Try<K, P>]) -> Result<Option<Trying<K, P>>, Fault>
+    where
+        requires keys_clone { (x y : K) → K.is_clone x y → y ≡ x }
+        requires peers_clone { (x y : P) → P.is_clone x y → y ≡ x }
+        ensures ok { IfOk result (λ found. found
+            ≡ tried_next (orders K.cmp P.cmp) self.now moment trail.now) }
+        ensures only { IfErr result (λ fault. fault ≡ OutOfMemory) }
+    {
+        if self.peers.none_askable() {
+            return Ok(None);
+        }
+        self.first_due(moment, trail)
+    }
+
+    /// The first waiting key that is due and has a peer left after this trail.
+    fn first_due(&self, moment: u128, trail: &[Try<K, P>]) -> Result<Option<Trying<K, P>>, Fault>
     where
         requires keys_clone { (x y : K) → K.is_clone x y → y ≡ x }
         requires peers_clone { (x y : P) → P.is_clone x y → y ≡ x }

@@ -46,6 +46,29 @@ fn replaces_a_priority(rt: HostRuntime) -> Result<(), Fail> {
     Ok(())
 }
 
+#[test]
+fn gives_what_is_from_a_priority_on(rt: HostRuntime) -> Result<(), Fail> {
+    let set = set_of(rt, &[(3, 20), (1, 20), (2, 30), (4, 10)])?;
+    let mut listed = Vec::new(rt.alloc());
+    for pair in set.range_from(20)? {
+        listed.push(*pair)?;
+    }
+    assert_eq!(rt; listed.as_slice(), [(20, 1), (20, 3), (30, 2)].as_slice());
+    assert_eq!(rt; set.range_from(21)?.next(), Some(&(30, 2)));
+    assert_eq!(rt; set.range_from(31)?.next(), None);
+    Ok(())
+}
+
+#[test]
+fn gives_what_follows_a_pair(rt: HostRuntime) -> Result<(), Fail> {
+    let set = set_of(rt, &[(3, 20), (1, 20), (2, 30), (4, 10)])?;
+    assert_eq!(rt; set.range_after(&(20, 1)).next(), Some(&(20, 3)));
+    assert_eq!(rt; set.range_after(&(20, 3)).next(), Some(&(30, 2)));
+    assert_eq!(rt; set.range_after(&(10, 9)).next(), Some(&(20, 1)));
+    assert_eq!(rt; set.range_after(&(30, 2)).next(), None);
+    Ok(())
+}
+
 /// Fetches that compare equal, whatever their marks.
 fn marked(mark: u64) -> Fetch<u8, u8> {
     Fetch {

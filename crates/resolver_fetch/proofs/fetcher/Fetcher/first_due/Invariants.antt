@@ -5,7 +5,7 @@ use Rattle.resolver_fetch.specs.Orders.{orders}
 use Rattle.resolver_fetch.specs.Scan.{can_be_tried}
 use Rattle.resolver_fetch.specs.Seeking.{scan_at, tried_next}
 use Rattle.resolver_fetch.specs.Trying.{trying_for}
-use Rattle.resolver_fetch.proofs.fetcher.Fetcher.seek.Given as goal
+use Rattle.resolver_fetch.proofs.fetcher.Fetcher.first_due.Given as goal
 
 -- What is tried next is found among the keys that are left.
 abbrev pub invariant-loop-place : goal.invariant-loop-place
