@@ -34,7 +34,7 @@ filter-twice whole first second (x ∷ xs) both =
 
 module _ {K P : Type 0} (o : Orders K P) (s : Snapshot K P) (moment : ℕ) (trail : List (Try K P)) (t : Try K P) where
   -- who is left for a key, once a try more is noted
-  left-after : (w : K × Waiting P) → left o s (trail ++ t ∷ []) w ≡ filter (λ p. not (same_key o w.0 t.key && same_peer o p.0 t.peer)) (left o s trail w)
+  pub left-after : (w : K × Waiting P) → left o s (trail ++ t ∷ []) w ≡ filter (λ p. not (same_key o w.0 t.key && same_peer o p.0 t.peer)) (left o s trail w)
   left-after w =
       filter-twice (λ p. was_tried o (trail ++ t ∷ []) w.0 p.0) (λ p. was_tried o trail w.0 p.0) (λ p. same_key o w.0 t.key && same_peer o p.0 t.peer) (eligible o s w.1.targets)
       (λ p. any-append (λ u. same_key o w.0 u.key && same_peer o p.0 u.peer) trail t)

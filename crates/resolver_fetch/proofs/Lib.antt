@@ -23,3 +23,5 @@ pub mod NextIds
 pub mod Seeking
 pub mod Stepping
 pub mod Continues
+pub mod Progress
+pub mod Fetching

@@ -22,5 +22,7 @@ pub mod Trying
 pub mod Fetcher
 pub mod Seeking
 pub mod Stepping
+pub mod Progress
+pub mod Fetching
 pub mod FetcherRows
 pub mod FetcherLaws

@@ -5,6 +5,7 @@
 //! ends that. A scan is driven by questions and answers: what an `Ask` asks, an `Answer` answers.
 
 pub mod config;
+mod fetching;
 mod laws;
 mod peers;
 pub mod place;

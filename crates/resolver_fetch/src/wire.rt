@@ -216,4 +216,4 @@ impl<Key: Span> Message<Key> {
 }
 
 #[cfg(test)]
-mod tests;
+pub(crate) mod tests;

@@ -37,6 +37,8 @@ impl Seeded {
 }
 
 impl Draws for Seeded {
+    ghost below_gives = { λ source n number then. (number, then) ≡ drawn n source };
+
     /// The remainder by `n` of the next two words, the first of them the high one.
     fn below(&mut self, n: u128) -> u128
         requires { 0 < n }

@@ -1,5 +1,9 @@
 //! The way to the peers.
 
+ghost use Rattle.std.specs.Prelude.{List, ℕ, Bool};
+ghost use Rattle.resolver_base.specs.declared.base.check.Check.{Check};
+ghost use Rattle.resolver_base.specs.declared.base.unreliable.Unreliable.{Unreliable};
+
 use crate::base::{Check, PublicKey, Unreliable};
 use bytes::Bytes;
 
@@ -8,11 +12,20 @@ pub trait Sender {
     /// How peers are named.
     type PublicKey: PublicKey;
 
+    /// What a sender may say of a peer, and what it is then: anything, unless it says more.
+    ghost check_gives: { Self → Self.PublicKey → Check → Self → Type 0 } = { λ _ _ _ _. Unit {0} };
+
+    /// What it may say of a message for a peer, with priority or without, and what it is then:
+    /// anything, unless it says more.
+    ghost send_gives: { Self → Self.PublicKey → List ℕ → Bool → Unreliable → Self → Type 0 } = { λ _ _ _ _ _ _. Unit {0} };
+
     /// Whether this peer may be sent to now, or from when on.
-    fn check(&mut self, peer: &Self::PublicKey) -> Check;
+    fn check(&mut self, peer: &Self::PublicKey) -> Check
+        ensures { check_gives self.old peer.now result self.new };
 
     /// Sends a message to this peer, before others where it has priority.
-    fn send(&mut self, peer: &Self::PublicKey, message: Bytes, priority: bool) -> Unreliable;
+    fn send(&mut self, peer: &Self::PublicKey, message: Bytes, priority: bool) -> Unreliable
+        ensures { send_gives self.old peer.now message priority result self.new };
 }
 
 #[cfg(test)]

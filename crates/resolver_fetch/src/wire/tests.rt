@@ -2,7 +2,7 @@
 
 ghost use Rattle.resolver_fetch.specs.Spelling.{IsShort};
 
-mod keys;
+pub(crate) mod keys;
 
 use super::*;
 use keys::{Key, Zeros};

@@ -1,0 +1,278 @@
+//! Scans that are answered by a sender and draws with a script.
+
+ghost use Rattle.std.specs.Prelude.{◌<◌, ◌^◌};
+ghost use Rattle.resolver_fetch.specs.Fetcher.{IsTimely};
+
+use super::*;
+use crate::fetcher::Config;
+use crate::wire::tests::keys::Key;
+use resolver_base::base::{Check, Feedback, NonEmptyVec, Unreliable};
+use std::process::Abort;
+use std::test::Fail;
+
+/// A name of one byte.
+#[derive(Clone, Copy, Debug, PartialEq, Eq, PartialOrd, Ord, Hash)]
+struct Peer(u8);
+
+impl PublicKey for Peer {}
+
+/// A message that is to be sent, and the word on it.
+type Send<'a> = (u8, &'a [u8], bool, Unreliable);
+
+/// Expects these calls, and says what stands with each.
+#[derive(Drop)]
+struct Network<'a> {
+    checks: &'a [(u8, Check)],
+    sends: &'a [Send<'a>],
+    /// Whether each call so far was expected.
+    is_right: bool,
+}
+
+impl Sender for Network<'_> {
+    type PublicKey = Peer;
+
+    fn check(&mut self, peer: &Peer) -> Check {
+        let Some((first, rest)) = self.checks.split_first() else {
+            self.is_right = false;
+            return Check::Until(0);
+        };
+        self.checks = rest;
+        self.is_right &= first.0 == peer.0;
+        first.1
+    }
+
+    fn send(&mut self, peer: &Peer, message: Bytes, priority: bool) -> Unreliable {
+        let Some((first, rest)) = self.sends.split_first() else {
+            self.is_right = false;
+            return Unreliable::Rejected;
+        };
+        self.sends = rest;
+        self.is_right &= first.0 == peer.0 && message.as_slice() == first.1 && priority == first.2;
+        first.3
+    }
+}
+
+/// Expects these bounds, and draws the number that stands with each.
+#[derive(Drop)]
+struct Numbers<'a> {
+    draws: &'a [(u128, u128)],
+    /// Whether each call so far was expected.
+    is_right: bool,
+}
+
+impl Draws for Numbers<'_> {
+    fn below(&mut self, n: u128) -> u128 {
+        let Some((first, rest)) = self.draws.split_first() else {
+            self.is_right = false;
+            return 0;
+        };
+        self.draws = rest;
+        self.is_right &= first.0 == n;
+        if first.1 < n { first.1 } else { 0 }
+    }
+}
+
+/// Fetches at a moment. The calls are these, and no others.
+fn fetches(
+    rt: &impl Abort,
+    fetcher: &mut Fetcher<Key, Peer>,
+    now: u128,
+    draws: &[(u128, u128)],
+    checks: &[(u8, Check)],
+    sends: &[Send],
+) -> Result<(), Fault>
+    requires { now < 2 ^ 94 }
+{
+    let mut network = Network {
+        checks,
+        sends,
+        is_right: true,
+    };
+    let mut numbers = Numbers {
+        draws,
+        is_right: true,
+    };
+    fetcher.fetch(&mut network, &mut numbers, now)?;
+    assert!(rt; network.is_right && network.checks.is_empty() && network.sends.is_empty());
+    assert!(rt; numbers.is_right && numbers.draws.is_empty());
+    assert!(rt; !fetcher.is_scanning());
+    Ok(())
+}
+
+const KEY: Key = Key { value: 1 };
+
+const ACCEPTED: Unreliable = Unreliable::Outcome(Feedback::Ok);
+
+/// No local name, requests that are over after 50, and retries after 10.
+fn config() -> Config<Peer>
+    ensures { IsTimely result.fetch_timeout result.retry_delay }
+{
+    Config {
+        me: None,
+        fetch_timeout: 50,
+        retry_delay: 10,
+        priority_requests: false,
+    }
+}
+
+/// Takes these peers in place of the latest set.
+fn set_peers(alloc: Global, fetcher: &mut Fetcher<Key, Peer>, names: &[u8]) -> Result<(), Fault> {
+    let mut peers = Vec::new(alloc);
+    for name in names {
+        peers.push(Peer(*name))?;
+    }
+    fetcher.reconcile(peers)
+}
+
+/// Asks peer 4 for key 1 under the id 5, at 30.
+fn asks_first(rt: &impl Abort, alloc: Global) -> Result<Fetcher<Key, Peer>, Fault> {
+    let mut fetcher = Fetcher::new(alloc, config());
+    set_peers(alloc, &mut fetcher, &[4])?;
+    fetcher.add_ready(KEY, 30)?;
+    fetches(
+        rt,
+        &mut fetcher,
+        30,
+        &[(4, 0), (1, 0), (1 << 64, 5)],
+        &[(4, Check::Clear)],
+        &[(4, b"\0\0\0\0\0\0\0\x05\0\x01", false, ACCEPTED)],
+    )?;
+    Ok(fetcher)
+}
+
+#[test]
+fn fetcher_first_request(rt: HostRuntime) -> Result<(), Fail> {
+    let mut fetcher = asks_first(&rt, rt.alloc())?;
+    assert!(rt; !fetcher.is_waiting(&KEY));
+    assert_eq!(rt; fetcher.get_active_deadline(), Some(80));
+    assert_eq!(rt; fetcher.pop_response(5, &Peer(3), 40), None);
+    assert_eq!(rt; fetcher.pop_response(5, &Peer(4), 20), Some((KEY, 0)));
+    Ok(())
+}
+
+#[test]
+fn fetcher_missing_and_retry(rt: HostRuntime) -> Result<(), Fail> {
+    let mut fetcher = asks_first(&rt, rt.alloc())?;
+    assert_eq!(rt; fetcher.pop_missing(5, &Peer(4), 50), Some(KEY));
+    assert_eq!(rt; fetcher.len_active(), 0);
+    assert_eq!(rt; fetcher.weight(&Peer(4)), Some(1));
+    fetcher.add_retry(KEY, 50)?;
+    assert_eq!(rt; fetcher.get_pending_deadline(), Some(60));
+    // The next id follows the last.
+    fetches(
+        &rt,
+        &mut fetcher,
+        60,
+        &[(5, 4), (1, 0)],
+        &[(4, Check::Clear)],
+        &[(4, b"\0\0\0\0\0\0\0\x06\0\x01", false, ACCEPTED)],
+    )?;
+    assert_eq!(rt; fetcher.get_active_deadline(), Some(110));
+    Ok(())
+}
+
+#[test]
+fn fetcher_wake_up(rt: HostRuntime) -> Result<(), Fail> {
+    let mut fetcher = Fetcher::new(rt.alloc(), config());
+    fetcher.add_ready(KEY, 5)?;
+    assert_eq!(rt; fetcher.get_pending_deadline(), Some(5));
+    fetches(&rt, &mut fetcher, 5, &[], &[], &[])?;
+    assert_eq!(rt; fetcher.get_pending_deadline(), Some(u128::MAX));
+    set_peers(rt.alloc(), &mut fetcher, &[4])?;
+    assert_eq!(rt; fetcher.get_pending_deadline(), Some(5));
+    Ok(())
+}
+
+#[test]
+fn refused_sends(rt: HostRuntime) -> Result<(), Fail> {
+    let mut fetcher = Fetcher::new(rt.alloc(), config());
+    set_peers(rt.alloc(), &mut fetcher, &[3, 4])?;
+    fetcher.add_ready(KEY, 0)?;
+    let closed = Unreliable::Outcome(Feedback::Closed);
+    fetches(
+        &rt,
+        &mut fetcher,
+        0,
+        &[
+            (4, 0),
+            (2, 0),
+            (1 << 64, 18446744073709551615),
+            (4, 0),
+            (1, 0),
+        ],
+        &[(3, Check::Clear), (4, Check::Clear)],
+        &[
+            (
+                3,
+                b"\xff\xff\xff\xff\xff\xff\xff\xff\0\x01",
+                false,
+                Unreliable::Rejected,
+            ),
+            (4, b"\0\0\0\0\0\0\0\0\0\x01", false, closed),
+        ],
+    )?;
+    assert!(rt; fetcher.is_waiting(&KEY));
+    assert_eq!(rt; fetcher.len_active(), 0);
+    assert_eq!(rt; fetcher.retries(&KEY), 0);
+    assert_eq!(rt; fetcher.get_pending_deadline(), Some(10));
+    Ok(())
+}
+
+#[test]
+fn timeout_and_limits(rt: HostRuntime) -> Result<(), Fail> {
+    let config = Config {
+        me: Some(Peer(9)),
+        fetch_timeout: 50,
+        retry_delay: 0,
+        priority_requests: true,
+    };
+    let mut fetcher = Fetcher::new(rt.alloc(), config);
+    set_peers(rt.alloc(), &mut fetcher, &[3, 4])?;
+    fetcher.add_ready(KEY, 0)?;
+    let slow = Unreliable::Outcome(Feedback::Backoff);
+    fetches(
+        &rt,
+        &mut fetcher,
+        0,
+        &[(4, 3), (2, 1), (1 << 64, 1234)],
+        &[(4, Check::Clear)],
+        &[(4, b"\0\0\0\0\0\0\x04\xd2\0\x01", true, slow)],
+    )?;
+    assert_eq!(rt; fetcher.pop_active(50), Some(KEY));
+    fetcher.add_retry(KEY, 50)?;
+    fetches(
+        &rt,
+        &mut fetcher,
+        50,
+        &[(5, 4), (2, 0), (5, 0), (1, 0)],
+        &[(3, Check::Until(70)), (4, Check::Until(60))],
+        &[],
+    )?;
+    assert_eq!(rt; fetcher.retries(&KEY), 1);
+    assert_eq!(rt; fetcher.get_pending_deadline(), Some(60));
+    Ok(())
+}
+
+#[test]
+fn blocked_target(rt: HostRuntime) -> Result<(), Fail> {
+    let mut fetcher = Fetcher::new(rt.alloc(), config());
+    set_peers(rt.alloc(), &mut fetcher, &[3, 4])?;
+    let mut blocked = Vec::new(rt.alloc());
+    blocked.push(Peer(3))?;
+    fetcher.set_blocked(blocked)?;
+    fetcher.add_targets(KEY, NonEmptyVec::new(rt.alloc(), Peer(3))?)?;
+    fetcher.add_ready(KEY, 0)?;
+    fetches(&rt, &mut fetcher, 0, &[], &[], &[])?;
+    assert_eq!(rt; fetcher.get_pending_deadline(), Some(u128::MAX));
+    fetcher.set_blocked(Vec::new(rt.alloc()))?;
+    fetches(
+        &rt,
+        &mut fetcher,
+        0,
+        &[(4, 0), (1, 0)],
+        &[(3, Check::Until(20))],
+        &[],
+    )?;
+    assert_eq!(rt; fetcher.get_pending_deadline(), Some(20));
+    Ok(())
+}
