@@ -16,14 +16,16 @@ struct Peer(u8);
 
 impl PublicKey for Peer {}
 
-/// A message that is to be sent, and the word on it.
-type Send<'a> = (u8, &'a [u8], bool, Unreliable);
+/// A message that is to be sent, whether with priority, and the word on it.
+type Sending<'a> = (u8, &'a [u8], bool, Unreliable);
 
 /// Expects these calls, and says what stands with each.
 #[derive(Drop)]
 struct Network<'a> {
     checks: &'a [(u8, Check)],
-    sends: &'a [Send<'a>],
+    checked: usize,
+    sends: &'a [Sending<'a>],
+    sent: usize,
     /// Whether each call so far was expected.
     is_right: bool,
 }
@@ -32,23 +34,23 @@ impl Sender for Network<'_> {
     type PublicKey = Peer;
 
     fn check(&mut self, peer: &Peer) -> Check {
-        let Some((first, rest)) = self.checks.split_first() else {
+        let Some((name, check)) = self.checks.get(self.checked) else {
             self.is_right = false;
             return Check::Until(0);
         };
-        self.checks = rest;
-        self.is_right &= first.0 == peer.0;
-        first.1
+        self.checked += 1;
+        self.is_right &= *name == peer.0;
+        *check
     }
 
     fn send(&mut self, peer: &Peer, message: Bytes, priority: bool) -> Unreliable {
-        let Some((first, rest)) = self.sends.split_first() else {
+        let Some((name, bytes, first, word)) = self.sends.get(self.sent) else {
             self.is_right = false;
             return Unreliable::Rejected;
         };
-        self.sends = rest;
-        self.is_right &= first.0 == peer.0 && message.as_slice() == first.1 && priority == first.2;
-        first.3
+        self.sent += 1;
+        self.is_right &= *name == peer.0 && message.as_slice() == *bytes && priority == *first;
+        *word
     }
 }
 
@@ -56,19 +58,20 @@ impl Sender for Network<'_> {
 #[derive(Drop)]
 struct Numbers<'a> {
     draws: &'a [(u128, u128)],
+    drawn: usize,
     /// Whether each call so far was expected.
     is_right: bool,
 }
 
 impl Draws for Numbers<'_> {
     fn below(&mut self, n: u128) -> u128 {
-        let Some((first, rest)) = self.draws.split_first() else {
+        let Some((bound, number)) = self.draws.get(self.drawn) else {
             self.is_right = false;
             return 0;
         };
-        self.draws = rest;
-        self.is_right &= first.0 == n;
-        if first.1 < n { first.1 } else { 0 }
+        self.drawn += 1;
+        self.is_right &= *bound == n;
+        if *number < n { *number } else { 0 }
     }
 }
 
@@ -79,22 +82,27 @@ fn fetches(
     now: u128,
     draws: &[(u128, u128)],
     checks: &[(u8, Check)],
-    sends: &[Send],
+    sends: &[Sending],
 ) -> Result<(), Fault>
     requires { now < 2 ^ 94 }
 {
     let mut network = Network {
         checks,
+        checked: 0,
         sends,
+        sent: 0,
         is_right: true,
     };
     let mut numbers = Numbers {
         draws,
+        drawn: 0,
         is_right: true,
     };
     fetcher.fetch(&mut network, &mut numbers, now)?;
-    assert!(rt; network.is_right && network.checks.is_empty() && network.sends.is_empty());
-    assert!(rt; numbers.is_right && numbers.draws.is_empty());
+    assert!(rt; network.is_right && numbers.is_right);
+    assert_eq!(rt; network.checked, checks.len());
+    assert_eq!(rt; network.sent, sends.len());
+    assert_eq!(rt; numbers.drawn, draws.len());
     assert!(rt; !fetcher.is_scanning());
     Ok(())
 }
