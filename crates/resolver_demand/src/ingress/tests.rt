@@ -1,7 +1,12 @@
-ghost use Rattle.std.specs.Prelude.{true};
+ghost use Rattle.std.specs.Prelude.{[], Some, true};
+ghost use Rattle.std.specs.declared.cmp.Ordering.TheVariants.{Equal};
 ghost use Rattle.std.proofs.Common.{rules};
 
 use super::*;
+use resolver_base::base::Fault;
+use std::cell::Cell;
+use std::cmp::Ordering;
+use std::hash::{Hash, Hasher};
 use std::test::Fail;
 
 type Targets = Option<NonEmptyVec<u16>>;
@@ -49,20 +54,25 @@ fn fetch_of_one_subscriber(rt: HostRuntime) -> Result<(), Fail> {
 }
 
 /// Keeps every subscriber.
-#[derive(Drop)]
+#[derive(Clone, Copy)]
 struct All;
 
-impl Predicate<u16, u16> for All {
+impl<K: Eq> Predicate<K, u16> for All {
     ghost keeps = { λ _ _ _. true };
 
-    fn keep(&self, _key: &u16, _subscriber: &u16) -> bool {
+    fn keep(&self, _key: &K, _subscriber: &u16) -> bool {
         true
     }
 
     ghost alike = { λ q k l s t same_key same_subscriber. Prim.search rules };
 }
 
-fn one(alloc: Global, key: u16, subscriber: u16) -> Result<Vec<FetchKey<u16, u16, ()>>, Fail> {
+/// A fetch of a key for one subscriber.
+fn one<K: Drop>(
+    alloc: Global,
+    key: K,
+    subscriber: u16,
+) -> Result<Message<K, u16, (), All>, AllocError> {
     let fetch = Fetch {
         key,
         subscriber,
@@ -70,19 +80,137 @@ fn one(alloc: Global, key: u16, subscriber: u16) -> Result<Vec<FetchKey<u16, u16
     };
     let mut items = Vec::new(alloc);
     items.push(FetchKey::from_fetch(alloc, fetch)?)?;
-    Ok(items)
+    Ok(Message::Fetch(items))
 }
 
 #[test]
-fn queues_ten_thousand_keys(rt: HostRuntime) -> Result<(), Fail> {
+fn message_is_copied(rt: HostRuntime) -> Result<(), Fail> {
     let alloc = rt.alloc();
-    let mut pending: Pending<u16, u16, (), All> = Pending::new(alloc);
-    assert!(rt; pending.is_empty());
-    for key in 0..10_000u16 {
-        pending.handle(Message::Fetch(one(alloc, key, 10)?))?;
+    let mut told = Vec::new(alloc);
+    if let Message::Fetch(items) = one(alloc, 1u16, 20)?.copy(alloc)? {
+        for item in items {
+            told.push((item.key, item.subscribers.into_vec()))?;
+        }
     }
+    assert_eq!(rt; told.len(), 1);
+    assert_eq!(rt; told[0].0, 1);
+    assert_eq!(rt; told[0].1.as_slice(), [(20, 0)].as_slice());
+    let test: Message<u16, u16, (), All> = Message::Retain(All);
+    let is_test = match test.copy(alloc)? {
+        Message::Retain(_) => true,
+        Message::Fetch(_) => false,
+    };
+    assert!(rt; is_test);
+    Ok(())
+}
+
+/// Counts how often it is compared or hashed. All of them are equal.
+#[derive(Clone, Copy)]
+struct Tally<'a>(&'a Cell<u32>);
+
+impl Tally<'_> {
+    fn count(&self) {
+        self.0.set(self.0.get().wrapping_add(1));
+    }
+}
+
+impl PartialEq for Tally<'_> {
+    ghost eq = { λ one other. true };
+
+    ghost laws = { Prim.search rules };
+
+    fn eq(&self, _other: &Self) -> bool {
+        self.count();
+        true
+    }
+}
+
+impl Eq for Tally<'_> {
+    ghost laws = { Prim.search rules };
+}
+
+impl PartialOrd for Tally<'_> {
+    ghost partial_cmp = { λ one other. Some Equal };
+
+    ghost laws = { Prim.search rules };
+
+    fn partial_cmp(&self, _other: &Self) -> Option<Ordering> {
+        self.count();
+        Some(Ordering::Equal)
+    }
+}
+
+impl Ord for Tally<'_> {
+    ghost cmp = { λ one other. Equal };
+
+    ghost total = { Prim.search rules };
+
+    ghost matches_partial_cmp = { Prim.search rules };
+
+    ghost matches_eq = { Prim.search rules };
+
+    fn cmp(&self, _other: &Self) -> Ordering {
+        self.count();
+        Ordering::Equal
+    }
+}
+
+impl Hash for Tally<'_> {
+    ghost hash_input = { λ one. [] };
+
+    ghost respects_eq = { Prim.search rules };
+
+    fn hash<H: Hasher>(&self, _state: &mut H) {
+        self.count();
+    }
+}
+
+/// A key that counts how often such keys are compared or hashed, first of all.
+#[derive(Clone, Copy, PartialEq, Eq, PartialOrd, Ord, Hash)]
+struct Counting<'a> {
+    tally: Tally<'a>,
+    name: u16,
+}
+
+/// Puts a fetch of each of 10,000 keys, one by one.
+fn put_all<'a>(
+    alloc: Global,
+    pending: &mut Pending<Counting<'a>, u16, (), All>,
+    looks: &'a Cell<u32>,
+    subscriber: u16,
+) -> Result<(), Fault> {
+    for name in 0..10_000u16 {
+        let key = Counting {
+            tally: Tally(looks),
+            name,
+        };
+        pending.handle(one(alloc, key, subscriber)?)?;
+    }
+    Ok(())
+}
+
+#[test]
+fn ten_thousand_keys_are_looked_up_a_bounded_number_of_times(rt: HostRuntime) -> Result<(), Fail> {
+    let alloc = rt.alloc();
+    let looks = Cell::new(0u32);
+    let mut pending = Pending::new(alloc);
+    put_all(alloc, &mut pending, &looks, 10)?;
+    assert!(rt; 0 < looks.get());
+    assert!(rt; looks.replace(0) <= 40_000);
+    put_all(alloc, &mut pending, &looks, 11)?;
+    assert!(rt; looks.replace(0) <= 40_000);
     pending.handle(Message::Retain(All))?;
-    assert!(rt; !pending.is_empty());
+    assert!(rt; looks.get() <= 40_000);
+    let is_test = match pending.pop() {
+        Some(Message::Retain(_)) => true,
+        _ => false,
+    };
+    assert!(rt; is_test);
+    let Some(Message::Fetch(queued)) = pending.pop() else {
+        return Err("fetches that wait".into());
+    };
+    assert_eq!(rt; queued.len(), 10_000);
+    assert_eq!(rt; queued[9_999].subscribers.len(), 2);
     Ok(())
 }
 

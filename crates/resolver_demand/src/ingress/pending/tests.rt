@@ -118,3 +118,23 @@ fn overflow_retain(rt: HostRuntime) -> Result<(), Fail> {
     assert!(rt; pending.is_empty());
     Ok(())
 }
+
+#[test]
+fn first_is_taken_by_itself(rt: HostRuntime) -> Result<(), Fail> {
+    let alloc = rt.alloc();
+    let mut pending: Waiting = Pending::new(alloc);
+    assert!(rt; pending.pop().is_none());
+    fetch(&mut pending, alloc, 1, 10)?;
+    pending.handle(Message::Retain(Kept::new(FirstKey(0))))?;
+    fetch(&mut pending, alloc, 2, 20)?;
+    let is_test = match pending.pop() {
+        Some(Message::Retain(_)) => true,
+        _ => false,
+    };
+    assert!(rt; is_test);
+    let keys = listed(alloc, pending.pop())?;
+    assert_eq!(rt; keys.len(), 2);
+    assert_eq!(rt; (keys[0].0, keys[1].0), (1, 2));
+    assert!(rt; pending.pop().is_none());
+    Ok(())
+}
