@@ -16,12 +16,14 @@ pub mod TriesAll
 pub mod NeedsPairs
 pub mod ChoosesBelow
 pub mod Askable
+pub mod Dues
+pub mod Seeking
 pub mod Entries
 pub mod Soonest
 pub mod Timed
 pub mod NextIds
-pub mod Seeking
 pub mod Stepping
+pub mod Nexts
 pub mod Continues
 pub mod Progress
 pub mod Fetching

@@ -1,12 +1,16 @@
 -- How a fetcher finds what a scan tries next, and when a scan in vain may be begun again.
-use Rattle.std.specs.Prelude.{◌≡◌, ℕ, ◌<◌, ◌^◌, false, not, List, map, Option, None, Some, option_and_then, filter}
+use Rattle.std.specs.Prelude.{◌≡◌, ℕ, ◌<◌, ◌^◌, Bool, false, not, nat_lt, List, [], ◌∷◌, length, map, Option, None, Some, option_map, option_and_then, filter, find, if◌then◌else◌}
+use Rattle.std.specs.Ordering.{bool_cmp, is_eq, is_le}
 use Rattle.resolver_fetch.specs.declared.fetcher.place.Place.{Place}
 use Rattle.resolver_fetch.specs.declared.fetcher.trail.Try.{Try}
+use Rattle.resolver_fetch.specs.declared.fetcher.trying.Next.{Next}
+use Rattle.resolver_fetch.specs.declared.fetcher.trying.Next.TheVariants.{Try as Tries, Wait}
 use Rattle.resolver_fetch.specs.Orders.{Orders}
 use Rattle.resolver_fetch.specs.Known.{Known}
 use Rattle.resolver_fetch.specs.Snapshot.{eligible}
-use Rattle.resolver_fetch.specs.Scan.{Scan, next_due, was_tried}
+use Rattle.resolver_fetch.specs.Scan.{Scan, next_due, waiter_of, was_tried}
 use Rattle.resolver_fetch.specs.Trying.{Trying, weighed, trying}
+use Rattle.resolver_fetch.specs.Waiting.{place_order}
 use Rattle.resolver_fetch.specs.Fetcher.{Fetcher, IsTimely, opening, retries_of, snapshot, targets_of, waiting_of}
 
 -- a scan that tried this so far
@@ -52,6 +56,29 @@ module _ {K P : Type 0} (o : Orders K P) where
   abbrev pub tried_now : Fetcher K P → Option (Trying K P)
   tried_now f = option_and_then (trying o (snapshot o f)) f.scan
 
+  -- the first of some waiting keys, up to a place, that has a peer left
+  abbrev pub first_until : Fetcher K P → List (Try K P) → (last : Place) → List (Place × K) → Option (Trying K P)
+  first_until f trail last pairs =
+      option_map (λ p. trying_key f trail p.1)
+      (find (λ p. nat_lt 0 (length (trying_key f trail p.1).left)) (filter (λ p. is_le (place_order p.0 last)) pairs))
+
   -- the least due that is later
   abbrev pub due_after : Fetcher K P → (moment : ℕ) → Option ℕ
   due_after f moment = next_due moment (map (waiting_of o f) f.waiting)
+
+  abbrev pub next_for : Option (Trying K P) → (waiter : ℕ) → Next K P
+  next_for None waiter = Wait waiter
+  next_for (Some t) waiter = Tries t
+
+  -- what a scan of this moment does next after this trail: it tries a key, or ends in vain
+  abbrev pub next_of : Fetcher K P → (moment : ℕ) → List (Try K P) → Next K P
+  next_of f moment trail = next_for (tried_next f moment trail) (waiter_of o (snapshot o f) (scan_at moment trail))
+
+  -- what the open scan does next
+  abbrev pub next_now : Fetcher K P → Option (Next K P)
+  next_now f = option_map (λ scan. next_for (trying o (snapshot o f) scan) (waiter_of o (snapshot o f) scan)) f.scan
+
+-- the due of the first of some waiting keys, if it is of this kind
+abbrev pub first_due : {K : Type 0} → (is_retry : Bool) → List (Place × K) → Option ℕ
+first_due is_retry [] = None
+first_due is_retry (p ∷ pairs) = if is_eq (bool_cmp p.0.is_retry is_retry) then Some p.0.due else None

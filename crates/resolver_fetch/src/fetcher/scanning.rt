@@ -1,28 +1,35 @@
 //! The scans of a fetcher.
 
 ghost use Rattle.std.specs.Prelude.{◌≡◌, ◌≢◌, ◌<◌, ◌^◌, Ok, Err, Some, None, length, IfErr, IfOk, IsSome, OnErr, OnOk};
+ghost use Rattle.std.specs.List.Sorted.{IsStrictlySortedBy};
+ghost use Rattle.std.specs.Map.Iter.{ShowsInOrder, deref};
+ghost use Rattle.resolver_base.specs.Priorities.{from, pair_order};
 ghost use Rattle.resolver_base.specs.declared.base.fault.Fault.TheVariants.{OutOfMemory};
 ghost use Rattle.resolver_fetch.specs.declared.fetcher.step.Step.TheVariants.{Accept, Clear, Fail};
 ghost use Rattle.resolver_fetch.specs.Fetcher as calls;
 ghost use Rattle.resolver_fetch.specs.Fetcher.{question, snapshot};
 ghost use Rattle.resolver_fetch.specs.Orders.{orders};
+ghost use Rattle.resolver_fetch.specs.declared.fetcher.place.Place.{Place};
 ghost use Rattle.resolver_fetch.specs.Scan.{waiter_of};
-ghost use Rattle.resolver_fetch.specs.Seeking.{due_after, scan_at, tried_next, tried_now, trying_key};
+ghost use Rattle.resolver_fetch.specs.Seeking.{due_after, first_due, first_until, next_now, next_of, scan_at, tried_next, tried_now, trying_key};
+ghost use Rattle.resolver_fetch.specs.Waiting.{place_order};
 ghost use Rattle.resolver_fetch.specs.Stepping.{after_all, after_step, ask_for, expecting, step_now};
 
 use crate::fetcher::step::{Step, step_of};
 use crate::fetcher::trail::{Expected, Reason, Try, least, trail_moment, was_tried};
-use crate::fetcher::trying::Trying;
-use crate::fetcher::{Answer, Ask, Fetcher, ID, Request};
+use crate::fetcher::trying::{Next, Trying};
+use crate::fetcher::{Answer, Ask, Fetcher, ID, Place, Request};
 use resolver_base::base::Fault;
+use std::collections::btree_set::Range;
 
 impl<K: Ord + Clone + Drop, P: Ord + Clone + Drop> Fetcher<K, P> {
     /// Begins a scan at this moment, and says what it asks; nothing where it is over at once.
     /// Where memory is wanting, nothing changes.
     ///
     /// The waiting keys that are due are gone over in their order, up to the first with a peer that
-    /// may be asked, with one pass over the peers for each. Where there is none, all waiting keys
-    /// are gone over. Keys and names are cloned; clones are to equal their sources.
+    /// may be asked, with one pass over the peers for each; none of them where no peer may be asked
+    /// at all. Of the others the next one due is looked up, in logarithmic time. Keys and names are
+    /// cloned; clones are to equal their sources.
     pub fn scan_begin(&mut self, now: u128) -> Result<Option<Ask<K, P>>, Fault>
     where
         requires moment { now < 2 ^ 94 }
@@ -35,12 +42,12 @@ impl<K: Ord + Clone + Drop, P: Ord + Clone + Drop> Fetcher<K, P> {
         ensures only { IfErr result (λ fault. fault ≡ OutOfMemory) }
     {
         let trail = Vec::new(self.alloc);
-        let found = self.seek(now, &trail)?;
+        let next = self.next_of(now, &trail)?;
         self.trying = None;
         self.moment = now;
         self.trail.clear();
         self.expects = Some(Expected::Mode);
-        Ok(self.go_on(found))
+        Ok(self.go_on(next))
     }
 
     /// Takes an answer to what the open scan asked, and says what it asks now; nothing where it is
@@ -203,7 +210,7 @@ impl<K: Ord + Clone + Drop, P: Ord + Clone + Drop> Fetcher<K, P> {
         rest.forget(&peer);
         self.trail.push(Try { key, peer, reason })?;
         match self.next_after(rest) {
-            Ok(found) => Ok(self.go_on(found)),
+            Ok(next) => Ok(self.go_on(next)),
             Err(fault) => {
                 self.trail.pop();
                 Err(fault)
@@ -211,21 +218,22 @@ impl<K: Ord + Clone + Drop, P: Ord + Clone + Drop> Fetcher<K, P> {
         }
     }
 
-    /// What the open scan tries next, after a key of which this is left.
-    fn next_after(&self, rest: Trying<K, P>) -> Result<Option<Trying<K, P>>, Fault>
+    /// What the open scan does next, after a key of which this is left.
+    fn next_after(&self, rest: Trying<K, P>) -> Result<Next<K, P>, Fault>
     where
         requires keys_clone { (x y : K) → K.is_clone x y → y ≡ x }
         requires peers_clone { (x y : P) → P.is_clone x y → y ≡ x }
         requires open_scan { IsSome self.now.scan }
         requires left { 0 < length rest.left
             → tried_now (orders K.cmp P.cmp) self.now ≡ Some rest }
-        ensures ok { IfOk result (λ found. found ≡ tried_now (orders K.cmp P.cmp) self.now) }
+        ensures ok { IfOk result
+            (λ next. next_now (orders K.cmp P.cmp) self.now ≡ Some next) }
         ensures only { IfErr result (λ fault. fault ≡ OutOfMemory) }
     {
         if !rest.left.is_empty() {
-            return Ok(Some(rest));
+            return Ok(Next::Try(rest));
         }
-        self.seek(self.moment, &self.trail)
+        self.next_of(self.moment, &self.trail)
     }
 
     /// The request is on its way, and the scan is over.
@@ -255,23 +263,22 @@ impl<K: Ord + Clone + Drop, P: Ord + Clone + Drop> Fetcher<K, P> {
     }
 
     /// The open scan tries what is next, or ends where there is nothing.
-    fn go_on(&mut self, found: Option<Trying<K, P>>) -> Option<Ask<K, P>>
+    fn go_on(&mut self, next: Next<K, P>) -> Option<Ask<K, P>>
     where
-        requires open_scan { IsSome self.old.scan }
-        requires next { found ≡ tried_now (orders K.cmp P.cmp) self.old }
+        requires { next_now (orders K.cmp P.cmp) self.old ≡ Some next }
         ensures after { self.new ≡ after_all (orders K.cmp P.cmp) self.old }
         ensures asked { result ≡ question (orders K.cmp P.cmp) self.new }
     {
-        match found {
-            Some(trying) => {
+        match next {
+            Next::Try(trying) => {
                 let bound = u128::from(trying.retries) + 4;
                 self.waiter = None;
                 self.expects = Some(Expected::Mode);
                 self.trying = Some(trying);
                 Some(Ask::Draw(bound))
             }
-            None => {
-                self.waiter = Some(self.waiter_after(self.moment, &self.trail));
+            Next::Wait(waiter) => {
+                self.waiter = Some(waiter);
                 self.trying = None;
                 self.expects = None;
                 self.trail.clear();
@@ -280,11 +287,27 @@ impl<K: Ord + Clone + Drop, P: Ord + Clone + Drop> Fetcher<K, P> {
         }
     }
 
+    /// What a scan of this moment does next after this trail.
+    fn next_of(&self, moment: u128, trail: &[Try<K, P>]) -> Result<Next<K, P>, Fault>
+    where
+        requires moment { moment < 2 ^ 94 }
+        requires keys_clone { (x y : K) → K.is_clone x y → y ≡ x }
+        requires peers_clone { (x y : P) → P.is_clone x y → y ≡ x }
+        ensures ok { IfOk result
+            (λ next. next ≡ next_of (orders K.cmp P.cmp) self.now moment trail.now) }
+        ensures only { IfErr result (λ fault. fault ≡ OutOfMemory) }
+    {
+        match self.seek(moment, trail)? {
+            Some(trying) => Ok(Next::Try(trying)),
+            None => Ok(Next::Wait(self.waiter_after(moment, trail)?)),
+        }
+    }
+
     /// What a scan of this moment tries after this trail: the first waiting key that is due and
     /// has a peer left.
     ///
     /// It takes constant time where no peer may be asked at all, else a pass over the peers for
-    /// each due key that it passes, times the length of the trail.
+    /// each due key that it passes, times the length of the trail, and two look-ups.
     fn seek(&self, moment: u128, trail: &[Try<K, P>]) -> Result<Option<Trying<K, P>>, Fault>
     where
         requires keys_clone { (x y : K) → K.is_clone x y → y ≡ x }
@@ -296,24 +319,37 @@ impl<K: Ord + Clone + Drop, P: Ord + Clone + Drop> Fetcher<K, P> {
         if self.peers.none_askable() {
             return Ok(None);
         }
-        self.first_due(moment, trail)
+        let fresh = self.pending.range_from(Place::fresh(0))?;
+        if let Some(found) = self.first_until(fresh, Place::fresh(moment), trail)? {
+            return Ok(Some(found));
+        }
+        let retries = self.pending.range_from(Place::retry(0))?;
+        self.first_until(retries, Place::retry(moment), trail)
     }
 
-    /// The first waiting key that is due and has a peer left after this trail.
-    fn first_due(&self, moment: u128, trail: &[Try<K, P>]) -> Result<Option<Trying<K, P>>, Fault>
+    /// The first of these waiting keys, up to a place, that has a peer left after this trail.
+    fn first_until(
+        &self,
+        pairs: Range<'_, (Place, K)>,
+        last: Place,
+        trail: &[Try<K, P>],
+    ) -> Result<Option<Trying<K, P>>, Fault>
     where
         requires keys_clone { (x y : K) → K.is_clone x y → y ≡ x }
         requires peers_clone { (x y : P) → P.is_clone x y → y ≡ x }
+        requires ordered { IsStrictlySortedBy (pair_order place_order K.cmp) pairs }
+        requires runs { ShowsInOrder (deref {X = Place × K}) }
         ensures ok { IfOk result (λ found. found
-            ≡ tried_next (orders K.cmp P.cmp) self.now moment trail.now) }
+            ≡ first_until (orders K.cmp P.cmp) self.now trail.now last pairs.entry) }
         ensures only { IfErr result (λ fault. fault ≡ OutOfMemory) }
     {
-        for (place, key) in self.pending.iter() {
-            if place.due <= moment {
-                let trying = self.trying(key, trail)?;
-                if !trying.left.is_empty() {
-                    return Ok(Some(trying));
-                }
+        for (place, key) in pairs {
+            if place.cmp(&last).is_gt() {
+                return Ok(None);
+            }
+            let trying = self.trying(key, trail)?;
+            if !trying.left.is_empty() {
+                return Ok(Some(trying));
             }
         }
         Ok(None)
@@ -336,32 +372,54 @@ impl<K: Ord + Clone + Drop, P: Ord + Clone + Drop> Fetcher<K, P> {
             left,
         })
     }
-}
 
-impl<K: Ord + Drop, P: Ord + Drop> Fetcher<K, P> {
     /// When a scan in vain of this moment and this trail may be begun again: where a key becomes
-    /// due, or what was tried may be tried again. It takes a pass over the waiting keys.
-    fn waiter_after(&self, moment: u128, trail: &[Try<K, P>]) -> u128
-        requires { moment < 2 ^ 94 }
-        ensures { result ≡ waiter_of (orders K.cmp P.cmp) (snapshot (orders K.cmp P.cmp) self.now)
-            (scan_at moment trail.now) }
+    /// due, or what was tried may be tried again. It takes time linear in the trail.
+    fn waiter_after(&self, moment: u128, trail: &[Try<K, P>]) -> Result<u128, Fault>
+    where
+        requires moment { moment < 2 ^ 94 }
+        requires keys_clone { (x y : K) → K.is_clone x y → y ≡ x }
+        ensures ok { IfOk result (λ waiter. waiter
+            ≡ waiter_of (orders K.cmp P.cmp) (snapshot (orders K.cmp P.cmp) self.now)
+            (scan_at moment trail.now)) }
+        ensures only { IfErr result (λ fault. fault ≡ OutOfMemory) }
     {
-        let due = self.due_after(moment);
+        let due = self.due_after(moment)?;
         let tried = trail_moment(trail, moment, self.retry_delay);
-        least(due, tried).unwrap_or(u128::MAX)
+        Ok(least(due, tried).unwrap_or(u128::MAX))
     }
 
     /// When a key becomes due next, if one does after this moment.
-    fn due_after(&self, moment: u128) -> Option<u128>
-        ensures { result ≡ due_after (orders K.cmp P.cmp) self.now moment }
+    fn due_after(&self, moment: u128) -> Result<Option<u128>, Fault>
+    where
+        requires moment { moment < 2 ^ 94 }
+        requires keys_clone { (x y : K) → K.is_clone x y → y ≡ x }
+        ensures ok { IfOk result (λ due. due ≡ due_after (orders K.cmp P.cmp) self.now moment) }
+        ensures only { IfErr result (λ fault. fault ≡ OutOfMemory) }
     {
-        let mut next = None;
-        for (place, _) in self.pending.iter() {
-            if place.due > moment {
-                next = least(next, Some(place.due));
-            }
+        let fresh = self.due_from(Place::fresh(moment + 1))?;
+        let retry = self.due_from(Place::retry(moment + 1))?;
+        Ok(least(fresh, retry))
+    }
+
+    /// When the first key from a place on is due, if it is of the same kind.
+    fn due_from(&self, start: Place) -> Result<Option<u128>, Fault>
+    where
+        requires keys_clone { (x y : K) → K.is_clone x y → y ≡ x }
+        ensures ok { IfOk result (λ due. due
+            ≡ first_due start.is_retry (from place_order start self.now.waiting)) }
+        ensures ordered { IfOk result (λ due. IsStrictlySortedBy (pair_order place_order K.cmp)
+            (from place_order start self.now.waiting)) }
+        ensures only { IfErr result (λ fault. fault ≡ OutOfMemory) }
+    {
+        let Some((place, _)) = self.pending.range_from(start)?.next() else {
+            return Ok(None);
+        };
+        if place.is_retry == start.is_retry {
+            Ok(Some(place.due))
+        } else {
+            Ok(None)
         }
-        next
     }
 }
 

@@ -17,6 +17,15 @@ pub(super) struct Trying<K, P> {
     pub(super) left: Vec<(P, u64)>,
 }
 
+/// What a scan does next.
+#[derive(Debug, Drop)]
+pub(super) enum Next<K, P> {
+    /// It tries this key.
+    Try(Trying<K, P>),
+    /// It ends in vain, and may be begun again at this moment.
+    Wait(u128),
+}
+
 impl<K, P> Model for Trying<K, P> {
     ghost use Rattle.resolver_fetch.specs.Trying.{Trying};
 

@@ -29,7 +29,7 @@ returns-in-Ok-clause-ok g c =
     let scan = sym (ap (λ (f : Fetcher g.row.K.Denot g.row.P.Denot). f.scan) c.self.view_is) in
     let f = c.args.self.now in
     let a = c.self.inside in
-    let key : c.in_ok-key.key ≡ c.args.trying.key = search rules in
+    let key : c.in_ok-key.key ≡ c.args.trying.key = c.requires.keys_clone _ c.in_ok-key.key c.in_ok-key.ensures.cases ∙ ap (λ (t : Trying g.row.K.Denot g.row.P.Denot). t.key) c.trying.view_is in
     let noted : c.push.new.self.items ≡ a.trail.items ++ record { key = c.args.trying.key; peer = c.args.peer; reason = c.args.reason } ∷ [] = rw (← key) c.in_ok-push.ensures.items in
     c.go_on.ensures.after
     ∙ ap (λ (f : Fetcher g.row.K.Denot g.row.P.Denot). after_all o (record f { scan = kept_scan o a.moment c.push.new.self.items a.expects })) c.self.view_is

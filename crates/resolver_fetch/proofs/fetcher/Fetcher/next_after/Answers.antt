@@ -1,8 +1,9 @@
-use Rattle.std.proofs.Common.{ap, ◌∙◌, sym}
+use Rattle.std.proofs.Common.{refl, ap, ◌∙◌, sym, Some}
 use Rattle.std.proofs.lemmas.Result.{IfOk-weaker}
 use Rattle.resolver_fetch.specs.Fetcher.{Fetcher}
 use Rattle.resolver_fetch.specs.Orders.{orders}
-use Rattle.resolver_fetch.proofs.Stepping.{open-kept, tried-found}
+use Rattle.resolver_fetch.proofs.Nexts.{next-found}
+use Rattle.resolver_fetch.proofs.Stepping.{open-kept}
 use Rattle.resolver_fetch.proofs.fetcher.Fetcher.next_after.Goals as goal
 
 pub returns-clause-ok : goal.returns-clause-ok
@@ -12,4 +13,4 @@ returns-clause-ok g c =
     let f = c.args.self.now in
     let a = c.self.inside in
     let some = open-kept o a.moment a.trail.items a.expects (rw (← c.self.view_is) at c.requires.open_scan) in
-    IfOk-weaker c.seek.result _ _ (λ found is. is ∙ rw c.deref.ensures.value (sym (tried-found o f a.moment a.trail.items a.expects scan some))) c.seek.ensures.ok
+    IfOk-weaker c.next_of.result _ _ (λ next is. next-found o f a.moment a.trail.items a.expects scan some ∙ ap Some (sym (is ∙ rw c.deref.ensures.value refl))) c.next_of.ensures.ok
