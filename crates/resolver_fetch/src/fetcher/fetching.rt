@@ -1,8 +1,7 @@
 //! A whole scan, with a sender and draws that are lent to it.
 
-ghost use Rattle.std.specs.Prelude.{◌≡◌, ◌<◌, ◌^◌, Ok, Some, None, IfErr, IfOk, OnErr, OnOk};
+ghost use Rattle.std.specs.Prelude.{◌≡◌, ◌<◌, ◌^◌, Some, None, IfErr, IfOk, OnErr, OnOk};
 ghost use Rattle.resolver_base.specs.declared.base.fault.Fault.TheVariants.{OutOfMemory};
-ghost use Rattle.resolver_fetch.specs.Fetcher as calls;
 ghost use Rattle.resolver_fetch.specs.Fetcher.{question};
 ghost use Rattle.resolver_fetch.specs.Fetching.{Fetches, GoesOn, MaySay, Says, Stops, TakesOne, Wants, given_up, lent, outside, request_of};
 ghost use Rattle.resolver_fetch.specs.Orders.{orders};
@@ -24,7 +23,7 @@ impl<K: Span + Drop, P: PublicKey + Drop> Fetcher<K, P> {
     /// scan is over and the waiter clear; the keys wait as before, and the ids that were used stay
     /// used. A request that the sender took just then is not kept.
     ///
-    /// It takes as long as `scan_begin`, and as `scan_answer` for each answer: at most six for
+    /// It takes as long as `scan_begin`, and as `scan_answer` for each answer: at most five for
     /// each peer that may be asked for each due key. Keys and names are cloned; clones are to equal
     /// their sources.
     pub fn fetch<S: Sender<PublicKey = P>, D: Draws>(
