@@ -1,9 +1,9 @@
 //! Whether a book says what handles and the receiver say.
 
-ghost use Rattle.std.specs.Prelude.{◌≡◌, ◌<◌, map, true, IfOk, IsTrue};
+ghost use Rattle.std.specs.Prelude.{◌≡◌, ◌<◌, ◌↔◌, map, IfOk, IsTrue};
 ghost use Rattle.resolver_demand.specs.Backlog.{item_of, told_of};
 ghost use Rattle.resolver_mailbox.specs.Book.{call_of, closes, puts_of, takes};
-ghost use Rattle.resolver_mailbox.specs.Shares.{AgreesWith};
+ghost use Rattle.resolver_mailbox.specs.Shares.{Agrees, AgreesWith};
 
 use crate::mailbox::entry::{Entry, Posted};
 use crate::mailbox::exact::Exact;
@@ -18,7 +18,7 @@ fn is_same_item<K: Exact, S: Exact, M: Exact>(
     one: &FetchKey<K, S, M>,
     other: &FetchKey<K, S, M>,
 ) -> bool
-    ensures { IsTrue result → item_of one.now ≡ item_of other.now }
+    ensures { IsTrue result ↔ (item_of one.now ≡ item_of other.now) }
 {
     one.key.is_same(&other.key)
         && one.subscribers.is_same(&other.subscribers)
@@ -30,7 +30,7 @@ fn are_same_items<K: Exact, S: Exact, M: Exact>(
     these: &[FetchKey<K, S, M>],
     those: &[FetchKey<K, S, M>],
 ) -> bool
-    ensures { IsTrue result → map item_of these.now ≡ map item_of those.now }
+    ensures { IsTrue result ↔ (map item_of these.now ≡ map item_of those.now) }
 {
     if these.len() != those.len() {
         return false;
@@ -48,7 +48,7 @@ fn is_same_message<K: Exact, S: Exact, M: Exact, Q: Exact>(
     one: &Message<K, S, M, Q>,
     other: &Message<K, S, M, Q>,
 ) -> bool
-    ensures { IsTrue result → told_of one.now ≡ told_of other.now }
+    ensures { IsTrue result ↔ (told_of one.now ≡ told_of other.now) }
 {
     match one {
         Message::Fetch(items) => match other {
@@ -63,11 +63,11 @@ fn is_same_message<K: Exact, S: Exact, M: Exact, Q: Exact>(
 }
 
 /// Whether the takes of a book are these messages.
-pub(super) fn has_takes<K: Exact, S: Exact, M: Exact, Q: Exact>(
+fn has_takes<K: Exact, S: Exact, M: Exact, Q: Exact>(
     book: &[Entry<K, S, M, Q>],
     taken: &[Message<K, S, M, Q>],
 ) -> bool
-    ensures { IsTrue result → takes (map call_of book.now) ≡ map told_of taken.now }
+    ensures { IsTrue result ↔ (takes (map call_of book.now) ≡ map told_of taken.now) }
 {
     let mut next = 0;
     for entry in book {
@@ -91,7 +91,7 @@ fn has_puts<K: Exact, S: Exact, M: Exact, Q: Exact>(
     handle: u64,
     messages: &[Message<K, S, M, Q>],
 ) -> bool
-    ensures { IsTrue result → puts_of handle (map call_of book.now) ≡ map told_of messages.now }
+    ensures { IsTrue result ↔ (puts_of handle (map call_of book.now) ≡ map told_of messages.now) }
 {
     let mut next = 0;
     for entry in book {
@@ -115,7 +115,7 @@ fn has_puts<K: Exact, S: Exact, M: Exact, Q: Exact>(
 
 /// Whether a book has a close.
 fn has_close<K, S, M, Q>(book: &[Entry<K, S, M, Q>]) -> bool
-    ensures { IsTrue result → 0 < closes (map call_of book.now) }
+    ensures { IsTrue result ↔ (0 < closes (map call_of book.now)) }
 {
     for entry in book {
         if let Entry::Close = entry {
@@ -126,13 +126,33 @@ fn has_close<K, S, M, Q>(book: &[Entry<K, S, M, Q>]) -> bool
 }
 
 /// Whether a book agrees with a share.
-pub(super) fn agrees<K: Exact, S: Exact, M: Exact, Q: Exact, N: Names>(
+fn agrees_with<K: Exact, S: Exact, M: Exact, Q: Exact, N: Names>(
     book: &[Entry<K, S, M, Q>],
     share: &Share<K, S, M, Q, N>,
 ) -> bool
-    ensures { IsTrue result → AgreesWith (map call_of book.now) share.now }
+    ensures { IsTrue result ↔ (AgreesWith (map call_of book.now) share.now) }
 {
     has_puts(book, share.handle(), share.puts()) && (!share.is_closed() || has_close(book))
+}
+
+/// Whether a book agrees with what was taken and with all of these shares.
+pub(super) fn agrees<K: Exact, S: Exact, M: Exact, Q: Exact, N: Names>(
+    book: &[Entry<K, S, M, Q>],
+    taken: &[Message<K, S, M, Q>],
+    shares: &[&Share<K, S, M, Q, N>],
+) -> bool
+    ensures { IsTrue result ↔ Agrees (map call_of book.now) (map told_of taken.now)
+        (map (λ share. share.now) shares.now) }
+{
+    if !has_takes(book, taken) {
+        return false;
+    }
+    for share in shares {
+        if !agrees_with(book, share) {
+            return false;
+        }
+    }
+    true
 }
 
 /// The same calls again.

@@ -7,7 +7,7 @@ ghost use Rattle.resolver_base.specs.declared.base.feedback.Feedback.TheVariants
 ghost use Rattle.resolver_demand.specs.Backlog.{told_of};
 ghost use Rattle.resolver_base.specs.Names.{names};
 ghost use Rattle.resolver_mailbox.specs.Book.{IsBook, call_of};
-ghost use Rattle.resolver_mailbox.specs.Desk.{desk_closed, desk_put, desk_taken, empty_book, feedback_of};
+ghost use Rattle.resolver_mailbox.specs.Desk.{calls_of, desk_closed, desk_put, desk_taken, empty_book, feedback_of};
 ghost use Rattle.resolver_mailbox.specs.Shares.{IsAdded, IsCounted, marked};
 
 use crate::mailbox::agreeing::copied;
@@ -152,6 +152,8 @@ impl<
 
     /// The calls on the desk so far, in their order. There are none where it isn't recorded.
     pub(super) fn calls(&self, alloc: Global) -> Result<Vec<Entry<K, S, M, Q>>, AllocError>
+        ensures same { IfOk result
+            (λ calls. map call_of calls.items ≡ calls_of self.now.desk) }
         ensures legal { N.is_recorded ≡ true → IfOk result
             (λ calls. IsBook (names K.cmp S.cmp) Q.keeps (map call_of calls.items)) }
         ensures none { N.is_recorded ≡ false → IfOk result

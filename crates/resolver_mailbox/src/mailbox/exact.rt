@@ -1,14 +1,14 @@
 //! Values that are compared exactly.
 
-ghost use Rattle.std.specs.Prelude.{◌≡◌, IsTrue};
+ghost use Rattle.std.specs.Prelude.{◌≡◌, ◌↔◌, IsTrue};
 
 use resolver_base::base::NonEmptyVec;
 
-/// A type whose values are the same where they are said to be.
+/// A type whose values are said to be the same exactly where they are.
 pub trait Exact {
     /// Whether both are the same.
     fn is_same(&self, other: &Self) -> bool
-        ensures { IsTrue result → self.now ≡ other.now };
+        ensures { IsTrue result ↔ (self.now ≡ other.now) };
 }
 
 impl Exact for () {
@@ -67,7 +67,7 @@ impl<T: Exact> Exact for Option<T> {
 
 /// Whether both lists are the same.
 fn are_same<T: Exact>(these: &[T], those: &[T]) -> bool
-    ensures { IsTrue result → these.now ≡ those.now }
+    ensures { IsTrue result ↔ (these.now ≡ those.now) }
 {
     if these.len() != those.len() {
         return false;

@@ -1,16 +1,16 @@
 //! The end that takes messages.
 
-ghost use Rattle.std.specs.Prelude.{All, ◌≡◌, ◌≢◌, ◌++◌, [], false, true, if◌then◌else◌, map, IfOk, IfErr, IfSome, IsOk};
+ghost use Rattle.std.specs.Prelude.{◌≡◌, ◌≢◌, ◌++◌, [], false, true, if◌then◌else◌, map, IfOk, IfErr, IfSome, IsOk};
 ghost use Rattle.futures.specs.Poll.{IfReady, OnPending};
 ghost use Rattle.futures.specs.Task.{Covers, IsArmed, Keeps};
 ghost use Rattle.resolver_base.specs.declared.base.fault.Fault.TheVariants.{OutOfMemory, Uneven};
 ghost use Rattle.resolver_base.specs.Names.{names};
 ghost use Rattle.resolver_demand.specs.Backlog.{told_of};
-ghost use Rattle.resolver_mailbox.specs.Book.{IsBook, call_of, takes};
+ghost use Rattle.resolver_mailbox.specs.Book.{IsBook, call_of};
 ghost use Rattle.resolver_mailbox.specs.Given.{given};
-ghost use Rattle.resolver_mailbox.specs.Shares.{AgreesWith};
+ghost use Rattle.resolver_mailbox.specs.Shares.{Agrees, Differs};
 
-use crate::mailbox::agreeing::{agrees, has_takes};
+use crate::mailbox::agreeing::agrees;
 use crate::mailbox::entry::Entry;
 use crate::mailbox::exact::Exact;
 use crate::mailbox::naming::Naming;
@@ -97,9 +97,11 @@ impl<
         S: Exact,
         M: Exact,
         Q: Exact,
-        ensures taken { IfOk result (λ book. takes (map call_of book.items) ≡ self.now.taken) }
-        ensures shares { IfOk result (λ book.
-            All (λ share. AgreesWith (map call_of book.items) share.now) shares.now) }
+        ensures agrees { IfOk result (λ book. Agrees (map call_of book.items) self.now.taken
+            (map (λ share. share.now) shares.now)) }
+        ensures uneven { IfErr result (λ fault. fault ≡ Uneven
+            → Differs {M = M} (names K.cmp S.cmp) Q.keeps N.is_recorded self.now.taken
+            (map (λ share. share.now) shares.now)) }
         ensures legal { N.is_recorded ≡ true → IfOk result
             (λ book. IsBook (names K.cmp S.cmp) Q.keeps (map call_of book.items)) }
         ensures none { N.is_recorded ≡ false → IfOk result
@@ -109,13 +111,8 @@ impl<
         let guard = self.shared.state.lock(&self.rt);
         let book = guard.calls(alloc)?;
         drop(guard);
-        if !has_takes(book.as_slice(), self.taken.as_slice()) {
+        if !agrees(book.as_slice(), self.taken.as_slice(), shares) {
             return Err(Fault::Uneven);
-        }
-        for share in shares {
-            if !agrees(book.as_slice(), share) {
-                return Err(Fault::Uneven);
-            }
         }
         Ok(book)
     }
