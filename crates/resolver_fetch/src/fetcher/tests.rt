@@ -20,18 +20,11 @@ fn config() -> Config<u8>
     }
 }
 
-/// These peers.
-fn peers_of(alloc: Global, names: &[u8]) -> Result<Vec<u8>, Fault> {
-    let mut peers = Vec::new(alloc);
-    for name in names {
-        peers.push(*name)?;
-    }
-    Ok(peers)
-}
-
 /// Takes one peer in place of the latest set.
 fn set_peer(alloc: Global, fetcher: &mut Fetcher<u8, u8>, peer: u8) -> Result<(), Fault> {
-    fetcher.reconcile(peers_of(alloc, &[peer])?)
+    let mut peers = Vec::new(alloc);
+    peers.push(peer)?;
+    fetcher.reconcile(peers)
 }
 
 /// Begins a scan, and looks at what it asks.
@@ -145,157 +138,5 @@ fn limits_and_refusals(rt: HostRuntime) -> Result<(), Fail> {
     assert_eq!(rt; fetcher.get_pending_deadline(), Some(9));
     assert!(rt; !fetcher.is_scanning());
     assert_eq!(rt; fetcher.scan_answer(Answer::Drawn(0)), Err(Fault::Unasked));
-    Ok(())
-}
-
-/// Draws a peer by weight among some, each of weight 1, and is told to wait.
-fn waits_for(
-    rt: &impl Abort,
-    fetcher: &mut Fetcher<u8, u8>,
-    draw: (u128, u128),
-    peer: u8,
-    until: u128,
-) -> Result<Option<Ask<u8, u8>>, Fault> {
-    answers(rt, fetcher, Answer::Drawn(0), Some(Ask::Draw(draw.0)))?;
-    answers(rt, fetcher, Answer::Drawn(draw.1), Some(Ask::Check(peer)))?;
-    fetcher.scan_answer(Answer::Checked(Check::Until(until)))
-}
-
-#[test]
-fn targets_out_of_order(rt: HostRuntime) -> Result<(), Fail> {
-    let mut fetcher = Fetcher::new(rt.alloc(), config());
-    fetcher.reconcile(peers_of(rt.alloc(), &[5, 1, 3, 2])?)?;
-    fetcher.add_ready(1, 5)?;
-    let first = NonEmptyVec::try_from(peers_of(rt.alloc(), &[5, 2, 9])?)?;
-    fetcher.add_targets(1, first)?;
-    let second = NonEmptyVec::try_from(peers_of(rt.alloc(), &[3, 2])?)?;
-    fetcher.add_targets(1, second)?;
-    assert!(rt; fetcher.has_targets(&1));
-    begins(&rt, &mut fetcher, 5, Some(Ask::Draw(4)))?;
-    assert_eq!(rt;
-        waits_for(&rt, &mut fetcher, (3, 0), 2, 9)?,
-        Some(Ask::Draw(4))
-    );
-    assert_eq!(rt;
-        waits_for(&rt, &mut fetcher, (2, 1), 5, 8)?,
-        Some(Ask::Draw(4))
-    );
-    assert_eq!(rt; waits_for(&rt, &mut fetcher, (1, 0), 3, 20)?, None);
-    assert_eq!(rt; fetcher.get_pending_deadline(), Some(8));
-    Ok(())
-}
-
-#[test]
-fn fetcher_two_kinds(rt: HostRuntime) -> Result<(), Fail> {
-    let mut fetcher = Fetcher::new(rt.alloc(), config());
-    set_peer(rt.alloc(), &mut fetcher, 4)?;
-    fetcher.add_retry(2, 0)?;
-    assert_eq!(rt; fetcher.get_pending_deadline(), Some(10));
-    fetcher.add_ready(1, 15)?;
-    assert_eq!(rt; fetcher.get_pending_deadline(), Some(15));
-    begins(&rt, &mut fetcher, 15, Some(Ask::Draw(4)))?;
-    assert_eq!(rt;
-        waits_for(&rt, &mut fetcher, (1, 0), 4, 19)?,
-        Some(Ask::Draw(5))
-    );
-    assert_eq!(rt; waits_for(&rt, &mut fetcher, (1, 0), 4, 18)?, None);
-    assert_eq!(rt; fetcher.get_pending_deadline(), Some(18));
-    Ok(())
-}
-
-#[test]
-fn next_due_of_both_kinds(rt: HostRuntime) -> Result<(), Fail> {
-    let mut fetcher = Fetcher::new(rt.alloc(), config());
-    fetcher.add_ready(3, 5)?;
-    fetcher.add_ready(1, 100)?;
-    begins(&rt, &mut fetcher, 5, None)?;
-    assert_eq!(rt; fetcher.get_pending_deadline(), Some(100));
-    fetcher.add_retry(2, 50)?;
-    begins(&rt, &mut fetcher, 5, None)?;
-    assert_eq!(rt; fetcher.get_pending_deadline(), Some(60));
-    begins(&rt, &mut fetcher, 60, None)?;
-    assert_eq!(rt; fetcher.get_pending_deadline(), Some(100));
-    begins(&rt, &mut fetcher, 100, None)?;
-    assert_eq!(rt; fetcher.get_pending_deadline(), Some(u128::MAX));
-    Ok(())
-}
-
-/// Asks under the id that follows the last one, while these ids are held by requests.
-fn takes_id(rt: &impl Abort, alloc: Global, last: ID, held: &[ID], id: ID) -> Result<(), Fault> {
-    let mut fetcher = Fetcher::new(alloc, config());
-    for id in held {
-        let request = Request {
-            key: 2,
-            peer: 4,
-            start: 0,
-            deadline: 50,
-        };
-        fetcher.requests.insert(*id, request)?;
-    }
-    fetcher.last_id = Some(last);
-    set_peer(alloc, &mut fetcher, 4)?;
-    fetcher.add_ready(1, 5)?;
-    begins(rt, &mut fetcher, 5, Some(Ask::Draw(4)))?;
-    answers(rt, &mut fetcher, Answer::Drawn(0), Some(Ask::Draw(1)))?;
-    answers(rt, &mut fetcher, Answer::Drawn(0), Some(Ask::Check(4)))?;
-    let request = Ask::Request {
-        peer: 4,
-        id,
-        key: 1,
-        priority: false,
-    };
-    answers(
-        rt,
-        &mut fetcher,
-        Answer::Checked(Check::Clear),
-        Some(request),
-    )
-}
-
-#[test]
-fn ids_held_by_requests(rt: HostRuntime) -> Result<(), Fail> {
-    takes_id(&rt, rt.alloc(), 4, &[5, 6], 7)?;
-    takes_id(&rt, rt.alloc(), u64::MAX, &[0], 1)?;
-    Ok(())
-}
-
-#[test]
-fn thirty_two_responses(rt: HostRuntime) -> Result<(), Fail> {
-    let mut fetcher = Fetcher::<u8, u8>::new(rt.alloc(), config());
-    set_peer(rt.alloc(), &mut fetcher, 4)?;
-    fetcher.record_response(&4, 1, u64::MAX);
-    assert_eq!(rt; fetcher.weight(&4), Some(u64::MAX));
-    for _ in 0..31 {
-        fetcher.record_response(&4, 0, 0);
-    }
-    assert_eq!(rt; fetcher.weight(&4), Some(8_589_934_592_000_000_000));
-    fetcher.record_response(&4, 0, 0);
-    assert_eq!(rt; fetcher.weight(&4), Some(4_294_967_296_000_000_000));
-    assert_eq!(rt; fetcher.weight(&3), None);
-    Ok(())
-}
-
-#[test]
-fn charged_the_longest_time(rt: HostRuntime) -> Result<(), Fail> {
-    let longest = Config {
-        me: None,
-        fetch_timeout: DURATION_MAX,
-        retry_delay: DURATION_MAX,
-        priority_requests: false,
-    };
-    let mut fetcher = Fetcher::<u8, u8>::new(rt.alloc(), longest);
-    set_peer(rt.alloc(), &mut fetcher, 4)?;
-    fetcher.record_response(&4, 1, u64::MAX);
-    let request = Request {
-        key: 1,
-        peer: 4,
-        start: 0,
-        deadline: DURATION_MAX,
-    };
-    fetcher.requests.insert(7, request)?;
-    assert_eq!(rt; fetcher.pop_active(DURATION_MAX - 1), None);
-    assert_eq!(rt; fetcher.weight(&4), Some(u64::MAX));
-    assert_eq!(rt; fetcher.pop_active(DURATION_MAX), Some(1));
-    assert_eq!(rt; fetcher.weight(&4), Some(1));
     Ok(())
 }

@@ -111,6 +111,8 @@ const KEY: Key = Key { value: 1 };
 
 const ACCEPTED: Unreliable = Unreliable::Outcome(Feedback::Ok);
 
+const SLOWLY: Unreliable = Unreliable::Outcome(Feedback::Backoff);
+
 /// No local name, requests that are over after 50, and retries after 10.
 fn config() -> Config<Peer>
     ensures { IsTimely result.fetch_timeout result.retry_delay }
@@ -123,20 +125,93 @@ fn config() -> Config<Peer>
     }
 }
 
-/// Takes these peers in place of the latest set.
-fn set_peers(alloc: Global, fetcher: &mut Fetcher<Key, Peer>, names: &[u8]) -> Result<(), Fault> {
+type Node = Fetcher<Key, Peer>;
+
+// What a test does and sees goes through calls that promise nothing, so that a test is proved
+// without what a fetcher is.
+
+/// These peers.
+fn named(alloc: Global, names: &[u8]) -> Result<Vec<Peer>, Fault> {
     let mut peers = Vec::new(alloc);
     for name in names {
         peers.push(Peer(*name))?;
     }
-    fetcher.reconcile(peers)
+    Ok(peers)
+}
+
+/// Takes these peers in place of the latest set.
+fn set_peers(alloc: Global, fetcher: &mut Node, names: &[u8]) -> Result<(), Fault> {
+    fetcher.reconcile(named(alloc, names)?)
+}
+
+/// Takes these peers as the ones that are blocked.
+fn set_blocked(alloc: Global, fetcher: &mut Node, names: &[u8]) -> Result<(), Fault> {
+    fetcher.set_blocked(named(alloc, names)?)
+}
+
+/// The key waits from now on.
+fn add_ready(fetcher: &mut Node, now: u128) -> Result<(), Fault>
+    requires { now < 2 ^ 94 }
+{
+    fetcher.add_ready(KEY, now)
+}
+
+/// The key waits to be tried again.
+fn add_retry(fetcher: &mut Node, now: u128) -> Result<(), Fault>
+    requires { now < 2 ^ 94 }
+{
+    fetcher.add_retry(KEY, now)
+}
+
+/// The key may be asked of this peer alone.
+fn add_target(alloc: Global, fetcher: &mut Node, name: u8) -> Result<(), Fault> {
+    fetcher.add_targets(KEY, NonEmptyVec::new(alloc, Peer(name))?)
+}
+
+/// When a scan may do something, and when a request is over.
+fn deadlines(fetcher: &Node) -> (Option<u128>, Option<u128>) {
+    (
+        fetcher.get_pending_deadline(),
+        fetcher.get_active_deadline(),
+    )
+}
+
+/// Whether the key waits, how many requests there are, and how often the key was put back.
+fn counts(fetcher: &Node) -> (bool, usize, u32) {
+    (
+        fetcher.is_waiting(&KEY),
+        fetcher.len_active(),
+        fetcher.retries(&KEY),
+    )
+}
+
+/// How long the request took that a response of this peer answers.
+fn pop_response(fetcher: &mut Node, id: ID, name: u8, now: u128) -> Option<u128>
+    requires { now < 2 ^ 94 }
+{
+    let (key, elapsed) = fetcher.pop_response(id, &Peer(name), now)?;
+    if key == KEY { Some(elapsed) } else { None }
+}
+
+/// Whether this peer answers a request for the key without data.
+fn pop_missing(fetcher: &mut Node, id: ID, name: u8, now: u128) -> bool
+    requires { now < 2 ^ 94 }
+{
+    fetcher.pop_missing(id, &Peer(name), now) == Some(KEY)
+}
+
+/// Whether the time of a request for the key is over.
+fn pop_active(fetcher: &mut Node, now: u128) -> bool
+    requires { now < 2 ^ 94 }
+{
+    fetcher.pop_active(now) == Some(KEY)
 }
 
 /// Asks peer 4 for key 1 under the id 5, at 30.
-fn asks_first(rt: &impl Abort, alloc: Global) -> Result<Fetcher<Key, Peer>, Fault> {
+fn asks_first(rt: &impl Abort, alloc: Global) -> Result<Node, Fault> {
     let mut fetcher = Fetcher::new(alloc, config());
     set_peers(alloc, &mut fetcher, &[4])?;
-    fetcher.add_ready(KEY, 30)?;
+    add_ready(&mut fetcher, 30)?;
     fetches(
         rt,
         &mut fetcher,
@@ -151,21 +226,21 @@ fn asks_first(rt: &impl Abort, alloc: Global) -> Result<Fetcher<Key, Peer>, Faul
 #[test]
 fn fetcher_first_request(rt: HostRuntime) -> Result<(), Fail> {
     let mut fetcher = asks_first(&rt, rt.alloc())?;
-    assert!(rt; !fetcher.is_waiting(&KEY));
-    assert_eq!(rt; fetcher.get_active_deadline(), Some(80));
-    assert_eq!(rt; fetcher.pop_response(5, &Peer(3), 40), None);
-    assert_eq!(rt; fetcher.pop_response(5, &Peer(4), 20), Some((KEY, 0)));
+    assert_eq!(rt; counts(&fetcher), (false, 1, 0));
+    assert_eq!(rt; deadlines(&fetcher), (None, Some(80)));
+    assert_eq!(rt; pop_response(&mut fetcher, 5, 3, 40), None);
+    assert_eq!(rt; pop_response(&mut fetcher, 5, 4, 20), Some(0));
     Ok(())
 }
 
 #[test]
 fn fetcher_missing_and_retry(rt: HostRuntime) -> Result<(), Fail> {
     let mut fetcher = asks_first(&rt, rt.alloc())?;
-    assert_eq!(rt; fetcher.pop_missing(5, &Peer(4), 50), Some(KEY));
-    assert_eq!(rt; fetcher.len_active(), 0);
+    assert!(rt; pop_missing(&mut fetcher, 5, 4, 50));
+    assert_eq!(rt; counts(&fetcher), (false, 0, 0));
     assert_eq!(rt; fetcher.weight(&Peer(4)), Some(1));
-    fetcher.add_retry(KEY, 50)?;
-    assert_eq!(rt; fetcher.get_pending_deadline(), Some(60));
+    add_retry(&mut fetcher, 50)?;
+    assert_eq!(rt; deadlines(&fetcher), (Some(60), None));
     // The next id follows the last.
     fetches(
         &rt,
@@ -175,19 +250,19 @@ fn fetcher_missing_and_retry(rt: HostRuntime) -> Result<(), Fail> {
         &[(4, Check::Clear)],
         &[(4, b"\0\0\0\0\0\0\0\x06\0\x01", false, ACCEPTED)],
     )?;
-    assert_eq!(rt; fetcher.get_active_deadline(), Some(110));
+    assert_eq!(rt; deadlines(&fetcher), (None, Some(110)));
     Ok(())
 }
 
 #[test]
 fn fetcher_wake_up(rt: HostRuntime) -> Result<(), Fail> {
     let mut fetcher = Fetcher::new(rt.alloc(), config());
-    fetcher.add_ready(KEY, 5)?;
-    assert_eq!(rt; fetcher.get_pending_deadline(), Some(5));
+    add_ready(&mut fetcher, 5)?;
+    assert_eq!(rt; deadlines(&fetcher), (Some(5), None));
     fetches(&rt, &mut fetcher, 5, &[], &[], &[])?;
-    assert_eq!(rt; fetcher.get_pending_deadline(), Some(u128::MAX));
+    assert_eq!(rt; deadlines(&fetcher), (Some(u128::MAX), None));
     set_peers(rt.alloc(), &mut fetcher, &[4])?;
-    assert_eq!(rt; fetcher.get_pending_deadline(), Some(5));
+    assert_eq!(rt; deadlines(&fetcher), (Some(5), None));
     Ok(())
 }
 
@@ -195,7 +270,9 @@ fn fetcher_wake_up(rt: HostRuntime) -> Result<(), Fail> {
 fn refused_sends(rt: HostRuntime) -> Result<(), Fail> {
     let mut fetcher = Fetcher::new(rt.alloc(), config());
     set_peers(rt.alloc(), &mut fetcher, &[3, 4])?;
-    fetcher.add_ready(KEY, 0)?;
+    add_ready(&mut fetcher, 0)?;
+    let last = b"\xff\xff\xff\xff\xff\xff\xff\xff\0\x01";
+    let first = b"\0\0\0\0\0\0\0\0\0\x01";
     let closed = Unreliable::Outcome(Feedback::Closed);
     fetches(
         &rt,
@@ -210,44 +287,43 @@ fn refused_sends(rt: HostRuntime) -> Result<(), Fail> {
         ],
         &[(3, Check::Clear), (4, Check::Clear)],
         &[
-            (
-                3,
-                b"\xff\xff\xff\xff\xff\xff\xff\xff\0\x01",
-                false,
-                Unreliable::Rejected,
-            ),
-            (4, b"\0\0\0\0\0\0\0\0\0\x01", false, closed),
+            (3, last, false, Unreliable::Rejected),
+            (4, first, false, closed),
         ],
     )?;
-    assert!(rt; fetcher.is_waiting(&KEY));
-    assert_eq!(rt; fetcher.len_active(), 0);
-    assert_eq!(rt; fetcher.retries(&KEY), 0);
-    assert_eq!(rt; fetcher.get_pending_deadline(), Some(10));
+    assert_eq!(rt; counts(&fetcher), (true, 0, 0));
+    assert_eq!(rt; deadlines(&fetcher), (Some(10), None));
     Ok(())
 }
 
-#[test]
-fn timeout_and_limits(rt: HostRuntime) -> Result<(), Fail> {
+/// Asks peer 4 with priority for the key under the id 1234, at 0, where peer 9 is the local one,
+/// and nothing is waited for before a retry.
+fn asks_with_priority(rt: &impl Abort, alloc: Global) -> Result<Node, Fault> {
     let config = Config {
         me: Some(Peer(9)),
         fetch_timeout: 50,
         retry_delay: 0,
         priority_requests: true,
     };
-    let mut fetcher = Fetcher::new(rt.alloc(), config);
-    set_peers(rt.alloc(), &mut fetcher, &[3, 4])?;
-    fetcher.add_ready(KEY, 0)?;
-    let slow = Unreliable::Outcome(Feedback::Backoff);
+    let mut fetcher = Fetcher::new(alloc, config);
+    set_peers(alloc, &mut fetcher, &[3, 4])?;
+    add_ready(&mut fetcher, 0)?;
     fetches(
-        &rt,
+        rt,
         &mut fetcher,
         0,
         &[(4, 3), (2, 1), (1 << 64, 1234)],
         &[(4, Check::Clear)],
-        &[(4, b"\0\0\0\0\0\0\x04\xd2\0\x01", true, slow)],
+        &[(4, b"\0\0\0\0\0\0\x04\xd2\0\x01", true, SLOWLY)],
     )?;
-    assert_eq!(rt; fetcher.pop_active(50), Some(KEY));
-    fetcher.add_retry(KEY, 50)?;
+    Ok(fetcher)
+}
+
+#[test]
+fn timeout_and_limits(rt: HostRuntime) -> Result<(), Fail> {
+    let mut fetcher = asks_with_priority(&rt, rt.alloc())?;
+    assert!(rt; pop_active(&mut fetcher, 50));
+    add_retry(&mut fetcher, 50)?;
     fetches(
         &rt,
         &mut fetcher,
@@ -256,8 +332,8 @@ fn timeout_and_limits(rt: HostRuntime) -> Result<(), Fail> {
         &[(3, Check::Until(70)), (4, Check::Until(60))],
         &[],
     )?;
-    assert_eq!(rt; fetcher.retries(&KEY), 1);
-    assert_eq!(rt; fetcher.get_pending_deadline(), Some(60));
+    assert_eq!(rt; counts(&fetcher), (true, 0, 1));
+    assert_eq!(rt; deadlines(&fetcher), (Some(60), None));
     Ok(())
 }
 
@@ -265,14 +341,12 @@ fn timeout_and_limits(rt: HostRuntime) -> Result<(), Fail> {
 fn blocked_target(rt: HostRuntime) -> Result<(), Fail> {
     let mut fetcher = Fetcher::new(rt.alloc(), config());
     set_peers(rt.alloc(), &mut fetcher, &[3, 4])?;
-    let mut blocked = Vec::new(rt.alloc());
-    blocked.push(Peer(3))?;
-    fetcher.set_blocked(blocked)?;
-    fetcher.add_targets(KEY, NonEmptyVec::new(rt.alloc(), Peer(3))?)?;
-    fetcher.add_ready(KEY, 0)?;
+    set_blocked(rt.alloc(), &mut fetcher, &[3])?;
+    add_target(rt.alloc(), &mut fetcher, 3)?;
+    add_ready(&mut fetcher, 0)?;
     fetches(&rt, &mut fetcher, 0, &[], &[], &[])?;
-    assert_eq!(rt; fetcher.get_pending_deadline(), Some(u128::MAX));
-    fetcher.set_blocked(Vec::new(rt.alloc()))?;
+    assert_eq!(rt; deadlines(&fetcher), (Some(u128::MAX), None));
+    set_blocked(rt.alloc(), &mut fetcher, &[])?;
     fetches(
         &rt,
         &mut fetcher,
@@ -281,6 +355,6 @@ fn blocked_target(rt: HostRuntime) -> Result<(), Fail> {
         &[(3, Check::Until(20))],
         &[],
     )?;
-    assert_eq!(rt; fetcher.get_pending_deadline(), Some(20));
+    assert_eq!(rt; deadlines(&fetcher), (Some(20), None));
     Ok(())
 }
