@@ -40,7 +40,7 @@ module _ {K P : Type 0} (o : Orders K P) (s : Snapshot K P) (moment : ℕ) (trai
       (λ p. any-append (λ u. same_key o w.0 u.key && same_peer o p.0 u.peer) trail t)
 
   -- for the key itself, all but the peer
-  left-same : (w : K × Waiting P) → same_key o w.0 t.key ≡ true → weighed (left o s (trail ++ t ∷ []) w) ≡ apart_from o.peer t.peer (weighed (left o s trail w))
+  pub left-same : (w : K × Waiting P) → same_key o w.0 t.key ≡ true → weighed (left o s (trail ++ t ∷ []) w) ≡ apart_from o.peer t.peer (weighed (left o s trail w))
   left-same w same =
       let after = left-after w in
       rw (after, same) (sym (weighed-filter (λ p. not (is_eq (o.peer p t.peer))) (left o s trail w)))
@@ -52,7 +52,7 @@ module _ {K P : Type 0} (o : Orders K P) (s : Snapshot K P) (moment : ℕ) (trai
     empty (p ∷ ps) none = absurd (omega (arith, none))
 
   -- a key that could not be tried can't be after a try more
-  never-again : (w : K × Waiting P) (due : Bool) → (due && nat_lt 0 (length (left o s trail w))) ≡ false → (due && nat_lt 0 (length (left o s (trail ++ t ∷ []) w))) ≡ false
+  pub never-again : (w : K × Waiting P) (due : Bool) → (due && nat_lt 0 (length (left o s trail w))) ≡ false → (due && nat_lt 0 (length (left o s (trail ++ t ∷ []) w))) ≡ false
   never-again w false before = refl
   never-again w true before = le-ltb 0 _ (omega (arith, none-left w (omega (arith, ltb-false 0 _ before))))
 

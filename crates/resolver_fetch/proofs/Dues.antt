@@ -60,24 +60,24 @@ module _ {K P : Type 0} (o : Orders K P) (f : Fetcher K P) (trail : List (Try K 
   -- where the first is past the last none is tried
   pub until-none : IsStrictlySortedBy (pair_order place_order o.key) (p ∷ ps) → is_gt (place_order p.0 last) ≡ true → first_until o f trail last (p ∷ ps) ≡ None
   until-none sorted gt =
-      ap (λ qs. option_map (λ q. trying_key o f trail q.1) (find (λ q. nat_lt 0 (length (trying_key o f trail q.1).left)) qs))
+      ap (λ qs. option_map (trying_key o f trail) (find (λ q. nat_lt 0 (length (trying_key o f trail q).left)) qs))
       (none-until o.key last p ps sorted (gt-past (place_order p.0 last) gt))
 
   -- the first is tried that has a peer left
-  pub until-here : is_gt (place_order p.0 last) ≡ false → 0 < length (trying_key o f trail p.1).left → first_until o f trail last (p ∷ ps) ≡ Some (trying_key o f trail p.1)
+  pub until-here : is_gt (place_order p.0 last) ≡ false → 0 < length (trying_key o f trail p).left → first_until o f trail last (p ∷ ps) ≡ Some (trying_key o f trail p)
   until-here le some = rw (le-up-to (place_order p.0 last) le, lt-ltb 0 _ some) refl
 
   -- one without is passed
-  pub until-past : is_gt (place_order p.0 last) ≡ false → length (trying_key o f trail p.1).left ≡ 0 → first_until o f trail last (p ∷ ps) ≡ first_until o f trail last ps
+  pub until-past : is_gt (place_order p.0 last) ≡ false → length (trying_key o f trail p).left ≡ 0 → first_until o f trail last (p ∷ ps) ≡ first_until o f trail last ps
   until-past le none =
-      let empty : nat_lt 0 (length (trying_key o f trail p.1).left) ≡ false = rw none refl in
+      let empty : nat_lt 0 (length (trying_key o f trail p).left) ≡ false = rw none refl in
       rw (le-up-to (place_order p.0 last) le, empty) refl
 
 not-itself-past : (r : Bool) (d : ℕ) → is_le (ordering_then (bool_cmp false r) (nat_cmp 0 d)) ≡ true
 not-itself-past false d = grind (arith, nat_tests, common_steps)
 not-itself-past true d = refl
 
-up-to-fresh : (r : Bool) (d m : ℕ) → is_le (ordering_then (bool_cmp r false) (nat_cmp d m)) ≡ (not r && nat_le d m)
+pub up-to-fresh : (r : Bool) (d m : ℕ) → is_le (ordering_then (bool_cmp r false) (nat_cmp d m)) ≡ (not r && nat_le d m)
 up-to-fresh false d m = grind (arith, nat_tests, common_steps)
 up-to-fresh true d m = refl
 
@@ -89,7 +89,7 @@ from-fresh : (r : Bool) (d m : ℕ) → is_le (ordering_then (bool_cmp false r) 
 from-fresh false d m = grind (arith, nat_tests, common_steps)
 from-fresh true d m = refl
 
-from-retry : (r : Bool) (d m : ℕ) → is_le (ordering_then (bool_cmp true r) (nat_cmp m d)) ≡ (r && nat_le m d)
+pub from-retry : (r : Bool) (d m : ℕ) → is_le (ordering_then (bool_cmp true r) (nat_cmp m d)) ≡ (r && nat_le m d)
 from-retry false d m = refl
 from-retry true d m = grind (arith, nat_tests, common_steps)
 

@@ -18,6 +18,7 @@ pub mod ChoosesBelow
 pub mod Askable
 pub mod Dues
 pub mod Seeking
+pub mod Tried
 pub mod Entries
 pub mod Soonest
 pub mod Timed
@@ -25,5 +26,6 @@ pub mod NextIds
 pub mod Stepping
 pub mod Nexts
 pub mod Continues
+pub mod Passes
 pub mod Progress
 pub mod Fetching

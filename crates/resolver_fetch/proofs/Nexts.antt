@@ -1,16 +1,16 @@
 -- What the open scan does next.
-use Rattle.std.proofs.Common.{◌≡◌, refl, ap, ◌∙◌, ℕ, true, List, Option, None, Some, is_some, option_map}
+use Rattle.std.proofs.Common.{◌≡◌, refl, ap, sym, ◌∙◌, ℕ, true, List, Option, None, Some, is_some, option_map}
 use Rattle.std.specs.Prelude.{option_and_then}
 use Rattle.resolver_fetch.specs.declared.fetcher.trail.Expected.{Expected}
 use Rattle.resolver_fetch.specs.declared.fetcher.trail.Try.{Try}
 use Rattle.resolver_fetch.specs.declared.fetcher.trying.Next.{Next}
-use Rattle.resolver_fetch.specs.declared.fetcher.trying.Next.TheVariants.{Try as Tries}
+use Rattle.resolver_fetch.specs.declared.fetcher.trying.Next.TheVariants.{Try as Tries, Wait}
 use Rattle.resolver_fetch.specs.Fetcher.{Fetcher, snapshot}
 use Rattle.resolver_fetch.specs.Orders.{Orders}
 use Rattle.resolver_fetch.specs.Scan.{Scan, waiter_of}
-use Rattle.resolver_fetch.specs.Seeking.{next_for, next_now, next_of, tried_now}
+use Rattle.resolver_fetch.specs.Seeking.{next_for, next_now, next_of, scan_at, tried_now}
 use Rattle.resolver_fetch.specs.Trying.{Trying, trying}
-use Rattle.resolver_fetch.proofs.Stepping.{kept_scan}
+use Rattle.resolver_fetch.proofs.Stepping.{kept_scan, tried-found}
 
 module _ {K P : Type 0} (o : Orders K P) (f : Fetcher K P) where
   abbrev next_in : Option (Scan K P) → Option (Next K P)
@@ -46,3 +46,10 @@ module _ {K P : Type 0} (o : Orders K P) (f : Fetcher K P) (moment : ℕ) (trail
   pub next-found : (expects : Option (Expected P)) → f.scan ≡ kept_scan o moment trail expects → is_some expects ≡ true → next_now o f ≡ Some (next_of o f moment trail)
   next-found expects is some =
       ap (option_map (λ s. next_for o (trying o (snapshot o f) s) (waiter_of o (snapshot o f) s))) is ∙ next-open expects some
+
+  -- a scan that tries nothing ends in vain
+  pub next-waits : (expects : Option (Expected P)) → f.scan ≡ kept_scan o moment trail expects → is_some expects ≡ true → tried_now o f ≡ None
+      → next_now o f ≡ Some (Wait (waiter_of o (snapshot o f) (scan_at moment trail)))
+  next-waits expects is some none =
+      next-found expects is some
+      ∙ ap (λ found. Some (next_for o found (waiter_of o (snapshot o f) (scan_at moment trail)))) (sym (tried-found o f moment trail expects is some) ∙ none)

@@ -17,7 +17,7 @@ use Rattle.resolver_fetch.specs.declared.fetcher.trail.Try.{Try}
 use Rattle.resolver_fetch.specs.declared.fetcher.trail.Expected.{Expected}
 use Rattle.resolver_fetch.specs.declared.fetcher.trail.Expected.TheVariants.{Mode, ByWeight, ByPlace, Checking, FirstId, Sending}
 use Rattle.resolver_fetch.specs.Choice.{chosen}
-use Rattle.resolver_fetch.specs.Fetcher.{Fetcher, answered as answered_with, asked_by, question, scan_answer, scan_taken, snapshot, turned}
+use Rattle.resolver_fetch.specs.Fetcher.{Fetcher, answered as answered_with, asked_by, question, scan_answer, scan_begin, scan_taken, snapshot, turned}
 use Rattle.resolver_fetch.specs.Orders.{Orders}
 use Rattle.resolver_fetch.specs.Scores.{weight_of}
 use Rattle.resolver_fetch.specs.Seeking.{scan_at, tried_next, tried_now}
@@ -230,6 +230,15 @@ module _ {K P : Type 0} (o : Orders K P) (f : Fetcher K P) (moment : ℕ) (trail
       ap (λ ts. after_all o (record f { scan = kept_scan o moment ts expects })) added
       ∙ fails-for t.key peer reason expects (is-open t tried)
       ∙ ap (turned_by o f (λ s. stepped o (snapshot o f) s t.key (steps.Fail peer reason))) (sym is)
+
+-- a scan that begins goes on without a trail
+pub begins-on : {K P : Type 0} (o : Orders K P) (f : Fetcher K P) (now : ℕ) (e : Expected P)
+    → after_all o (record f { scan = Some (record { moment = now; trail = []; expects = Some e }) }) ≡ scan_begin o now f
+begins-on {K} {P} o f now e = at (next o (snapshot o f) (scan_at now [])) where
+  at : (w : Option (K × Waiting P)) → turned o (goes_on_with o (snapshot o f) (record { moment = now; trail = []; expects = Some e }) w) (record f { scan = Some (record { moment = now; trail = []; expects = Some e }) })
+      ≡ turned o (goes_on_with o (snapshot o f) (scan_at now []) w) f
+  at None = refl
+  at (Some w) = refl
 
 pub onto-ok : {T E : Type 0} (r : Result T E) (A B : Type 0) → (A → B) → OnOk r A → OnOk r B
 onto-ok (Ok x) A B f a = f a

@@ -18,6 +18,7 @@ pub mod Peers
 pub mod Known
 pub mod Snapshot
 pub mod Scan
+pub mod Tried
 pub mod Trying
 pub mod Fetcher
 pub mod Seeking

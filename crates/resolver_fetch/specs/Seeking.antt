@@ -1,6 +1,7 @@
 -- How a fetcher finds what a scan tries next, and when a scan in vain may be begun again.
 use Rattle.std.specs.Prelude.{◌≡◌, ℕ, ◌<◌, ◌^◌, Bool, false, not, nat_lt, List, [], ◌∷◌, length, map, Option, None, Some, option_map, option_and_then, filter, find, if◌then◌else◌}
 use Rattle.std.specs.Ordering.{bool_cmp, is_eq, is_le}
+use Rattle.resolver_base.specs.Priorities.{after}
 use Rattle.resolver_fetch.specs.declared.fetcher.place.Place.{Place}
 use Rattle.resolver_fetch.specs.declared.fetcher.trail.Try.{Try}
 use Rattle.resolver_fetch.specs.declared.fetcher.trying.Next.{Next}
@@ -8,8 +9,8 @@ use Rattle.resolver_fetch.specs.declared.fetcher.trying.Next.TheVariants.{Try as
 use Rattle.resolver_fetch.specs.Orders.{Orders}
 use Rattle.resolver_fetch.specs.Known.{Known}
 use Rattle.resolver_fetch.specs.Snapshot.{eligible}
-use Rattle.resolver_fetch.specs.Scan.{Scan, next_due, waiter_of, was_tried}
-use Rattle.resolver_fetch.specs.Trying.{Trying, weighed, trying}
+use Rattle.resolver_fetch.specs.Scan.{Scan, can_be_tried, next_due, waiter_of, was_tried}
+use Rattle.resolver_fetch.specs.Trying.{Trying, weighed, trying, trying_for}
 use Rattle.resolver_fetch.specs.Waiting.{place_order}
 use Rattle.resolver_fetch.specs.Fetcher.{Fetcher, IsTimely, opening, retries_of, snapshot, targets_of, waiting_of}
 
@@ -40,9 +41,10 @@ pub record IsKept {K P : Type 0} (timeout delay moment : ℕ) (kept found : Opti
   pub right : IsRight kept found
 
 module _ {K P : Type 0} (o : Orders K P) where
-  -- what there is to try of a key
-  abbrev pub trying_key : Fetcher K P → List (Try K P) → K → Trying K P
-  trying_key f trail key = record {
+  -- what there is to try of a waiting key
+  abbrev pub trying_key : Fetcher K P → List (Try K P) → Place × K → Trying K P
+  trying_key f trail (place, key) = record {
+    place = place;
     key = key;
     retries = retries_of o f key;
     left = weighed (filter (λ p. not (was_tried o trail key p.0)) (eligible o (snapshot o f) (targets_of o f key)));
@@ -56,11 +58,21 @@ module _ {K P : Type 0} (o : Orders K P) where
   abbrev pub tried_now : Fetcher K P → Option (Trying K P)
   tried_now f = option_and_then (trying o (snapshot o f)) f.scan
 
+  -- what a scan tries of the keys behind a waiting one
+  abbrev pub tried_behind : Fetcher K P → Place × K → Scan K P → Option (Trying K P)
+  tried_behind f p scan =
+      option_map (trying_for o (snapshot o f) scan.trail)
+      (find (can_be_tried o (snapshot o f) scan) (map (waiting_of o f) (after place_order o.key p f.waiting)))
+
+  -- what the open scan tries of them
+  abbrev pub tried_behind_now : Fetcher K P → Place × K → Option (Trying K P)
+  tried_behind_now f p = option_and_then (tried_behind f p) f.scan
+
   -- the first of some waiting keys, up to a place, that has a peer left
   abbrev pub first_until : Fetcher K P → List (Try K P) → (last : Place) → List (Place × K) → Option (Trying K P)
   first_until f trail last pairs =
-      option_map (λ p. trying_key f trail p.1)
-      (find (λ p. nat_lt 0 (length (trying_key f trail p.1).left)) (filter (λ p. is_le (place_order p.0 last)) pairs))
+      option_map (trying_key f trail)
+      (find (λ p. nat_lt 0 (length (trying_key f trail p).left)) (filter (λ p. is_le (place_order p.0 last)) pairs))
 
   -- the least due that is later
   abbrev pub due_after : Fetcher K P → (moment : ℕ) → Option ℕ

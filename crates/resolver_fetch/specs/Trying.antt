@@ -3,6 +3,7 @@ use Rattle.std.specs.Prelude.{ℕ, not, nat_lt, List, map, sum, Option, None, op
 use Rattle.std.specs.List.{slice_get}
 use Rattle.std.specs.Ordering.{is_eq}
 use Rattle.std.specs.declared.cmp.Ordering.{Ordering}
+use Rattle.resolver_fetch.specs.declared.fetcher.place.Place.{Place}
 use Rattle.resolver_fetch.specs.declared.fetcher.trail.Try.{Try}
 use Rattle.resolver_fetch.specs.declared.score.Averages.{Averages}
 use Rattle.resolver_fetch.specs.Choice.{chosen}
@@ -13,6 +14,7 @@ use Rattle.resolver_fetch.specs.Snapshot.{Snapshot}
 use Rattle.resolver_fetch.specs.Scan.{Scan, left, next}
 
 pub record Trying (K P : Type 0) : Type 0 where
+  pub place : Place
   pub key : K
   pub retries : ℕ
   -- the peers that were not tried for it, in their order, with what they weigh
@@ -40,7 +42,7 @@ module _ {P : Type 0} where
 
 module _ {K P : Type 0} (o : Orders K P) where
   abbrev pub trying_for : Snapshot K P → List (Try K P) → K × Waiting P → Trying K P
-  trying_for s trail w = record { key = w.0; retries = w.1.retries; left = weighed (left o s trail w) }
+  trying_for s trail w = record { place = w.1.place; key = w.0; retries = w.1.retries; left = weighed (left o s trail w) }
 
   -- what a scan tries next
   abbrev pub trying : Snapshot K P → Scan K P → Option (Trying K P)

@@ -35,7 +35,7 @@ ghost use Rattle.resolver_fetch.specs.Waiting.{once_more, place_order};
 use crate::fetcher::peers::Peers;
 use crate::fetcher::requests::Requests;
 use crate::fetcher::targets::Targets;
-use crate::fetcher::trail::{Expected, Try};
+use crate::fetcher::trail::{Expected, Trail};
 use crate::fetcher::trying::Trying;
 use crate::score::DURATION_MAX;
 pub use config::{Config, ID};
@@ -66,7 +66,7 @@ pub struct Fetcher<K: Ord, P: Ord> {
     /// The moment of the last scan.
     moment: u128,
     /// What the last scan tried in vain.
-    trail: Vec<Try<K, P>>,
+    trail: Trail<K, P>,
     /// What the open scan expects.
     expects: Option<Expected<P>>,
     /// What the open scan tries, if that is known.
@@ -99,14 +99,14 @@ impl<K: Ord, P: Ord> Model for Fetcher<K, P> {
       last_id = a.last_id;
       scan = option_map (λ expected. record {
         moment = a.moment;
-        trail = a.trail.items;
+        trail = a.trail;
         expects = Some expected;
       }) a.expects;
     } };
 
     ghost invariant = { λ a. IsKept a.fetch_timeout a.retry_delay a.moment a.trying
         (tried_next (orders K.cmp P.cmp)
-        (searched a.pending a.targets.entries a.retries.entries a.peers) a.moment a.trail.items) };
+        (searched a.pending a.targets.entries a.retries.entries a.peers) a.moment a.trail) };
 }
 
 impl<K: Ord + Drop, P: Ord + Drop> Fetcher<K, P> {
@@ -127,7 +127,7 @@ impl<K: Ord + Drop, P: Ord + Drop> Fetcher<K, P> {
             waiter: None,
             last_id: None,
             moment: 0,
-            trail: Vec::new(alloc),
+            trail: Trail::new(alloc),
             expects: None,
             trying: None,
             alloc,

@@ -117,6 +117,7 @@ impl<I: Ord + Drop, R: Ord + Drop> PrioritySet<I, R> {
     pub fn range_after(&self, pair: &(R, I)) -> Range<'_, (R, I)>
         ensures rest { result ≡ after R.cmp I.cmp pair.now self.now }
         ensures ordered { IsStrictlySortedBy (pair_order R.cmp I.cmp) result }
+        ensures whole { IsStrictlySortedBy (pair_order R.cmp I.cmp) self.now }
         ensures runs { ShowsInOrder (deref {X = R × I}) }
     {
         self.ordered

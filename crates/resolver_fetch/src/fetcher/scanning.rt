@@ -11,12 +11,12 @@ ghost use Rattle.resolver_fetch.specs.Fetcher.{question, snapshot};
 ghost use Rattle.resolver_fetch.specs.Orders.{orders};
 ghost use Rattle.resolver_fetch.specs.declared.fetcher.place.Place.{Place};
 ghost use Rattle.resolver_fetch.specs.Scan.{waiter_of};
-ghost use Rattle.resolver_fetch.specs.Seeking.{due_after, first_due, first_until, next_now, next_of, scan_at, tried_next, tried_now, trying_key};
-ghost use Rattle.resolver_fetch.specs.Waiting.{place_order};
+ghost use Rattle.resolver_fetch.specs.Seeking.{due_after, first_due, first_until, next_now, next_of, scan_at, tried_behind, tried_behind_now, tried_next, tried_now, trying_key};
+ghost use Rattle.resolver_fetch.specs.Waiting.{place_order, retry_at};
 ghost use Rattle.resolver_fetch.specs.Stepping.{after_all, after_step, ask_for, expecting, step_now};
 
 use crate::fetcher::step::{Step, step_of};
-use crate::fetcher::trail::{Expected, Reason, Try, least, trail_moment, was_tried};
+use crate::fetcher::trail::{Expected, Reason, Trail, least};
 use crate::fetcher::trying::{Next, Trying};
 use crate::fetcher::{Answer, Ask, Fetcher, ID, Place, Request};
 use resolver_base::base::Fault;
@@ -41,11 +41,11 @@ impl<K: Ord + Clone + Drop, P: Ord + Clone + Drop> Fetcher<K, P> {
         ensures err { OnErr result (self.new ≡ self.old) }
         ensures only { IfErr result (λ fault. fault ≡ OutOfMemory) }
     {
-        let trail = Vec::new(self.alloc);
+        let trail = Trail::new(self.alloc);
         let next = self.next_of(now, &trail)?;
         self.trying = None;
         self.moment = now;
-        self.trail.clear();
+        self.trail = trail;
         self.expects = Some(Expected::Mode);
         Ok(self.go_on(next))
     }
@@ -55,8 +55,9 @@ impl<K: Ord + Clone + Drop, P: Ord + Clone + Drop> Fetcher<K, P> {
     /// asked bound `OutOfRange`; then, and where memory is wanting, nothing changes.
     ///
     /// It takes time linear in the peers, unless the key that was tried has no peer left: then the
-    /// due keys are gone over from the first on, as in `scan_begin`, and what was tried is looked
-    /// at for each of their peers. Keys and names are cloned; clones are to equal their sources.
+    /// due keys behind it are gone over, as in `scan_begin`. After a call that changed keys or
+    /// peers those from the first on are. Keys and names are cloned; clones are to equal their
+    /// sources.
     pub fn scan_answer(&mut self, answer: Answer) -> Result<Option<Ask<K, P>>, Fault>
     where
         requires keys_clone { (x y : K) → K.is_clone x y → y ≡ x }
@@ -205,10 +206,10 @@ impl<K: Ord + Clone + Drop, P: Ord + Clone + Drop> Fetcher<K, P> {
         ensures only { IfErr result (λ fault. fault ≡ OutOfMemory) }
     {
         self.trying = None;
-        let key = trying.key.clone()?;
+        let key = trying.pair.1.clone()?;
         let mut rest = trying;
         rest.forget(&peer);
-        self.trail.push(Try { key, peer, reason })?;
+        self.trail.push(key, peer, reason)?;
         match self.next_after(rest) {
             Ok(next) => Ok(self.go_on(next)),
             Err(fault) => {
@@ -226,14 +227,21 @@ impl<K: Ord + Clone + Drop, P: Ord + Clone + Drop> Fetcher<K, P> {
         requires open_scan { IsSome self.now.scan }
         requires left { 0 < length rest.left
             → tried_now (orders K.cmp P.cmp) self.now ≡ Some rest }
+        requires passed { length rest.left ≡ 0
+            → IsStrictlySortedBy (pair_order place_order K.cmp) self.now.waiting
+            → tried_now (orders K.cmp P.cmp) self.now
+            ≡ tried_behind_now (orders K.cmp P.cmp) self.now (rest.place, rest.key) }
         ensures ok { IfOk result
             (λ next. next_now (orders K.cmp P.cmp) self.now ≡ Some next) }
         ensures only { IfErr result (λ fault. fault ≡ OutOfMemory) }
     {
-        if !rest.left.is_empty() {
+        if !rest.is_spent() {
             return Ok(Next::Try(rest));
         }
-        self.next_of(self.moment, &self.trail)
+        match self.seek_behind(&rest.pair, self.moment, &self.trail)? {
+            Some(trying) => Ok(Next::Try(trying)),
+            None => Ok(Next::Wait(self.waiter_after(self.moment, &self.trail)?)),
+        }
     }
 
     /// The request is on its way, and the scan is over.
@@ -249,13 +257,13 @@ impl<K: Ord + Clone + Drop, P: Ord + Clone + Drop> Fetcher<K, P> {
     {
         self.trying = None;
         let request = Request {
-            key: trying.key.clone()?,
+            key: trying.pair.1.clone()?,
             peer,
             start: self.moment,
             deadline: self.moment + self.fetch_timeout,
         };
         self.requests.insert(id, request)?;
-        self.pending.remove(&trying.key);
+        self.pending.remove(&trying.pair.1);
         self.waiter = None;
         self.expects = None;
         self.trail.clear();
@@ -288,7 +296,7 @@ impl<K: Ord + Clone + Drop, P: Ord + Clone + Drop> Fetcher<K, P> {
     }
 
     /// What a scan of this moment does next after this trail.
-    fn next_of(&self, moment: u128, trail: &[Try<K, P>]) -> Result<Next<K, P>, Fault>
+    fn next_of(&self, moment: u128, trail: &Trail<K, P>) -> Result<Next<K, P>, Fault>
     where
         requires moment { moment < 2 ^ 94 }
         requires keys_clone { (x y : K) → K.is_clone x y → y ≡ x }
@@ -308,7 +316,7 @@ impl<K: Ord + Clone + Drop, P: Ord + Clone + Drop> Fetcher<K, P> {
     ///
     /// It takes constant time where no peer may be asked at all, else a pass over the peers for
     /// each due key that it passes, times the length of the trail, and two look-ups.
-    fn seek(&self, moment: u128, trail: &[Try<K, P>]) -> Result<Option<Trying<K, P>>, Fault>
+    fn seek(&self, moment: u128, trail: &Trail<K, P>) -> Result<Option<Trying<K, P>>, Fault>
     where
         requires keys_clone { (x y : K) → K.is_clone x y → y ≡ x }
         requires peers_clone { (x y : P) → P.is_clone x y → y ≡ x }
@@ -323,6 +331,43 @@ impl<K: Ord + Clone + Drop, P: Ord + Clone + Drop> Fetcher<K, P> {
         if let Some(found) = self.first_until(fresh, Place::fresh(moment), trail)? {
             return Ok(Some(found));
         }
+        self.seek_retry(moment, trail)
+    }
+
+    /// What a scan of this moment tries after this trail of the keys behind a waiting one.
+    fn seek_behind(
+        &self,
+        pair: &(Place, K),
+        moment: u128,
+        trail: &Trail<K, P>,
+    ) -> Result<Option<Trying<K, P>>, Fault>
+    where
+        requires keys_clone { (x y : K) → K.is_clone x y → y ≡ x }
+        requires peers_clone { (x y : P) → P.is_clone x y → y ≡ x }
+        ensures ok { IfOk result (λ found. found ≡ tried_behind (orders K.cmp P.cmp) self.now
+            pair.now (scan_at moment trail.now)) }
+        ensures ordered { IsStrictlySortedBy (pair_order place_order K.cmp) self.now.waiting }
+        ensures only { IfErr result (λ fault. fault ≡ OutOfMemory) }
+    {
+        let behind = self.pending.range_after(pair);
+        if pair.0.is_retry {
+            return self.first_until(behind, Place::retry(moment), trail);
+        }
+        if let Some(found) = self.first_until(behind, Place::fresh(moment), trail)? {
+            return Ok(Some(found));
+        }
+        self.seek_retry(moment, trail)
+    }
+
+    /// The first key that is tried again, is due and has a peer left after this trail.
+    fn seek_retry(&self, moment: u128, trail: &Trail<K, P>) -> Result<Option<Trying<K, P>>, Fault>
+    where
+        requires keys_clone { (x y : K) → K.is_clone x y → y ≡ x }
+        requires peers_clone { (x y : P) → P.is_clone x y → y ≡ x }
+        ensures ok { IfOk result (λ found. found ≡ first_until (orders K.cmp P.cmp) self.now
+            trail.now (retry_at moment) (from place_order (retry_at 0) self.now.waiting)) }
+        ensures only { IfErr result (λ fault. fault ≡ OutOfMemory) }
+    {
         let retries = self.pending.range_from(Place::retry(0))?;
         self.first_until(retries, Place::retry(moment), trail)
     }
@@ -332,7 +377,7 @@ impl<K: Ord + Clone + Drop, P: Ord + Clone + Drop> Fetcher<K, P> {
         &self,
         pairs: Range<'_, (Place, K)>,
         last: Place,
-        trail: &[Try<K, P>],
+        trail: &Trail<K, P>,
     ) -> Result<Option<Trying<K, P>>, Fault>
     where
         requires keys_clone { (x y : K) → K.is_clone x y → y ≡ x }
@@ -343,11 +388,11 @@ impl<K: Ord + Clone + Drop, P: Ord + Clone + Drop> Fetcher<K, P> {
             ≡ first_until (orders K.cmp P.cmp) self.now trail.now last pairs.entry) }
         ensures only { IfErr result (λ fault. fault ≡ OutOfMemory) }
     {
-        for (place, key) in pairs {
-            if place.cmp(&last).is_gt() {
+        for pair in pairs {
+            if pair.0.cmp(&last).is_gt() {
                 return Ok(None);
             }
-            let trying = self.trying(key, trail)?;
+            let trying = self.trying(pair, trail)?;
             if !trying.left.is_empty() {
                 return Ok(Some(trying));
             }
@@ -355,19 +400,20 @@ impl<K: Ord + Clone + Drop, P: Ord + Clone + Drop> Fetcher<K, P> {
         Ok(None)
     }
 
-    /// What there is to try of a key after this trail.
-    fn trying(&self, key: &K, trail: &[Try<K, P>]) -> Result<Trying<K, P>, Fault>
+    /// What there is to try of a waiting key after this trail.
+    fn trying(&self, pair: &(Place, K), trail: &Trail<K, P>) -> Result<Trying<K, P>, Fault>
     where
         requires keys_clone { (x y : K) → K.is_clone x y → y ≡ x }
         requires peers_clone { (x y : P) → P.is_clone x y → y ≡ x }
         ensures ok { IfOk result (λ trying. trying
-            ≡ trying_key (orders K.cmp P.cmp) self.now trail.now key.now) }
+            ≡ trying_key (orders K.cmp P.cmp) self.now trail.now pair.now) }
         ensures only { IfErr result (λ fault. fault ≡ OutOfMemory) }
     {
+        let (place, key) = pair;
         let mut left = self.peers.eligible(self.targets.get(key))?;
-        left.retain(|peer| !was_tried(trail, key, &peer.0));
+        left.retain(|peer| !trail.was_tried(key, &peer.0));
         Ok(Trying {
-            key: key.clone()?,
+            pair: (*place, key.clone()?),
             retries: self.retries(key),
             left,
         })
@@ -375,7 +421,7 @@ impl<K: Ord + Clone + Drop, P: Ord + Clone + Drop> Fetcher<K, P> {
 
     /// When a scan in vain of this moment and this trail may be begun again: where a key becomes
     /// due, or what was tried may be tried again. It takes time linear in the trail.
-    fn waiter_after(&self, moment: u128, trail: &[Try<K, P>]) -> Result<u128, Fault>
+    fn waiter_after(&self, moment: u128, trail: &Trail<K, P>) -> Result<u128, Fault>
     where
         requires moment { moment < 2 ^ 94 }
         requires keys_clone { (x y : K) → K.is_clone x y → y ≡ x }
@@ -385,7 +431,7 @@ impl<K: Ord + Clone + Drop, P: Ord + Clone + Drop> Fetcher<K, P> {
         ensures only { IfErr result (λ fault. fault ≡ OutOfMemory) }
     {
         let due = self.due_after(moment)?;
-        let tried = trail_moment(trail, moment, self.retry_delay);
+        let tried = trail.moment(moment, self.retry_delay);
         Ok(least(due, tried).unwrap_or(u128::MAX))
     }
 
@@ -443,7 +489,7 @@ fn ask_for<K: Clone + Drop, P: Clone + Drop>(
         Expected::Sending(peer, id) => Ok(Ask::Request {
             peer: peer.clone()?,
             id: *id,
-            key: trying.key.clone()?,
+            key: trying.pair.1.clone()?,
             priority,
         }),
     }

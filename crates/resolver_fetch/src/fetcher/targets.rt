@@ -56,7 +56,7 @@ impl<P: Ord + Drop> Targets<P> {
 }
 
 /// Whether this peer is one of these.
-fn is_listed<P: Ord>(listed: &[P], peer: &P) -> bool
+pub(super) fn is_listed<P: Ord>(listed: &[P], peer: &P) -> bool
     ensures { result ≡ is_one_of P.cmp listed.now peer.now }
 {
     listed.iter().any(|other| peer.cmp(other).is_eq())

@@ -1,10 +1,22 @@
 //! What a scan tried, and what it expects.
 
-ghost use Rattle.std.specs.Prelude.{◌≡◌, ◌<◌, ◌^◌};
+ghost use Rattle.std.specs.Prelude.{◌≡◌, ◌<◌, ◌^◌, List, [], ◌∷◌, ◌++◌, IfErr, OnErr, OnOk};
+ghost use Rattle.std.specs.BTreeMap.{is_at};
+ghost use Rattle.std.specs.Map.{lookup};
+ghost use Rattle.std.specs.Option.{option_map_or};
+ghost use Rattle.std.specs.Ordering.{is_eq};
+ghost use Rattle.resolver_base.specs.declared.base.fault.Fault.TheVariants.{OutOfMemory};
+ghost use Rattle.resolver_fetch.specs.declared.fetcher.trail.Try.{Try};
 ghost use Rattle.resolver_fetch.specs.Orders.{orders};
 ghost use Rattle.resolver_fetch.specs.Scan.{least, least_until, limit_of, trail_moment, was_tried};
+ghost use Rattle.resolver_fetch.specs.Tried.{noted};
 
 use crate::fetcher::ID;
+use crate::fetcher::targets::is_listed;
+use resolver_base::base::Fault;
+use std::alloc::{AllocError, Global};
+use std::collections::BTreeMap;
+use std::marker::Model;
 
 /// Why a peer was not asked for a key.
 #[derive(Clone, Copy, Debug)]
@@ -52,15 +64,144 @@ pub(super) enum Expected<P> {
     Sending(P, ID),
 }
 
-/// Whether a peer was tried for a key. It takes time linear in what was tried.
-pub(super) fn was_tried<K: Ord, P: Ord>(trail: &[Try<K, P>], key: &K, peer: &P) -> bool
-    ensures { result ≡ was_tried (orders K.cmp P.cmp) trail.now key.now peer.now }
+/// What a scan tried in vain. Contracts see it as the list of its tries.
+///
+/// A call on one key takes time logarithmic in the number of keys that were tried, and linear in
+/// the peers that were tried for it.
+#[derive(Debug, Drop)]
+pub(super) struct Trail<K: Ord, P> {
+    tries: Vec<Try<K, P>>,
+    /// Whom they name for each key, in their order.
+    peers: BTreeMap<K, Vec<P>>,
+    alloc: Global,
+}
+
+impl<K: Ord, P> Model for Trail<K, P> {
+    ghost use Rattle.std.specs.Prelude.{◌≡◌, List, []};
+    ghost use Rattle.std.specs.BTreeMap.{is_at};
+    ghost use Rattle.std.specs.Map.{lookup};
+    ghost use Rattle.std.specs.Option.{option_map_or};
+    ghost use Rattle.resolver_fetch.specs.Tried.{peers_tried};
+    ghost use Rattle.resolver_fetch.specs.declared.fetcher.trail.Try.{Try};
+
+    ghost Value = { List (Try K P) };
+
+    ghost view = { λ a. a.tries.items };
+
+    ghost invariant = { λ a. (key : K)
+        → option_map_or (λ peers. peers.items) (lookup (is_at (K.cmp key)) a.peers.entries) []
+        ≡ peers_tried K.cmp a.tries.items key };
+}
+
+impl<K: Ord + Drop, P: Drop> Trail<K, P> {
+    /// Nothing was tried.
+    pub(super) fn new(alloc: Global) -> Self
+        ensures { result ≡ [] }
+    {
+        Trail {
+            tries: Vec::new(alloc),
+            peers: BTreeMap::new(alloc),
+            alloc,
+        }
+    }
+
+    /// Forgets all of it.
+    pub(super) fn clear(&mut self)
+        ensures { self.new ≡ [] }
+    {
+        self.tries.clear();
+        self.peers.clear();
+    }
+
+    /// Notes a try. Where memory is wanting, nothing changes.
+    pub(super) fn push(&mut self, key: K, peer: P, reason: Reason) -> Result<(), Fault>
+    where
+        K: Clone,
+        P: Clone,
+        requires keys_clone { (x y : K) → K.is_clone x y → y ≡ x }
+        requires peers_clone { (x y : P) → P.is_clone x y → y ≡ x }
+        ensures ok { OnOk result
+            (self.new ≡ self.old ++ record { key = key; peer = peer; reason = reason } ∷ []) }
+        ensures err { OnErr result (self.new ≡ self.old) }
+        ensures only { IfErr result (λ fault. fault ≡ OutOfMemory) }
+    {
+        self.tries.reserve(1)?;
+        let named = key.clone()?;
+        let again = peer.clone()?;
+        note(self.alloc, &mut self.peers, named, again)?;
+        self.tries.push_reserved(Try { key, peer, reason });
+        Ok(())
+    }
+
+    /// Takes back the last try.
+    pub(super) fn pop(&mut self)
+        ensures { (before : List (Try K P)) (last : Try K P)
+            → self.old ≡ before ++ last ∷ [] → self.new ≡ before }
+    {
+        let Some(last) = self.tries.pop() else {
+            return;
+        };
+        if let Some(peers) = self.peers.get_mut(&last.key) {
+            peers.pop();
+        }
+    }
+
+    /// When what was tried may be tried again, if anything was tried: at the least limit, or after
+    /// the delay where there were refusals alone. It takes time linear in what was tried.
+    pub(super) fn moment(&self, now: u128, delay: u128) -> Option<u128>
+        requires now { now < 2 ^ 94 }
+        requires delay { delay < 2 ^ 94 }
+        ensures { result ≡ trail_moment delay now self.now }
+    {
+        if self.tries.is_empty() {
+            return None;
+        }
+        match least_until(&self.tries) {
+            Some(limit) => Some(limit),
+            None => Some(now + delay),
+        }
+    }
+}
+
+impl<K: Ord + Drop, P: Ord + Drop> Trail<K, P> {
+    /// Whether a peer was tried for a key.
+    pub(super) fn was_tried(&self, key: &K, peer: &P) -> bool
+        ensures { result ≡ was_tried (orders K.cmp P.cmp) self.now key.now peer.now }
+    {
+        match self.peers.get(key) {
+            Some(peers) => is_listed(peers, peer),
+            None => false,
+        }
+    }
+}
+
+/// Notes that a peer was tried for a key. Where memory is wanting, the same peers are named.
+fn note<K: Ord + Drop, P: Drop>(
+    alloc: Global,
+    peers: &mut BTreeMap<K, Vec<P>>,
+    key: K,
+    peer: P,
+) -> Result<(), AllocError>
+    ensures ok { OnOk result ((other : K)
+        → option_map_or (λ ps. ps.items) (lookup (is_at (K.cmp other)) peers.new.entries) []
+        ≡ noted (is_eq (K.cmp other key)) peer
+        (option_map_or (λ ps. ps.items) (lookup (is_at (K.cmp other)) peers.old.entries) [])) }
+    ensures err { OnErr result ((other : K)
+        → option_map_or (λ ps. ps.items) (lookup (is_at (K.cmp other)) peers.new.entries) []
+        ≡ option_map_or (λ ps. ps.items) (lookup (is_at (K.cmp other)) peers.old.entries) []) }
 {
-    trail.iter().any(|tried| key.cmp(&tried.key).is_eq() && peer.cmp(&tried.peer).is_eq())
+    if let Some(there) = peers.get_mut(&key) {
+        there.push(peer)?;
+        return Ok(());
+    }
+    let mut first = Vec::new(alloc);
+    first.push(peer)?;
+    peers.insert(key, first)?;
+    Ok(())
 }
 
 /// The least moment until which a peer may not be sent to, if there is one.
-pub(super) fn least_until<K, P>(trail: &[Try<K, P>]) -> Option<u128>
+fn least_until<K, P>(trail: &[Try<K, P>]) -> Option<u128>
     ensures { result ≡ least_until trail.now }
 {
     let mut limit = None;
@@ -68,22 +209,6 @@ pub(super) fn least_until<K, P>(trail: &[Try<K, P>]) -> Option<u128>
         limit = least(limit, tried.reason.limit());
     }
     limit
-}
-
-/// When what was tried may be tried again, if anything was tried: at the least limit, or after the
-/// delay where there were refusals alone.
-pub(super) fn trail_moment<K, P>(trail: &[Try<K, P>], now: u128, delay: u128) -> Option<u128>
-    requires now { now < 2 ^ 94 }
-    requires delay { delay < 2 ^ 94 }
-    ensures { result ≡ trail_moment delay now trail.now }
-{
-    if trail.is_empty() {
-        return None;
-    }
-    match least_until(trail) {
-        Some(limit) => Some(limit),
-        None => Some(now + delay),
-    }
 }
 
 /// The lesser, where there are two.

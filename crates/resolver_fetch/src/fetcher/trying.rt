@@ -1,9 +1,10 @@
 //! The key that a scan tries.
 
-ghost use Rattle.std.specs.Prelude.{◌≡◌, sum};
+ghost use Rattle.std.specs.Prelude.{◌≡◌, ◌==◌, length, sum};
 ghost use Rattle.std.specs.Option.{option_copied};
 ghost use Rattle.resolver_fetch.specs.Trying.{apart_from, at_place, at_weight, weights_of};
 
+use crate::fetcher::Place;
 use std::marker::Model;
 
 /// The key that a scan tries, and the peers that are left for it.
@@ -11,7 +12,8 @@ use std::marker::Model;
 /// A call takes time linear in the peers, unless it says otherwise.
 #[derive(Debug, Drop)]
 pub(super) struct Trying<K, P> {
-    pub(super) key: K,
+    /// The key, with the place at which it waits.
+    pub(super) pair: (Place, K),
     pub(super) retries: u32,
     /// The peers that were not tried for it, in their order, with what they weigh.
     pub(super) left: Vec<(P, u64)>,
@@ -31,10 +33,22 @@ impl<K, P> Model for Trying<K, P> {
 
     ghost Value = { Trying K P };
 
-    ghost view = { λ a. record { key = a.key; retries = a.retries; left = a.left.items } };
+    ghost view = { λ a. record {
+      place = a.pair.0;
+      key = a.pair.1;
+      retries = a.retries;
+      left = a.left.items;
+    } };
 }
 
 impl<K, P> Trying<K, P> {
+    /// Whether no peer is left for it, in constant time.
+    pub(super) fn is_spent(&self) -> bool
+        ensures { result ≡ (length self.now.left == 0) }
+    {
+        self.left.is_empty()
+    }
+
     /// What the peers left weigh.
     pub(super) fn total(&self) -> u128
         ensures { result ≡ sum (weights_of self.now.left) }

@@ -7,9 +7,9 @@ use Rattle.resolver_fetch.specs.Waiting.{place_order}
 use Rattle.resolver_fetch.proofs.fetcher.Fetcher.first_until.Given as goal
 
 -- The first is found among the keys that are left, which are in order.
-abbrev pub invariant-loop-place : goal.invariant-loop-place
-invariant-loop-place g l = record {
-  ordered : IsStrictlySortedBy (pair_order place_order g.K.Ord.cmp) l.place-iterator;
-  first : first_until (orders g.K.Ord.cmp g.P.Ord.cmp) l.fn.self l.fn.trail l.last l.place-iterator
+abbrev pub invariant-loop-pair : goal.invariant-loop-pair
+invariant-loop-pair g l = record {
+  ordered : IsStrictlySortedBy (pair_order place_order g.K.Ord.cmp) l.pair-iterator;
+  first : first_until (orders g.K.Ord.cmp g.P.Ord.cmp) l.fn.self l.fn.trail l.last l.pair-iterator
       ≡ first_until (orders g.K.Ord.cmp g.P.Ord.cmp) l.fn.self l.fn.trail l.last l.fn.pairs;
 }

@@ -16,7 +16,7 @@ invariant_of-self g c =
     record {
       timely = c.self.invariant.timely;
       moment_fits = c.self.invariant.moment_fits;
-      right = rw (← c.self.view_is) at (tried-kept o f a.moment a.trail.items a.expects scan c.in-Try.trying (next-tries o f c.in-Try.trying (c.requires ∙ ap Some c.in-Try.is)));
+      right = rw (← c.self.view_is) at (tried-kept o f a.moment a.trail a.expects scan c.in-Try.trying (next-tries o f c.in-Try.trying (c.requires ∙ ap Some c.in-Try.is)));
     }
 
 pub returns-in-Try-clause-asked : goal.returns-in-Try-clause-asked
@@ -27,4 +27,4 @@ returns-in-Try-clause-asked g c =
     let a = c.self.inside in
     let retries : c.from-bound.result ≡ c.in-Try.trying.retries = c.from-bound.ensures ∙ ap (λ (t : Trying g.row.K.Denot g.row.P.Denot). t.retries) c.trying.view_is in
     rw retries
-    (sym (rw (← c.self.view_is) at (asks-kept o f a.moment a.trail.items a.expects scan c.in-Try.trying Mode f.last_id None (next-tries o f c.in-Try.trying (c.requires ∙ ap Some c.in-Try.is)))))
+    (sym (rw (← c.self.view_is) at (asks-kept o f a.moment a.trail a.expects scan c.in-Try.trying Mode f.last_id None (next-tries o f c.in-Try.trying (c.requires ∙ ap Some c.in-Try.is)))))

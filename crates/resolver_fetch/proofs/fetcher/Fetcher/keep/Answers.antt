@@ -13,5 +13,5 @@ invariant_of-self g c =
     record {
       timely = c.self.invariant.timely;
       moment_fits = c.self.invariant.moment_fits;
-      right = rw (← c.self.view_is) at (tried-kept o f a.moment a.trail.items a.expects scan c.args.trying c.requires);
+      right = rw (← c.self.view_is) at (tried-kept o f a.moment a.trail a.expects scan c.args.trying c.requires);
     }

@@ -4,7 +4,7 @@ use Rattle.resolver_base.specs.Priorities.{from}
 use Rattle.resolver_fetch.specs.Fetcher.{Fetcher}
 use Rattle.resolver_fetch.specs.Orders.{orders}
 use Rattle.resolver_fetch.specs.Seeking.{first_until}
-use Rattle.resolver_fetch.specs.Waiting.{fresh_at, place_order, retry_at}
+use Rattle.resolver_fetch.specs.Waiting.{fresh_at, place_order}
 use Rattle.resolver_fetch.proofs.Askable.{tries-none}
 use Rattle.resolver_fetch.proofs.Dues.{from-first}
 use Rattle.resolver_fetch.proofs.Seeking.{seeks-fresh, seeks-retry}
@@ -33,11 +33,9 @@ returns-clause-ok g c =
     let waiting : c.self.inside.pending ≡ f.waiting = ap (λ (f : Fetcher g.row.K.Denot g.row.P.Denot). f.waiting) c.self.view_is in
     let fresh : c.in_ok-fresh.fresh ≡ from place_order (fresh_at 0) f.waiting =
     c.in_ok-fresh.ensures.rest ∙ ap (λ place. from place_order place c.self.inside.pending) c.fresh.ensures ∙ ap (from place_order (fresh_at 0)) waiting in
-    let retries : c.in_ok-retries.retries ≡ from place_order (retry_at 0) f.waiting =
-    c.in_ok-retries.ensures.rest ∙ ap (λ place. from place_order place c.self.inside.pending) c.retry.ensures ∙ ap (from place_order (retry_at 0)) waiting in
     let sorted = rw (fresh ∙ from-first g.K.Ord.cmp c.args.moment f.waiting) at c.in_ok-fresh.ensures.ordered in
     let found : c.in_ok-found.field-0 ≡ first_until o f c.args.trail.now (fresh_at c.args.moment) (from place_order (fresh_at 0) f.waiting) =
     c.in_ok-found.ensures.ok ∙ ap (λ place. first_until o f c.args.trail.now place c.in_ok-fresh.fresh) c.fresh-2.ensures ∙ ap (first_until o f c.args.trail.now (fresh_at c.args.moment)) fresh in
     let none : c.in_ok-found.field-0 ≡ None = search rules in
     let is = seeks-retry o f c.args.moment c.args.trail.now sorted (sym found ∙ none) in
-    IfOk-weaker c.first_until-2.result _ _ (λ t it. it ∙ ap (λ place. first_until o f c.args.trail.now place c.in_ok-retries.retries) c.retry-2.ensures ∙ ap (first_until o f c.args.trail.now (retry_at c.args.moment)) retries ∙ sym is) c.first_until-2.ensures.ok
+    IfOk-weaker c.seek_retry.result _ _ (λ t it. it ∙ sym is) c.seek_retry.ensures.ok

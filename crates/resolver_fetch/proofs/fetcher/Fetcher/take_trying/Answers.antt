@@ -13,8 +13,8 @@ returns-in-Some-clause-found g c =
     let f = c.args.self.now in
     let a = c.self.inside in
     let kept : a.trying ≡ Some c.in-Some.trying = sym c.take.ensures.value ∙ c.in-Some.is in
-    let right : tried_next o f a.moment a.trail.items ≡ Some c.in-Some.trying = rw (← c.self.view_is) (rw kept at c.self.invariant.right) in
-    sym (tried-found o f a.moment a.trail.items a.expects scan c.if-is_none.ensures ∙ right)
+    let right : tried_next o f a.moment a.trail ≡ Some c.in-Some.trying = rw (← c.self.view_is) (rw kept at c.self.invariant.right) in
+    sym (tried-found o f a.moment a.trail a.expects scan c.if-is_none.ensures ∙ right)
 
 pub returns-clause-found : goal.returns-clause-found
 returns-clause-found g c =
@@ -22,4 +22,4 @@ returns-clause-found g c =
     let scan = sym (ap (λ (f : Fetcher g.row.K.Denot g.row.P.Denot). f.scan) c.self.view_is) in
     let f = c.args.self.now in
     let a = c.self.inside in
-    IfOk-weaker c.seek.result _ _ (λ found is. is ∙ rw c.deref.ensures.value (rw (← c.self.view_is) (rw (← c.self.view_is) at (sym (tried-found o f a.moment a.trail.items a.expects scan c.if-is_none.ensures))))) c.seek.ensures.ok
+    IfOk-weaker c.seek.result _ _ (λ found is. is ∙ rw (← c.self.view_is) (rw (← c.self.view_is) at (sym (tried-found o f a.moment a.trail a.expects scan c.if-is_none.ensures)))) c.seek.ensures.ok

@@ -9,9 +9,9 @@ use Rattle.resolver_fetch.proofs.fetcher.Fetcher.trying.Goals as goal
 
 pub returns-clause-ok : goal.returns-clause-ok
 returns-clause-ok g c =
-    let is : c.retain.new.self.items ≡ filter (λ (p : g.row.P.Denot × ℕ). not (was_tried (orders g.K.Ord.cmp g.P.Ord.cmp) c.args.trail.now c.args.key.now p.0)) c.in_ok-left.left.items = filter_same _ _ _ (λ x b f' t. search rules) _ _ c.retain.ensures.filtered in
-    let same : c.in_ok-clone.field-0 ≡ c.args.key.now = search rules in
-    let kept = weighed-filter (λ (p : g.row.P.Denot). not (was_tried (orders g.K.Ord.cmp g.P.Ord.cmp) c.args.trail.now c.args.key.now p)) (eligible g.P.Ord.cmp c.self.inside.peers (option_copied c.get.result)) in
+    let is : c.retain.new.self.items ≡ filter (λ (p : g.row.P.Denot × ℕ). not (was_tried (orders g.K.Ord.cmp g.P.Ord.cmp) c.args.trail.now c.args.pair.now.1 p.0)) c.in_ok-left.left.items = filter_same _ _ _ (λ x b f' t. search rules) _ _ c.retain.ensures.filtered in
+    let same : c.in_ok-clone.field-0 ≡ c.args.pair.now.1 = search rules in
+    let kept = weighed-filter (λ (p : g.row.P.Denot). not (was_tried (orders g.K.Ord.cmp g.P.Ord.cmp) c.args.trail.now c.args.pair.now.1 p)) (eligible g.P.Ord.cmp c.self.inside.peers (option_copied c.get.result)) in
     let targets = c.get.ensures.value in
     rw (is, same, c.in_ok-left.ensures.ok, kept, c.retries.ensures, targets)
     (rw (← c.self.view_is) refl)
