@@ -1,5 +1,5 @@
 -- The latest set of peers with their averages, and lists of peers.
-use Rattle.std.specs.Prelude.{List, [], fold, unwrap_or}
+use Rattle.std.specs.Prelude.{Bool, List, [], fold, unwrap_or}
 use Rattle.std.specs.Map.{lookup, set_value}
 use Rattle.std.specs.BTreeMap.{insert_entry, is_at}
 use Rattle.std.specs.BTreeSet.{insert_key}
@@ -24,9 +24,13 @@ module _ {P : Type 0} (by_peer : P → P → Ordering) where
   observed set peer observation =
       set_value (is_at (by_peer peer)) set (averaged (averages_in set peer) observation)
 
+  -- whether a peer is the same as a target
+  abbrev pub is_target_of : (target peer : P) → Bool
+  is_target_of target peer = is_eq (by_peer peer target)
+
   -- the peers that are not among the targets yet go last, each once
   abbrev pub with_targets : List P → List P → List P
-  with_targets targets peers = joined (λ target peer. is_eq (by_peer peer target)) targets peers
+  with_targets targets peers = joined is_target_of targets peers
 
   -- the named peers, each once, in their order
   abbrev pub set_of : List P → List P

@@ -274,9 +274,14 @@ impl<K: Ord + Drop, P: Ord + Drop> Fetcher<K, P> {
     }
 
     /// Limits the peers that may be asked for a key to these and those that were given before.
-    /// Where memory is wanting, nothing changes. It takes time in proportion to the two numbers of
-    /// targets.
+    /// Where memory is wanting, nothing changes. It takes time linear in all of these targets, times
+    /// a logarithm.
+    ///
+    /// The names are cloned; clones are to equal their sources.
     pub fn add_targets(&mut self, key: K, peers: NonEmptyVec<P>) -> Result<(), Fault>
+    where
+        P: Clone,
+        requires peers_clone { (x y : P) → P.is_clone x y → y ≡ x }
         ensures ok { OnOk result
             (self.new ≡ calls.add_targets (orders K.cmp P.cmp) key peers self.old) }
         ensures err { OnErr result (self.new ≡ self.old) }
@@ -424,12 +429,13 @@ fn count_retry<K: Ord + Clone + Drop>(
 }
 
 /// Adds targets of a key.
-fn join_targets<K: Ord + Drop, P: Ord + Drop>(
+fn join_targets<K: Ord + Drop, P: Ord + Clone + Drop>(
     alloc: Global,
     targets: &mut BTreeMap<K, Targets<P>>,
     key: K,
     peers: Vec<P>,
 ) -> Result<(), AllocError>
+    requires peers_clone { (x y : P) → P.is_clone x y → y ≡ x }
     ensures ok { OnOk result (targets.new.entries
         ≡ insert_entry K.cmp targets.old.entries key (with_targets P.cmp
         (unwrap_or (lookup (is_at (K.cmp key)) targets.old.entries) []) peers.items)) }

@@ -74,7 +74,7 @@ impl<P: Ord + Drop> Peers<P> {
     }
 
     /// The peers that may be asked for a key with these targets, in their order, with what they
-    /// weigh. It takes one pass over the peers, and looks at the targets for each of them.
+    /// weigh. It takes one pass over the peers, with a look-up in the targets for each of them.
     ///
     /// The names are cloned; clones are to equal their sources.
     pub(super) fn eligible(&self, targets: Option<&Targets<P>>) -> Result<Vec<(P, u64)>, Fault>
