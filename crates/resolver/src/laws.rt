@@ -127,6 +127,3 @@ pub fn asks_eligible<K: Ord, S: Ord, P: Ord>()
 pub fn tries_once<K: Ord, S: Ord, P: Ord>()
     ensures { TriesOnce (parties K.cmp S.cmp P.cmp) }
 {}
-
-#[cfg(test)]
-mod tests;

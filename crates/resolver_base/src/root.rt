@@ -194,6 +194,3 @@ impl From<bool> for Outcome {
         }
     }
 }
-
-#[cfg(test)]
-mod tests;

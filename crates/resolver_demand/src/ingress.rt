@@ -58,6 +58,3 @@ pub enum Message<K, S, M, Q> {
     /// Keep the subscribers that this test keeps, and no other.
     Retain(Q),
 }
-
-#[cfg(test)]
-mod tests;

@@ -277,6 +277,3 @@ fn prune<K: Ord + Drop, S: Ord + Drop, Q: Predicate<K, S>>(
 {
     demand.retain(|key, subscribers| subscribers.retain(key, keep));
 }
-
-#[cfg(test)]
-mod tests;

@@ -1,7 +1,6 @@
 pub mod Spelling
 pub mod Reading
 pub mod Layout
-pub mod TestKeys
 pub mod Times
 pub mod Scores
 pub mod Bounded

@@ -6,7 +6,7 @@
 
 pub mod config;
 mod fetching;
-mod laws;
+pub mod laws;
 mod peers;
 pub mod place;
 pub mod request;
@@ -466,6 +466,3 @@ fn charged(time: u128, delay: u128) -> u128
 {
     (time + delay).min(DURATION_MAX)
 }
-
-#[cfg(test)]
-mod tests;

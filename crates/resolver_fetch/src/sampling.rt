@@ -19,6 +19,3 @@ pub fn is_weighted(number: u128) -> bool
 {
     number < 4
 }
-
-#[cfg(test)]
-mod tests;

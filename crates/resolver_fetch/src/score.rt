@@ -93,6 +93,3 @@ impl Score {
         }
     }
 }
-
-#[cfg(test)]
-mod tests;

@@ -214,6 +214,3 @@ impl<Key: Span> Message<Key> {
         Ok(layout.with_value(bytes))
     }
 }
-
-#[cfg(test)]
-pub(crate) mod tests;

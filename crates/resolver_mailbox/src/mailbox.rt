@@ -26,6 +26,3 @@ pub use opening::{new, recorded};
 pub use receiver::Receiver;
 pub use sender::Sender;
 pub use share::Share;
-
-#[cfg(test)]
-mod tests;

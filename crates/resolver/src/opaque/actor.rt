@@ -137,8 +137,9 @@ impl<K: Ord + Clone, V: Clone, S: Ord + Clone, Q: Predicate<K, S> + Drop> Actor<
         Self::starting_at(alloc, delay, Numbers::new())
     }
 
-    /// An actor without demand, and the attempts to come.
-    fn starting_at(alloc: Global, delay: u128, attempts: Numbers) -> Self
+    /// An actor without demand whose attempts are numbered from here, so that one that takes the
+    /// place of another can go on after its last number.
+    pub fn starting_at(alloc: Global, delay: u128, attempts: Numbers) -> Self
         requires { delay < 2 ^ 94 }
         ensures { result ≡ record (opening delay) { next_attempt = attempts } }
     {
@@ -528,6 +529,3 @@ fn stops<T>(answer: &Result<T, Fault>) -> bool
 {
     matches!(answer, Err(Fault::OutOfMemory | Fault::Exhausted))
 }
-
-#[cfg(test)]
-mod tests;

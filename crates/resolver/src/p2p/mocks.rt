@@ -45,6 +45,3 @@ impl Span for Key {
 
     ghost own_bytes = { bytes_of-read_from };
 }
-
-#[cfg(test)]
-mod tests;

@@ -14,6 +14,3 @@ pub trait Draws {
         ensures bound { result < n }
         ensures gives { below_gives self.old n result self.new };
 }
-
-#[cfg(test)]
-mod tests;

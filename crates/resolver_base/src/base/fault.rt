@@ -96,6 +96,3 @@ impl<T: Drop> From<AllocFailed<T>> for Fault {
         Fault::from(AllocError)
     }
 }
-
-#[cfg(test)]
-mod tests;

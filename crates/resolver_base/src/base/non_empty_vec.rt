@@ -226,6 +226,3 @@ fn is_listed<S: Ord>(list: &[(S, u64)], subscriber: &S) -> bool
 {
     list.iter().any(|one| subscriber.cmp(&one.0).is_eq())
 }
-
-#[cfg(test)]
-mod tests;

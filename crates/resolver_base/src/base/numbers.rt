@@ -55,6 +55,3 @@ impl Numbers {
         Some(number)
     }
 }
-
-#[cfg(test)]
-mod tests;

@@ -16,6 +16,3 @@ pub trait Predicate<K: Eq, S: Eq> {
     ghost alike: { (q : Self) (k l : K) (s t : S) → K.eq k l ≡ true → S.eq s t ≡ true
         → keeps q k s ≡ keeps q l t };
 }
-
-#[cfg(test)]
-mod tests;

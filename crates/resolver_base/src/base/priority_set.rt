@@ -245,6 +245,3 @@ fn move_item<I: Ord + Clone + Drop, R: Ord + Clone + Drop>(
     }
     Ok(())
 }
-
-#[cfg(test)]
-mod tests;

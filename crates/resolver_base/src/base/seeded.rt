@@ -50,6 +50,3 @@ impl Draws for Seeded {
         ((high << 64) + low) % n
     }
 }
-
-#[cfg(test)]
-mod tests;

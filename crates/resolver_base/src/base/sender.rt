@@ -27,6 +27,3 @@ pub trait Sender {
     fn send(&mut self, peer: &Self::PublicKey, message: Bytes, priority: bool) -> Unreliable
         ensures { send_gives self.old peer.now message priority result self.new };
 }
-
-#[cfg(test)]
-mod tests;

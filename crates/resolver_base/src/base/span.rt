@@ -45,6 +45,3 @@ pub trait Span: Ord + Hash + Clone + Send {
     /// Bytes that are read as a name are the bytes that it writes.
     ghost own_bytes: { (bytes : List ℕ) (name : Self) → read_from bytes ≡ Some name → bytes_of name ≡ bytes };
 }
-
-#[cfg(test)]
-mod tests;

@@ -25,6 +25,3 @@ impl Unreliable {
         )
     }
 }
-
-#[cfg(test)]
-mod tests;

@@ -44,6 +44,3 @@ impl<K: Clone, S: Clone, Context: Clone> Completion<K, S, Context> {
 /// No delivery is open under this number, or it was canceled and has no verdict.
 #[derive(Clone, Copy, Debug, PartialEq, Eq)]
 pub struct Aborted {}
-
-#[cfg(test)]
-mod tests;

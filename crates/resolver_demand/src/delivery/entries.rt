@@ -402,6 +402,3 @@ impl<K: Ord + Drop, S: Drop, V: Drop, Context: Drop> Entries<K, S, V, Context, (
         self.insert_state(key, ())
     }
 }
-
-#[cfg(test)]
-mod tests;

@@ -179,6 +179,3 @@ impl<
         }
     }
 }
-
-#[cfg(test)]
-mod tests;

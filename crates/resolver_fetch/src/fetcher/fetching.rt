@@ -170,6 +170,3 @@ fn request_bytes<K: Span + Drop>(alloc: Global, id: ID, key: K) -> Result<Bytes,
     request.write(&mut out)?;
     Ok(out.freeze()?)
 }
-
-#[cfg(test)]
-mod tests;

@@ -54,6 +54,3 @@ pub fn needs_pairs<K: Ord, P: Ord>()
 pub fn chooses_below<P: Ord>()
     ensures { ChoosesBelow P }
 {}
-
-#[cfg(test)]
-mod tests;

@@ -293,6 +293,3 @@ fn serve<
     }
     first
 }
-
-#[cfg(test)]
-mod tests;

@@ -1,0 +1,29 @@
+//! Tests of `resolver_base`, through its public calls.
+//!
+//! They stand in a crate of their own, so that the library isn't proved a second time with them.
+#![tactic(auto)]
+
+#[cfg(test)]
+mod draws;
+#[cfg(test)]
+mod fault;
+#[cfg(test)]
+mod non_empty_vec;
+#[cfg(test)]
+mod numbers;
+#[cfg(test)]
+mod predicate;
+#[cfg(test)]
+mod priority_set;
+#[cfg(test)]
+mod public_key;
+#[cfg(test)]
+mod root;
+#[cfg(test)]
+mod seeded;
+#[cfg(test)]
+mod sender;
+#[cfg(test)]
+mod span;
+#[cfg(test)]
+mod unreliable;

@@ -1,0 +1,86 @@
+use resolver_base::base::NonEmptyVec;
+use resolver_base::root::{Delivery, Fetch, Outcome, Resolution};
+use std::alloc::{AllocError, Global};
+use std::cmp::Ordering;
+use std::test::Fail;
+
+fn delivery(alloc: Global, key: u8, subscribers: &[(u16, u64)]) -> Result<Delivery<u8, u16>, Fail> {
+    let listed = Vec::from_slice(alloc, subscribers)?;
+    match NonEmptyVec::try_from(listed) {
+        Ok(subscribers) => Ok(Delivery { key, subscribers }),
+        Err(_) => Err("no subscriber".into()),
+    }
+}
+
+// Key first, then the subscribers in order; a shorter equal beginning is less; marks don't count.
+#[test]
+fn deliveries_compare_by_key_and_subscribers(rt: HostRuntime) -> Result<(), Fail> {
+    let cases: [(u8, &[(u16, u64)], u8, &[(u16, u64)], Ordering); 7] = [
+        (1, &[(10, 7)], 1, &[(10, 8)], Ordering::Equal),
+        (1, &[(10, 7)], 2, &[(9, 7)], Ordering::Less),
+        (2, &[(9, 7)], 1, &[(10, 7)], Ordering::Greater),
+        (1, &[(10, 7)], 1, &[(11, 0)], Ordering::Less),
+        (1, &[(10, 7)], 1, &[(10, 7), (11, 0)], Ordering::Less),
+        (1, &[(10, 7), (11, 0)], 1, &[(10, 7)], Ordering::Greater),
+        (
+            1,
+            &[(10, 7), (12, 0)],
+            1,
+            &[(10, 0), (11, 9)],
+            Ordering::Greater,
+        ),
+    ];
+    for (key, subscribers, other_key, others, order) in cases {
+        let one = delivery(rt.alloc(), key, subscribers)?;
+        let other = delivery(rt.alloc(), other_key, others)?;
+        assert_eq!(rt; one.cmp(&other), order);
+        assert_eq!(rt; one.partial_cmp(&other), Some(order));
+        assert_eq!(rt; one == other, order.is_eq());
+    }
+    Ok(())
+}
+
+#[test]
+fn fetches_compare_by_key_and_subscriber(rt: HostRuntime) {
+    let fetch = |key: u8, subscriber: u16, mark: u64| Fetch {
+        key,
+        subscriber,
+        mark,
+    };
+    assert!(rt; fetch(1, 10, 7) == fetch(1, 10, 8));
+    assert!(rt; fetch(1, 10, 7) < fetch(1, 11, 0));
+    assert!(rt; fetch(2, 0, 0) > fetch(1, 11, 9));
+}
+
+fn copied<T: Clone>(value: &T) -> Result<T, AllocError> {
+    value.clone()
+}
+
+#[test]
+fn clones_keep_the_marks(rt: HostRuntime) -> Result<(), Fail> {
+    let fetch = Fetch {
+        key: 1u8,
+        subscriber: 10u16,
+        mark: 7,
+    };
+    for same in [fetch.clone()?, copied(&fetch)?] {
+        assert_eq!(rt; (same.key, same.subscriber, same.mark), (1, 10, 7));
+    }
+    let handed = delivery(rt.alloc(), 1, &[(10, 7), (11, 8)])?;
+    for same in [handed.clone()?, copied(&handed)?] {
+        assert_eq!(rt; same.key, 1);
+        assert_eq!(rt; same.subscribers.as_slice(), [(10, 7), (11, 8)].as_slice());
+    }
+    Ok(())
+}
+
+#[test]
+fn from_a_key_and_from_an_answer(rt: HostRuntime) {
+    let fetch: Fetch<u8, u16> = Fetch::from(5);
+    assert_eq!(rt; (fetch.key, fetch.subscriber, fetch.mark), (5, 0, 0));
+    assert_eq!(rt;
+        Outcome::from(true),
+        Outcome::Resolved(Resolution::Complete)
+    );
+    assert_eq!(rt; Outcome::from(false), Outcome::Invalid);
+}

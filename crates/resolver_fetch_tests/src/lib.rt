@@ -1,0 +1,17 @@
+//! Tests of `resolver_fetch`, through its public calls.
+//!
+//! They stand in a crate of their own, so that the library isn't proved a second time with them.
+#![tactic(auto)]
+
+#[cfg(test)]
+mod fetcher;
+#[cfg(test)]
+mod fetching;
+#[cfg(test)]
+mod laws;
+#[cfg(test)]
+mod sampling;
+#[cfg(test)]
+mod score;
+#[cfg(test)]
+mod wire;
