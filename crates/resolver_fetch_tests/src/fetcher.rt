@@ -325,3 +325,38 @@ fn charged_the_longest_time(rt: HostRuntime) -> Result<(), Fail> {
     assert_eq!(rt; weight(&fetcher, 4), Some(1));
     Ok(())
 }
+
+/// A key of many waits from 10 on.
+fn waits(fetcher: &mut Fetcher<u16, u8>, key: u16) -> Result<(), Fault> {
+    fetcher.add_ready(key, 10)
+}
+
+/// Begins a scan of many keys.
+fn begins_many(fetcher: &mut Fetcher<u16, u8>) -> Result<Option<Ask<u16, u8>>, Fault> {
+    fetcher.scan_begin(10)
+}
+
+/// The only peer of a key is drawn, and may not be sent to before 100.
+fn limits(fetcher: &mut Fetcher<u16, u8>) -> Result<Option<Ask<u16, u8>>, Fault> {
+    fetcher.scan_answer(Answer::Drawn(0))?;
+    fetcher.scan_answer(Answer::Drawn(0))?;
+    fetcher.scan_answer(Answer::Checked(Check::Until(100)))
+}
+
+// A scan that looked from the first key on after each one would not end in time.
+#[test]
+fn a_scan_goes_over_each_due_key_once(rt: HostRuntime) -> Result<(), Fail> {
+    let mut fetcher = Fetcher::new(rt.alloc(), config());
+    fetcher.reconcile(peers_of(rt.alloc(), &[4])?)?;
+    for key in 0..20_000 {
+        waits(&mut fetcher, key)?;
+    }
+    let mut asked = begins_many(&mut fetcher)?;
+    for key in 0..20_000 {
+        assert_eq!(rt; asked, Some(Ask::Draw(4)), "key {key}");
+        asked = limits(&mut fetcher)?;
+    }
+    assert_eq!(rt; asked, None);
+    assert_eq!(rt; fetcher.get_pending_deadline(), Some(100));
+    Ok(())
+}
