@@ -315,7 +315,7 @@ impl<K: Ord + Clone + Drop, P: Ord + Clone + Drop> Fetcher<K, P> {
     /// has a peer left.
     ///
     /// It takes constant time where no peer may be asked at all, else a pass over the peers for
-    /// each due key that it passes, times the length of the trail, and two look-ups.
+    /// each due key that it passes, with a look-up in the trail for each, and two look-ups more.
     fn seek(&self, moment: u128, trail: &Trail<K, P>) -> Result<Option<Trying<K, P>>, Fault>
     where
         requires keys_clone { (x y : K) → K.is_clone x y → y ≡ x }
