@@ -93,6 +93,44 @@ fn pop_active(fetcher: &mut Fetcher<u8, u8>, now: u128) -> Option<u8>
     fetcher.pop_active(now)
 }
 
+/// No key is wanted, and no peer is known.
+fn opened(alloc: Global) -> Fetcher<u8, u8> {
+    Fetcher::new(alloc, config())
+}
+
+/// When the time of a request is over.
+fn deadline(fetcher: &Fetcher<u8, u8>) -> Option<u128> {
+    fetcher.get_active_deadline()
+}
+
+/// Whether key 1 waits, how many requests there are, and whether a scan is open.
+fn stands(fetcher: &Fetcher<u8, u8>) -> (bool, usize, bool) {
+    (
+        fetcher.is_waiting(&1),
+        fetcher.len_active(),
+        fetcher.is_scanning(),
+    )
+}
+
+/// A response of this peer under the id 5.
+fn pop_response(fetcher: &mut Fetcher<u8, u8>, peer: u8, now: u128) -> Option<(u8, u128)>
+    requires { now < 2 ^ 94 }
+{
+    fetcher.pop_response(5, &peer, now)
+}
+
+/// Word of peer 4 under the id 5 that the data is missing.
+fn pop_missing(fetcher: &mut Fetcher<u8, u8>, now: u128) -> Option<u8>
+    requires { now < 2 ^ 94 }
+{
+    fetcher.pop_missing(5, &4, now)
+}
+
+/// Gives an answer.
+fn answered(fetcher: &mut Fetcher<u8, u8>, answer: Answer) -> Result<Option<Ask<u8, u8>>, Fault> {
+    fetcher.scan_answer(answer)
+}
+
 /// Begins a scan, and looks at what it asks.
 fn begins(
     rt: &impl Abort,
@@ -143,7 +181,7 @@ fn asks_peer(
 
 /// Asks peer 4 for key 1 under the id 5, at 30.
 fn asks_first(rt: &impl Abort, alloc: Global) -> Result<Fetcher<u8, u8>, Fault> {
-    let mut fetcher = Fetcher::new(alloc, config());
+    let mut fetcher = opened(alloc);
     set_peer(alloc, &mut fetcher, 4)?;
     add_ready(&mut fetcher, 1, 30)?;
     asks_peer(rt, &mut fetcher, 30, 1)?;
@@ -153,71 +191,74 @@ fn asks_first(rt: &impl Abort, alloc: Global) -> Result<Fetcher<u8, u8>, Fault> 
 #[test]
 fn fetcher_first_request(rt: HostRuntime) -> Result<(), Fail> {
     let mut fetcher = asks_first(&rt, rt.alloc())?;
-    assert_eq!(rt; fetcher.get_active_deadline(), Some(80));
-    assert_eq!(rt; fetcher.pop_response(5, &3, 40), None);
-    assert_eq!(rt; fetcher.pop_response(5, &4, 20), Some((1, 0)));
+    assert_eq!(rt; deadline(&fetcher), Some(80));
+    assert_eq!(rt; pop_response(&mut fetcher, 3, 40), None);
+    assert_eq!(rt; pop_response(&mut fetcher, 4, 20), Some((1, 0)));
     Ok(())
 }
 
 #[test]
 fn fetcher_missing(rt: HostRuntime) -> Result<(), Fail> {
     let mut fetcher = asks_first(&rt, rt.alloc())?;
-    assert_eq!(rt; fetcher.pop_missing(5, &4, 50), Some(1));
-    assert_eq!(rt; fetcher.len_active(), 0);
-    assert_eq!(rt; fetcher.weight(&4), Some(1));
+    assert_eq!(rt; pop_missing(&mut fetcher, 50), Some(1));
+    assert_eq!(rt; stands(&fetcher), (false, 0, false));
+    assert_eq!(rt; weight(&fetcher, 4), Some(1));
     Ok(())
 }
 
 #[test]
 fn fetcher_retry(rt: HostRuntime) -> Result<(), Fail> {
     let mut fetcher = asks_first(&rt, rt.alloc())?;
-    assert_eq!(rt; fetcher.pop_missing(5, &4, 50), Some(1));
-    assert!(rt; !fetcher.is_waiting(&1));
-    fetcher.add_retry(1, 50)?;
-    assert_eq!(rt; fetcher.get_pending_deadline(), Some(60));
+    assert_eq!(rt; pop_missing(&mut fetcher, 50), Some(1));
+    assert_eq!(rt; stands(&fetcher), (false, 0, false));
+    add_retry(&mut fetcher, 1, 50)?;
+    assert_eq!(rt; wake_up(&fetcher), Some(60));
     begins(&rt, &mut fetcher, 60, Some(Ask::Draw(5)))?;
-    assert!(rt; fetcher.is_scanning());
+    assert_eq!(rt; stands(&fetcher), (true, 0, true));
     Ok(())
 }
 
 #[test]
 fn fetcher_wake_up(rt: HostRuntime) -> Result<(), Fail> {
-    let mut fetcher = Fetcher::new(rt.alloc(), config());
-    fetcher.add_ready(1, 5)?;
-    assert_eq!(rt; fetcher.get_pending_deadline(), Some(5));
+    let mut fetcher = opened(rt.alloc());
+    add_ready(&mut fetcher, 1, 5)?;
+    assert_eq!(rt; wake_up(&fetcher), Some(5));
     begins(&rt, &mut fetcher, 5, None)?;
-    assert_eq!(rt; fetcher.get_pending_deadline(), Some(u128::MAX));
+    assert_eq!(rt; wake_up(&fetcher), Some(u128::MAX));
     set_peer(rt.alloc(), &mut fetcher, 4)?;
-    assert_eq!(rt; fetcher.get_pending_deadline(), Some(5));
+    assert_eq!(rt; wake_up(&fetcher), Some(5));
     Ok(())
 }
 
 #[test]
 fn limits_and_refusals(rt: HostRuntime) -> Result<(), Fail> {
-    let mut fetcher = Fetcher::new(rt.alloc(), config());
+    let mut fetcher = opened(rt.alloc());
     set_peer(rt.alloc(), &mut fetcher, 4)?;
-    fetcher.add_ready(1, 5)?;
+    add_ready(&mut fetcher, 1, 5)?;
     begins(&rt, &mut fetcher, 5, Some(Ask::Draw(4)))?;
     assert_eq!(rt;
-        fetcher.scan_answer(Answer::Sent(true)),
+        answered(&mut fetcher, Answer::Sent(true)),
         Err(Fault::Unasked)
     );
     assert_eq!(rt;
-        fetcher.scan_answer(Answer::Drawn(4)),
+        answered(&mut fetcher, Answer::Drawn(4)),
         Err(Fault::OutOfRange)
     );
     answers(&rt, &mut fetcher, Answer::Drawn(0), Some(Ask::Draw(1)))?;
     answers(&rt, &mut fetcher, Answer::Drawn(0), Some(Ask::Check(4)))?;
     answers(&rt, &mut fetcher, Answer::Checked(Check::Until(9)), None)?;
-    assert_eq!(rt; fetcher.get_pending_deadline(), Some(9));
-    assert!(rt; !fetcher.is_scanning());
-    assert_eq!(rt; fetcher.scan_answer(Answer::Drawn(0)), Err(Fault::Unasked));
+    assert_eq!(rt; wake_up(&fetcher), Some(9));
+    assert_eq!(rt; stands(&fetcher), (true, 0, false));
+    assert_eq!(rt;
+        answered(&mut fetcher, Answer::Drawn(0)),
+        Err(Fault::Unasked)
+    );
     Ok(())
 }
 
 /// Is told to wait, and asks.
 fn told(fetcher: &mut Fetcher<u8, u8>, until: u128) -> Result<Option<Ask<u8, u8>>, Fault> {
-    fetcher.scan_answer(Answer::Checked(Check::Until(until)))
+    answered(fetcher, Answer::Checked(Check::Until(until)))
 }
 
 /// Draws a peer by weight among some, each of weight 1, and is told to wait.
@@ -235,7 +276,7 @@ fn waits_for(
 
 #[test]
 fn targets_out_of_order(rt: HostRuntime) -> Result<(), Fail> {
-    let mut fetcher = Fetcher::new(rt.alloc(), config());
+    let mut fetcher = opened(rt.alloc());
     set_peers(rt.alloc(), &mut fetcher, &[5, 1, 3, 2])?;
     add_ready(&mut fetcher, 1, 5)?;
     add_targets(rt.alloc(), &mut fetcher, 1, &[5, 2, 9])?;
@@ -257,7 +298,7 @@ fn targets_out_of_order(rt: HostRuntime) -> Result<(), Fail> {
 
 #[test]
 fn fetcher_two_kinds(rt: HostRuntime) -> Result<(), Fail> {
-    let mut fetcher = Fetcher::new(rt.alloc(), config());
+    let mut fetcher = opened(rt.alloc());
     set_peer(rt.alloc(), &mut fetcher, 4)?;
     add_retry(&mut fetcher, 2, 0)?;
     assert_eq!(rt; wake_up(&fetcher), Some(10));
@@ -275,7 +316,7 @@ fn fetcher_two_kinds(rt: HostRuntime) -> Result<(), Fail> {
 
 #[test]
 fn next_due_of_both_kinds(rt: HostRuntime) -> Result<(), Fail> {
-    let mut fetcher = Fetcher::new(rt.alloc(), config());
+    let mut fetcher = opened(rt.alloc());
     add_ready(&mut fetcher, 3, 5)?;
     add_ready(&mut fetcher, 1, 100)?;
     begins(&rt, &mut fetcher, 5, None)?;
@@ -336,18 +377,37 @@ fn begins_many(fetcher: &mut Fetcher<u16, u8>) -> Result<Option<Ask<u16, u8>>, F
     fetcher.scan_begin(10)
 }
 
+/// Gives an answer to a scan of many keys.
+fn answered_many(
+    fetcher: &mut Fetcher<u16, u8>,
+    answer: Answer,
+) -> Result<Option<Ask<u16, u8>>, Fault> {
+    fetcher.scan_answer(answer)
+}
+
 /// The only peer of a key is drawn, and may not be sent to before 100.
 fn limits(fetcher: &mut Fetcher<u16, u8>) -> Result<Option<Ask<u16, u8>>, Fault> {
-    fetcher.scan_answer(Answer::Drawn(0))?;
-    fetcher.scan_answer(Answer::Drawn(0))?;
-    fetcher.scan_answer(Answer::Checked(Check::Until(100)))
+    answered_many(fetcher, Answer::Drawn(0))?;
+    answered_many(fetcher, Answer::Drawn(0))?;
+    answered_many(fetcher, Answer::Checked(Check::Until(100)))
+}
+
+/// Many keys of one peer, none of which is wanted so far.
+fn many(alloc: Global) -> Result<Fetcher<u16, u8>, Fault> {
+    let mut fetcher = Fetcher::new(alloc, config());
+    fetcher.reconcile(peers_of(alloc, &[4])?)?;
+    Ok(fetcher)
+}
+
+/// When a scan of many keys may do something.
+fn wake_up_many(fetcher: &Fetcher<u16, u8>) -> Option<u128> {
+    fetcher.get_pending_deadline()
 }
 
 // A scan that looked from the first key on after each one would not end in time.
 #[test]
 fn a_scan_goes_over_each_due_key_once(rt: HostRuntime) -> Result<(), Fail> {
-    let mut fetcher = Fetcher::new(rt.alloc(), config());
-    fetcher.reconcile(peers_of(rt.alloc(), &[4])?)?;
+    let mut fetcher = many(rt.alloc())?;
     for key in 0..20_000 {
         waits(&mut fetcher, key)?;
     }
@@ -357,6 +417,6 @@ fn a_scan_goes_over_each_due_key_once(rt: HostRuntime) -> Result<(), Fail> {
         asked = limits(&mut fetcher)?;
     }
     assert_eq!(rt; asked, None);
-    assert_eq!(rt; fetcher.get_pending_deadline(), Some(100));
+    assert_eq!(rt; wake_up_many(&fetcher), Some(100));
     Ok(())
 }

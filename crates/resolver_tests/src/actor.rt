@@ -2,7 +2,7 @@ ghost use Rattle.std.specs.Prelude.{not, true, ◌==◌};
 ghost use Rattle.std.proofs.Common.{rules};
 
 use resolver::ingress::{FetchKey, Predicate};
-use resolver::opaque::{Actor, Effect, Event, Input, Phase};
+use resolver::opaque::{Actor, Effect, Event, Input, Phase, Row};
 use resolver_base::base::{Fault, NonEmptyVec, Numbers};
 use resolver_base::root::{Outcome, Resolution};
 use std::alloc::Global;
@@ -23,6 +23,34 @@ impl Predicate<u8, u16> for AllBut {
 }
 
 type Effects = Vec<Effect<u8, u32, u16>>;
+
+type Plain = Actor<u8, u32, u16, AllBut>;
+
+// What a test does and sees goes through calls that promise nothing, so that a test is proved
+// without what an actor is.
+
+/// Takes one input.
+fn step(actor: &mut Plain, now: u64, event: Event<u8, u32, u16, AllBut>) -> Result<Effects, Fault> {
+    actor.step(at(now, event))
+}
+
+/// Takes a list of inputs.
+fn run(
+    actor: &mut Plain,
+    inputs: Vec<Input<u8, u32, u16, AllBut>>,
+) -> Result<Vec<Result<Effects, Fault>>, Fault> {
+    actor.run(inputs)
+}
+
+/// What the keys stand at.
+fn rows_of(actor: &Plain) -> Result<Vec<Row<u8, u16>>, Fault> {
+    actor.rows()
+}
+
+/// When a key is due again.
+fn next_retry(actor: &Plain) -> Option<u128> {
+    actor.next_retry()
+}
 
 fn fetch(
     alloc: Global,
@@ -76,16 +104,16 @@ fn delivered(effects: &Effects) -> Option<(u64, u64, u8, (u16, u64), u32)> {
 #[test]
 fn opaque_first_run(rt: HostRuntime) -> Result<(), Fail> {
     let alloc = rt.alloc();
-    let mut actor: Actor<u8, u32, u16, AllBut> = Actor::new(alloc, 100);
-    let effects = actor.step(at(0, fetch(alloc, 1, 10, 7)?))?;
+    let mut actor: Plain = Actor::new(alloc, 100);
+    let effects = step(&mut actor, 0, fetch(alloc, 1, 10, 7)?)?;
     assert_eq!(rt; started(&effects), Some((0, 1)));
     let value = Event::Fetched {
         attempt: 0,
         value: Some(0x6869),
     };
-    let effects = actor.step(at(0, value))?;
+    let effects = step(&mut actor, 0, value)?;
     assert_eq!(rt; delivered(&effects), Some((0, 0, 1, (10, 7), 0x6869)));
-    let rows = actor.rows()?;
+    let rows = rows_of(&actor)?;
     assert_eq!(rt; rows.len(), 1);
     assert_eq!(rt; rows[0].key, 1);
     assert_eq!(rt; *rows[0].subscribers.first(), (10, 7));
@@ -94,10 +122,10 @@ fn opaque_first_run(rt: HostRuntime) -> Result<(), Fail> {
         number: 0,
         outcome: Some(Outcome::Resolved(Resolution::Complete)),
     };
-    let effects = actor.step(at(0, verdict))?;
+    let effects = step(&mut actor, 0, verdict)?;
     assert_eq!(rt; effects.len(), 0);
-    assert_eq!(rt; actor.rows()?.len(), 0);
-    assert_eq!(rt; actor.next_retry(), None);
+    assert_eq!(rt; rows_of(&actor)?.len(), 0);
+    assert_eq!(rt; next_retry(&actor), None);
     Ok(())
 }
 
@@ -105,7 +133,7 @@ fn opaque_first_run(rt: HostRuntime) -> Result<(), Fail> {
 #[test]
 fn a_run_waits_for_the_delay(rt: HostRuntime) -> Result<(), Fail> {
     let alloc = rt.alloc();
-    let mut actor: Actor<u8, u32, u16, AllBut> = Actor::new(alloc, 100);
+    let mut actor: Plain = Actor::new(alloc, 100);
     let mut inputs = Vec::new(alloc);
     inputs.push(at(0, fetch(alloc, 1, 10, 7)?))?;
     inputs.push(at(
@@ -115,14 +143,14 @@ fn a_run_waits_for_the_delay(rt: HostRuntime) -> Result<(), Fail> {
             value: None,
         },
     ))?;
-    let mut answers = actor.run(inputs)?;
+    let mut answers = run(&mut actor, inputs)?;
     assert_eq!(rt; answers.len(), 2);
     let first = answers.remove(0)?;
     assert_eq!(rt; started(&first), Some((0, 1)));
     let second = answers.remove(0)?;
     assert_eq!(rt; second.len(), 0);
-    assert_eq!(rt; actor.next_retry(), Some(105));
-    let rows = actor.rows()?;
+    assert_eq!(rt; next_retry(&actor), Some(105));
+    let rows = rows_of(&actor)?;
     assert_eq!(rt; rows.len(), 1);
     assert_eq!(rt; rows[0].phase, Phase::Waiting { due: 105 });
     Ok(())
@@ -133,22 +161,22 @@ fn a_run_waits_for_the_delay(rt: HostRuntime) -> Result<(), Fail> {
 #[test]
 fn ends(rt: HostRuntime) -> Result<(), Fail> {
     let alloc = rt.alloc();
-    let mut actor: Actor<u8, u32, u16, AllBut> = Actor::new(alloc, 100);
-    let _ = actor.step(at(0, fetch(alloc, 2, 20, 0)?))?;
-    let _ = actor.step(at(0, fetch(alloc, 1, 10, 0)?))?;
+    let mut actor: Plain = Actor::new(alloc, 100);
+    let _ = step(&mut actor, 0, fetch(alloc, 2, 20, 0)?)?;
+    let _ = step(&mut actor, 0, fetch(alloc, 1, 10, 0)?)?;
     let value = Event::Fetched {
         attempt: 0,
         value: Some(0x6869),
     };
-    let _ = actor.step(at(0, value))?;
-    let effects = actor.step(at(0, Event::End))?;
+    let _ = step(&mut actor, 0, value)?;
+    let effects = step(&mut actor, 0, Event::End)?;
     let is_called_off = matches!(
         effects.as_slice(),
         [Effect::Abort { attempt: 1 }, Effect::Cancel { number: 0 }]
     );
     assert!(rt; is_called_off);
-    assert_eq!(rt; actor.rows()?.len(), 0);
-    let refused = actor.step(at(0, fetch(alloc, 3, 30, 0)?)).err();
+    assert_eq!(rt; rows_of(&actor)?.len(), 0);
+    let refused = step(&mut actor, 0, fetch(alloc, 3, 30, 0)?).err();
     assert_eq!(rt; refused, Some(Fault::Ended));
     Ok(())
 }
@@ -158,23 +186,23 @@ fn ends(rt: HostRuntime) -> Result<(), Fail> {
 #[test]
 fn dropped_then_fetched_again(rt: HostRuntime) -> Result<(), Fail> {
     let alloc = rt.alloc();
-    let mut actor: Actor<u8, u32, u16, AllBut> = Actor::new(alloc, 100);
-    let _ = actor.step(at(0, fetch(alloc, 1, 10, 7)?))?;
+    let mut actor: Plain = Actor::new(alloc, 100);
+    let _ = step(&mut actor, 0, fetch(alloc, 1, 10, 7)?)?;
     let value = Event::Fetched {
         attempt: 0,
         value: Some(0x6869),
     };
-    let _ = actor.step(at(0, value))?;
-    let effects = actor.step(at(0, Event::Retain(AllBut(1))))?;
+    let _ = step(&mut actor, 0, value)?;
+    let effects = step(&mut actor, 0, Event::Retain(AllBut(1)))?;
     assert!(rt; matches!(effects.as_slice(), [Effect::Cancel { number: 0 }]));
-    let effects = actor.step(at(0, fetch(alloc, 1, 12, 9)?))?;
+    let effects = step(&mut actor, 0, fetch(alloc, 1, 12, 9)?)?;
     assert_eq!(rt; started(&effects), Some((1, 1)));
     let verdict = Event::Verdict {
         number: 0,
         outcome: Some(Outcome::Resolved(Resolution::Complete)),
     };
-    assert_eq!(rt; actor.step(at(0, verdict))?.len(), 0);
-    let rows = actor.rows()?;
+    assert_eq!(rt; step(&mut actor, 0, verdict)?.len(), 0);
+    let rows = rows_of(&actor)?;
     assert_eq!(rt; rows.len(), 1);
     assert_eq!(rt; *rows[0].subscribers.first(), (12, 9));
     assert_eq!(rt; rows[0].phase, Phase::Asked { attempt: 1 });
@@ -204,8 +232,8 @@ fn retry_inputs(alloc: Global) -> Result<Vec<Input<u8, u32, u16, AllBut>>, Fault
 #[test]
 fn opaque_retry(rt: HostRuntime) -> Result<(), Fail> {
     let alloc = rt.alloc();
-    let mut actor: Actor<u8, u32, u16, AllBut> = Actor::new(alloc, 100);
-    let answers = actor.run(retry_inputs(alloc)?)?;
+    let mut actor: Plain = Actor::new(alloc, 100);
+    let answers = run(&mut actor, retry_inputs(alloc)?)?;
     assert_eq!(rt; answers.len(), 6);
     let mut starts = Vec::new(alloc);
     for answer in answers {
@@ -213,11 +241,11 @@ fn opaque_retry(rt: HostRuntime) -> Result<(), Fail> {
     }
     let expected = [Some((0, 1)), None, None, Some((1, 1)), None, None];
     assert_eq!(rt; starts.as_slice(), expected.as_slice());
-    let rows = actor.rows()?;
+    let rows = rows_of(&actor)?;
     assert_eq!(rt; rows.len(), 1);
     assert_eq!(rt; *rows[0].subscribers.first(), (10, 7));
     assert_eq!(rt; rows[0].phase, Phase::Asked { attempt: 1 });
-    assert_eq!(rt; actor.next_retry(), None);
+    assert_eq!(rt; next_retry(&actor), None);
     Ok(())
 }
 
@@ -229,24 +257,22 @@ enum Fate {
     HandedOutAgain,
 }
 
-type Plain = Actor<u8, u32, u16, AllBut>;
-
 /// An actor whose key 1 is judged for the subscriber 10, under the number 0.
 fn judged(alloc: Global) -> Result<Plain, Fault> {
     let mut actor: Plain = Actor::new(alloc, 100);
-    let _ = actor.step(at(0, fetch(alloc, 1, 10, 7)?))?;
+    let _ = step(&mut actor, 0, fetch(alloc, 1, 10, 7)?)?;
     let value = Event::Fetched {
         attempt: 0,
         value: Some(0x6869),
     };
-    let _ = actor.step(at(0, value))?;
+    let _ = step(&mut actor, 0, value)?;
     Ok(actor)
 }
 
 /// What an outcome on number 0 makes of key 1.
 fn made_of(actor: &mut Plain, outcome: Option<Outcome>) -> Result<Option<Fate>, Fault> {
-    let effects = actor.step(at(5, Event::Verdict { number: 0, outcome }))?;
-    let rows = actor.rows()?;
+    let effects = step(actor, 5, Event::Verdict { number: 0, outcome })?;
+    let rows = rows_of(actor)?;
     if rows.is_empty() {
         return Ok(Some(Fate::Retired));
     }
@@ -277,7 +303,7 @@ fn every_outcome(rt: HostRuntime) -> Result<(), Fail> {
         let mut actor = judged(alloc)?;
         assert_eq!(rt; made_of(&mut actor, outcome)?, Some(expected));
         let mut actor = judged(alloc)?;
-        let _ = actor.step(at(0, fetch(alloc, 1, 11, 8)?))?;
+        let _ = step(&mut actor, 0, fetch(alloc, 1, 11, 8)?)?;
         let late = match outcome {
             None | Some(Outcome::Resolved(Resolution::Complete)) => Fate::HandedOutAgain,
             _ => expected,
@@ -294,15 +320,15 @@ fn every_outcome_canceled(rt: HostRuntime) -> Result<(), Fail> {
     for (outcome, _) in outcomes() {
         for comes_back in [false, true] {
             let mut actor = judged(alloc)?;
-            let _ = actor.step(at(0, Event::Retain(AllBut(1))))?;
+            let _ = step(&mut actor, 0, Event::Retain(AllBut(1)))?;
             if comes_back {
-                let _ = actor.step(at(0, fetch(alloc, 1, 12, 9)?))?;
+                let _ = step(&mut actor, 0, fetch(alloc, 1, 12, 9)?)?;
             }
             for _ in 0..2 {
                 let verdict = Event::Verdict { number: 0, outcome };
-                assert!(rt; actor.step(at(5, verdict))?.is_empty());
+                assert!(rt; step(&mut actor, 5, verdict)?.is_empty());
             }
-            let rows = actor.rows()?;
+            let rows = rows_of(&actor)?;
             assert_eq!(rt; rows.len(), usize::from(comes_back));
             if comes_back {
                 assert_eq!(rt; rows[0].phase, Phase::Asked { attempt: 1 });
@@ -317,20 +343,20 @@ fn every_outcome_canceled(rt: HostRuntime) -> Result<(), Fail> {
 fn a_conflict_retires(rt: HostRuntime) -> Result<(), Fail> {
     let alloc = rt.alloc();
     let mut actor = judged(alloc)?;
-    let _ = actor.step(at(0, fetch(alloc, 1, 11, 8)?))?;
+    let _ = step(&mut actor, 0, fetch(alloc, 1, 11, 8)?)?;
     let complete = Some(Outcome::Resolved(Resolution::Complete));
     let again = Event::Verdict {
         number: 0,
         outcome: complete,
     };
-    let effects = actor.step(at(0, again))?;
+    let effects = step(&mut actor, 0, again)?;
     assert_eq!(rt; delivered(&effects), Some((1, 0, 1, (11, 8), 0x6869)));
     let invalid = Event::Verdict {
         number: 1,
         outcome: Some(Outcome::Invalid),
     };
-    assert!(rt; actor.step(at(0, invalid))?.is_empty());
-    assert!(rt; actor.rows()?.is_empty());
+    assert!(rt; step(&mut actor, 0, invalid)?.is_empty());
+    assert!(rt; rows_of(&actor)?.is_empty());
     Ok(())
 }
 
@@ -340,27 +366,27 @@ fn ends_in_each_phase(rt: HostRuntime) -> Result<(), Fail> {
     let alloc = rt.alloc();
     let mut actor: Plain = Actor::new(alloc, 100);
     for key in [3, 1, 2] {
-        let _ = actor.step(at(0, fetch(alloc, key, 10, 0)?))?;
+        let _ = step(&mut actor, 0, fetch(alloc, key, 10, 0)?)?;
     }
     let none = Event::Fetched {
         attempt: 0,
         value: None,
     };
-    let _ = actor.step(at(0, none))?;
+    let _ = step(&mut actor, 0, none)?;
     let value = Event::Fetched {
         attempt: 2,
         value: Some(1),
     };
-    let _ = actor.step(at(0, value))?;
-    let effects = actor.step(at(0, Event::End))?;
+    let _ = step(&mut actor, 0, value)?;
+    let effects = step(&mut actor, 0, Event::End)?;
     let is_called_off = matches!(
         effects.as_slice(),
         [Effect::Abort { attempt: 1 }, Effect::Cancel { number: 0 }]
     );
     assert!(rt; is_called_off);
-    assert!(rt; actor.rows()?.is_empty());
-    assert_eq!(rt; actor.next_retry(), None);
-    assert_eq!(rt; actor.step(at(0, Event::End)).err(), Some(Fault::Ended));
+    assert!(rt; rows_of(&actor)?.is_empty());
+    assert_eq!(rt; next_retry(&actor), None);
+    assert_eq!(rt; step(&mut actor, 0, Event::End).err(), Some(Fault::Ended));
     Ok(())
 }
 
@@ -370,14 +396,14 @@ fn ends_in_each_phase(rt: HostRuntime) -> Result<(), Fail> {
 fn the_last_attempt_is_given_once(rt: HostRuntime) -> Result<(), Fail> {
     let alloc = rt.alloc();
     let mut actor: Plain = Actor::starting_at(alloc, 100, Numbers::starting_at(u64::MAX));
-    let effects = actor.step(at(0, fetch(alloc, 1, 10, 7)?))?;
+    let effects = step(&mut actor, 0, fetch(alloc, 1, 10, 7)?)?;
     assert_eq!(rt; started(&effects), Some((u64::MAX, 1)));
-    assert!(rt; actor.step(at(0, fetch(alloc, 1, 11, 8)?))?.is_empty());
-    let refused = actor.step(at(0, fetch(alloc, 2, 10, 7)?)).err();
+    assert!(rt; step(&mut actor, 0, fetch(alloc, 1, 11, 8)?)?.is_empty());
+    let refused = step(&mut actor, 0, fetch(alloc, 2, 10, 7)?).err();
     assert_eq!(rt; refused, Some(Fault::Exhausted));
-    let refused = actor.step(at(0, fetch(alloc, 1, 12, 9)?)).err();
+    let refused = step(&mut actor, 0, fetch(alloc, 1, 12, 9)?).err();
     assert_eq!(rt; refused, Some(Fault::Failed));
-    assert_eq!(rt; actor.step(at(0, Event::End)).err(), Some(Fault::Failed));
+    assert_eq!(rt; step(&mut actor, 0, Event::End).err(), Some(Fault::Failed));
     Ok(())
 }
 
@@ -397,11 +423,28 @@ impl Predicate<u64, u16> for Everyone {
 
 type Crowd = Actor<u64, u32, u16, Everyone>;
 
-fn happens(now: u64, event: Event<u64, u32, u16, Everyone>) -> Input<u64, u32, u16, Everyone> {
-    Input {
+type Told = Vec<Effect<u64, u32, u16>>;
+
+/// Takes one input of many keys.
+fn step_crowd(
+    actor: &mut Crowd,
+    now: u64,
+    event: Event<u64, u32, u16, Everyone>,
+) -> Result<Told, Fault> {
+    actor.step(Input {
         now: u128::from(now),
         event,
-    }
+    })
+}
+
+/// How many rows there are of many keys.
+fn count(actor: &Crowd) -> Result<usize, Fault> {
+    Ok(actor.rows()?.len())
+}
+
+/// When one of many keys is due again.
+fn due(actor: &Crowd) -> Option<u128> {
+    actor.next_retry()
 }
 
 /// Fetches a key, and hands it out.
@@ -413,12 +456,12 @@ fn hand_out_one(alloc: Global, actor: &mut Crowd, key: u64) -> Result<usize, Fau
     };
     let mut items = Vec::new(alloc);
     items.push(item)?;
-    let _ = actor.step(happens(0, Event::Fetch(items)))?;
+    let _ = step_crowd(actor, 0, Event::Fetch(items))?;
     let value = Event::Fetched {
         attempt: key,
         value: Some(1),
     };
-    Ok(actor.step(happens(0, value))?.len())
+    Ok(step_crowd(actor, 0, value)?.len())
 }
 
 /// Judges a number: an even one is complete, and the key of an odd one waits.
@@ -428,11 +471,7 @@ fn judge(actor: &mut Crowd, number: u64) -> Result<usize, Fault> {
     } else {
         Some(Outcome::Unresolved)
     };
-    Ok(
-        actor
-            .step(happens(0, Event::Verdict { number, outcome }))?
-            .len(),
-    )
+    Ok(step_crowd(actor, 0, Event::Verdict { number, outcome })?.len())
 }
 
 // Ten thousand deliveries are open at once, and closed from the last on.
@@ -443,17 +482,20 @@ fn ten_thousand_deliveries(rt: HostRuntime) -> Result<(), Fail> {
     for key in 0..10_000 {
         assert_eq!(rt; hand_out_one(alloc, &mut actor, key)?, 1);
     }
-    assert_eq!(rt; actor.rows()?.len(), 10_000);
-    assert_eq!(rt; actor.next_retry(), None);
+    assert_eq!(rt; count(&actor)?, 10_000);
+    assert_eq!(rt; due(&actor), None);
     for number in (0..10_000).rev() {
         assert_eq!(rt; judge(&mut actor, number)?, 0);
     }
-    assert_eq!(rt; actor.rows()?.len(), 5_000);
-    assert_eq!(rt; actor.next_retry(), Some(100));
-    assert_eq!(rt; actor.step(happens(99, Event::RetriesDue))?.len(), 0);
-    assert_eq!(rt; actor.step(happens(100, Event::RetriesDue))?.len(), 5_000);
-    assert_eq!(rt; actor.next_retry(), None);
-    assert_eq!(rt; actor.step(happens(100, Event::End))?.len(), 5_000);
-    assert!(rt; actor.rows()?.is_empty());
+    assert_eq!(rt; count(&actor)?, 5_000);
+    assert_eq!(rt; due(&actor), Some(100));
+    assert_eq!(rt; step_crowd(&mut actor, 99, Event::RetriesDue)?.len(), 0);
+    assert_eq!(rt;
+        step_crowd(&mut actor, 100, Event::RetriesDue)?.len(),
+        5_000
+    );
+    assert_eq!(rt; due(&actor), None);
+    assert_eq!(rt; step_crowd(&mut actor, 100, Event::End)?.len(), 5_000);
+    assert_eq!(rt; count(&actor)?, 0);
     Ok(())
 }
