@@ -16,6 +16,7 @@ pub mod TriesAll
 pub mod NeedsPairs
 pub mod ChoosesBelow
 pub mod Askable
+pub mod Among
 pub mod Dues
 pub mod Seeking
 pub mod Tried

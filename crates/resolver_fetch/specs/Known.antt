@@ -36,6 +36,10 @@ module _ {P : Type 0} (by_peer : P → P → Ordering) where
   abbrev pub eligible : Known P → Option (List P) → List (P × Averages)
   eligible known targets = filter (λ p. is_eligible known targets p.0) known.set
 
+  -- the peer of this name, if it may be asked
+  abbrev pub askable_at : Known P → P → List (P × Averages)
+  askable_at known name = filter (λ p. may_be_asked known p.0 && is_eq (by_peer p.0 name)) known.set
+
   -- the weight with which a peer of the set is drawn
   abbrev pub sampling_weight : Known P → P × Averages → ℕ
   sampling_weight known p = if may_be_asked known p.0 then weight_of p.1 else 0

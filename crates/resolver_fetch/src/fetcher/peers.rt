@@ -1,9 +1,11 @@
 //! The peers that may be asked.
 
-ghost use Rattle.std.specs.Prelude.{◌≡◌, ◌↔◌, None, [], length, IsTrue, IfOk, IfErr, OnErr, OnOk};
+ghost use Rattle.std.specs.Prelude.{◌≡◌, ◌↔◌, None, Some, [], length, option_map, option_to_list, IsTrue, IfOk, IfErr, OnErr, OnOk};
+ghost use Rattle.std.specs.List.Sorted.{IsStrictlySortedBy};
+ghost use Rattle.std.specs.Map.{keys_of};
 ghost use Rattle.std.specs.Option.{option_copied};
 ghost use Rattle.resolver_base.specs.declared.base.fault.Fault.TheVariants.{OutOfMemory};
-ghost use Rattle.resolver_fetch.specs.Known.{askable, eligible, is_eligible, is_local, is_target, may_be_asked, weight_in};
+ghost use Rattle.resolver_fetch.specs.Known.{askable, askable_at, eligible, is_eligible, is_local, is_target, may_be_asked, weight_in};
 ghost use Rattle.resolver_fetch.specs.Peers.{observed, replaced, set_of};
 ghost use Rattle.resolver_fetch.specs.Trying.{weighed};
 
@@ -74,10 +76,26 @@ impl<P: Ord + Drop> Peers<P> {
     }
 
     /// The peers that may be asked for a key with these targets, in their order, with what they
-    /// weigh. It takes one pass over the peers, with a look-up in the targets for each of them.
+    /// weigh. Where there are fewer targets than peers, each of them is looked up; else it takes
+    /// one pass over the peers, with a look-up in the targets for each.
     ///
     /// The names are cloned; clones are to equal their sources.
     pub(super) fn eligible(&self, targets: Option<&Targets<P>>) -> Result<Vec<(P, u64)>, Fault>
+    where
+        P: Clone,
+        requires peers_clone { (x y : P) → P.is_clone x y → y ≡ x }
+        ensures ok { IfOk result
+            (λ peers. peers.items ≡ weighed (eligible P.cmp self.now (option_copied targets.entry))) }
+        ensures only { IfErr result (λ fault. fault ≡ OutOfMemory) }
+    {
+        match targets {
+            Some(few) if few.len() < self.set.len() => self.eligible_among(few),
+            _ => self.eligible_of_all(targets),
+        }
+    }
+
+    /// The same by a pass over the peers.
+    fn eligible_of_all(&self, targets: Option<&Targets<P>>) -> Result<Vec<(P, u64)>, Fault>
     where
         P: Clone,
         requires peers_clone { (x y : P) → P.is_clone x y → y ≡ x }
@@ -92,6 +110,39 @@ impl<P: Ord + Drop> Peers<P> {
             }
         }
         Ok(peers)
+    }
+
+    /// The same by a look-up of each target.
+    fn eligible_among(&self, targets: &Targets<P>) -> Result<Vec<(P, u64)>, Fault>
+    where
+        P: Clone,
+        requires peers_clone { (x y : P) → P.is_clone x y → y ≡ x }
+        requires ordered { IsStrictlySortedBy P.cmp (keys_of self.now.set) }
+        ensures ok { IfOk result
+            (λ peers. peers.items ≡ weighed (eligible P.cmp self.now (Some targets.now))) }
+        ensures only { IfErr result (λ fault. fault ≡ OutOfMemory) }
+    {
+        let mut peers = Vec::new(self.alloc);
+        for name in targets.names() {
+            if let Some((peer, weight)) = self.askable_at(name) {
+                peers.push((peer.clone()?, weight))?;
+            }
+        }
+        Ok(peers)
+    }
+
+    /// The peer of this name with what it weighs, if it may be asked.
+    fn askable_at(&self, name: &P) -> Option<(&P, u64)>
+        requires ordered { IsStrictlySortedBy P.cmp (keys_of self.now.set) }
+        ensures { option_to_list (option_map (λ p. (p.0.now, p.1)) result)
+            ≡ weighed (askable_at P.cmp self.now name.now) }
+    {
+        let (peer, score) = self.set.get_key_value(name)?;
+        if self.may_be_asked(peer) {
+            Some((peer, score.weight()))
+        } else {
+            None
+        }
     }
 
     /// Whether a peer of the set may be asked for a key with these targets.

@@ -1,6 +1,8 @@
 //! The peers that may be asked for a key.
 
-ghost use Rattle.std.specs.Prelude.{◌≡◌, [], IfOk, OnErr, OnOk};
+ghost use Rattle.std.specs.Prelude.{◌≡◌, [], length, IfOk, OnErr, OnOk};
+ghost use Rattle.std.specs.List.Sorted.{IsStrictlySortedBy};
+ghost use Rattle.std.specs.Map.Iter.{ShowsInOrder, deref};
 ghost use Rattle.std.specs.BTreeSet.{contains};
 ghost use Rattle.resolver_base.specs.Joined.{joined_one};
 ghost use Rattle.resolver_fetch.specs.Orders.{is_one_of};
@@ -8,6 +10,7 @@ ghost use Rattle.resolver_fetch.specs.Peers.{is_target_of, with_targets};
 
 use std::alloc::{AllocError, Global};
 use std::collections::BTreeSet;
+use std::collections::btree_set::Iter;
 use std::marker::Model;
 
 /// The peers that may be asked for a key, each once, in the order in which they were added.
@@ -48,6 +51,22 @@ impl<P: Ord + Drop> Targets<P> {
         ensures { result ≡ is_one_of P.cmp self.now peer.now }
     {
         self.names.contains(peer)
+    }
+
+    /// How many there are.
+    pub(super) fn len(&self) -> usize
+        ensures { result ≡ length self.now }
+    {
+        self.listed.len()
+    }
+
+    /// The same peers in their own order.
+    pub(super) fn names(&self) -> Iter<'_, P>
+        ensures ordered { IsStrictlySortedBy P.cmp result }
+        ensures same { (peer : P) → is_one_of P.cmp result peer ≡ is_one_of P.cmp self.now peer }
+        ensures runs { ShowsInOrder (deref {X = P}) }
+    {
+        self.names.iter()
     }
 
     /// Puts those of these peers last, in their order, that aren't there yet. Where memory is

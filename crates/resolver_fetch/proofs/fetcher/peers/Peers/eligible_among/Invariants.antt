@@ -1,0 +1,11 @@
+use Rattle.std.proofs.Common.{◌≡◌, ◌++◌, Some}
+use Rattle.resolver_fetch.specs.Known.{eligible}
+use Rattle.resolver_fetch.specs.Trying.{weighed}
+use Rattle.resolver_fetch.proofs.Among.{among}
+use Rattle.resolver_fetch.proofs.fetcher.peers.Peers.eligible_among.Given as goal
+
+-- The peers so far, with those of the names that are left, are those of all.
+abbrev pub invariant-loop-name : goal.invariant-loop-name
+invariant-loop-name g l =
+    l.peers.items ++ weighed (among g.P.Ord.cmp l.fn.self l.name-iterator)
+    ≡ weighed (eligible g.P.Ord.cmp l.fn.self (Some l.fn.targets))
