@@ -7,11 +7,11 @@ use Rattle.resolver_base.specs.declared.base.fault.Fault.TheVariants.{OutOfRange
 use Rattle.resolver_base.specs.declared.root.Outcome.{Outcome}
 use Rattle.resolver_base.specs.declared.root.Outcome.TheVariants.{Invalid, Resolved, Unresolved, Ignored}
 use Rattle.resolver_base.specs.Subscribers.{without}
-use Rattle.resolver_fetch.specs.declared.score.Averages.{Averages}
-use Rattle.resolver_fetch.specs.Choice as choice
+use Rattle.resolver_request.specs.declared.score.Averages.{Averages}
+use Rattle.resolver_request.specs.Choice as choice
 use Rattle.resolver_fetch.specs.Waiting.{Waiting}
-use Rattle.resolver_fetch.specs.declared.fetcher.request.Request.{Request}
-use Rattle.resolver_fetch.specs.Requests.{overdue}
+use Rattle.resolver_request.specs.declared.requests.request.Request.{Request}
+use Rattle.resolver_request.specs.Requests.{overdue}
 use Rattle.resolver_fetch.specs.Snapshot.{eligible}
 use Rattle.resolver_fetch.specs.declared.fetcher.trail.Expected.{Expected}
 use Rattle.resolver_fetch.specs.declared.fetcher.trail.Expected.TheVariants.{Mode, ByWeight, ByPlace, Checking, FirstId, Sending}
@@ -22,8 +22,8 @@ use Rattle.resolver_base.specs.declared.base.check.Check.TheVariants.{Clear, Unt
 use Rattle.resolver_fetch.specs.declared.fetcher.scan.Answer.{Answer}
 use Rattle.resolver_fetch.specs.declared.fetcher.scan.Answer.TheVariants.{Drawn, Checked, Sent}
 use Rattle.resolver_fetch.specs.Scan as scans
-use Rattle.resolver_fetch.specs.declared.wire.Payload.{Payload}
-use Rattle.resolver_fetch.specs.declared.wire.Payload.TheVariants as payloads
+use Rattle.resolver_request.specs.declared.wire.Payload.{Payload}
+use Rattle.resolver_request.specs.declared.wire.Payload.TheVariants as payloads
 use Rattle.resolver.specs.declared.ruling.Ruling.{Ruling}
 use Rattle.resolver.specs.declared.ruling.Ruling.TheVariants as rulings
 use Rattle.resolver.specs.Verdicts.{ruling}

@@ -8,19 +8,19 @@ use Rattle.resolver_base.specs.declared.base.fault.Fault.TheVariants as faults
 use Rattle.resolver_base.specs.declared.root.Outcome.{Outcome}
 use Rattle.resolver_base.specs.declared.root.Outcome.TheVariants.{Invalid, Resolved}
 use Rattle.resolver_base.specs.Subscribers.{attached_all, without}
-use Rattle.resolver_fetch.specs.declared.score.Averages.{Averages}
-use Rattle.resolver_fetch.specs.declared.wire.Message.{Message}
-use Rattle.resolver_fetch.specs.declared.wire.Payload.{Payload}
-use Rattle.resolver_fetch.specs.declared.wire.Payload.TheVariants as payloads
+use Rattle.resolver_request.specs.declared.score.Averages.{Averages}
+use Rattle.resolver_request.specs.declared.wire.Message.{Message}
+use Rattle.resolver_request.specs.declared.wire.Payload.{Payload}
+use Rattle.resolver_request.specs.declared.wire.Payload.TheVariants as payloads
 use Rattle.resolver_fetch.specs.declared.fetcher.config.Config.{Config}
-use Rattle.resolver_fetch.specs.declared.fetcher.request.Request.{Request}
+use Rattle.resolver_request.specs.declared.requests.request.Request.{Request}
 use Rattle.resolver_fetch.specs.declared.fetcher.scan.Answer.{Answer}
 use Rattle.resolver_fetch.specs.declared.fetcher.scan.Ask.{Ask as Question}
 use Rattle.resolver_fetch.specs.Orders.{same_key}
-use Rattle.resolver_fetch.specs.Times.{elapsed_since, charged}
+use Rattle.resolver_request.specs.Times.{elapsed_since, charged}
 use Rattle.resolver_fetch.specs.Waiting as waits
 use Rattle.resolver_fetch.specs.Waiting.{fresh_at, retry_at, once_more, in_order}
-use Rattle.resolver_fetch.specs.Requests.{soonest, overdue, matching, by_id}
+use Rattle.resolver_request.specs.Requests.{soonest, overdue, matching, by_id}
 use Rattle.resolver_fetch.specs.Peers.{replaced, observed, with_targets, set_of}
 use Rattle.resolver_fetch.specs.Snapshot.{Snapshot}
 use Rattle.resolver_fetch.specs.Scan as scans

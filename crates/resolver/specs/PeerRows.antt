@@ -1,7 +1,7 @@
 -- One map from each demanded key to its subscribers, its targets, its retries and its phase.
 use Rattle.std.specs.Prelude.{ℕ, Bool, List, [], ◌∷◌, Option, None, Some, if◌then◌else◌}
 use Rattle.resolver_fetch.specs.declared.fetcher.place.Place.{Place}
-use Rattle.resolver_fetch.specs.declared.fetcher.request.Request.{Request}
+use Rattle.resolver_request.specs.declared.requests.request.Request.{Request}
 use Rattle.resolver_fetch.specs.Waiting.{Waiting}
 
 -- where a response came from, how long it took and how long it is

@@ -6,9 +6,9 @@ use Rattle.resolver_base.specs.declared.base.fault.Fault.{Fault}
 use Rattle.resolver_base.specs.declared.base.fault.Fault.TheVariants.{Ended, Busy, Unasked, OutOfRange}
 use Rattle.resolver_base.specs.declared.root.Outcome.TheVariants.{Resolved, Invalid}
 use Rattle.resolver_base.specs.declared.root.Resolution.TheVariants.{Complete}
-use Rattle.resolver_fetch.specs.declared.wire.Message.{Message}
-use Rattle.resolver_fetch.specs.declared.wire.Payload.TheVariants as payloads
-use Rattle.resolver_fetch.specs.declared.fetcher.request.Request.{Request}
+use Rattle.resolver_request.specs.declared.wire.Message.{Message}
+use Rattle.resolver_request.specs.declared.wire.Payload.TheVariants as payloads
+use Rattle.resolver_request.specs.declared.requests.request.Request.{Request}
 use Rattle.resolver_fetch.specs.declared.fetcher.scan.Answer.TheVariants.{Drawn, Checked, Sent}
 use Rattle.resolver_fetch.specs.declared.fetcher.scan.Ask.TheVariants as asks
 use Rattle.resolver_fetch.specs.Waiting.{fresh_at, retry_at}

@@ -13,7 +13,7 @@ use Rattle.std.specs.declared.cmp.Ordering.{Ordering}
 use Rattle.std.specs.declared.cmp.Ordering.TheVariants.{Less, Equal, Greater}
 use Rattle.resolver_fetch.specs.Orders.{is_one_of}
 use Rattle.resolver_fetch.specs.Known.{Known, askable_at, eligible, may_be_asked}
-use Rattle.resolver_fetch.specs.declared.score.Averages.{Averages}
+use Rattle.resolver_request.specs.declared.score.Averages.{Averages}
 
 equal-is : (r : Ordering) → is_eq r ≡ true → r ≡ Equal
 equal-is Less is = absurd cc

@@ -3,7 +3,7 @@ use Rattle.std.proofs.Common.{◌≡◌, refl, ap, ◌∙◌, ℕ, Bool, true, f
 use Rattle.std.proofs.lemmas.Grind.{common_steps}
 use Rattle.std.specs.Prelude.{find, nat_lt}
 use Rattle.std.specs.Map.{set_value}
-use Rattle.resolver_fetch.specs.declared.score.Averages.{Averages}
+use Rattle.resolver_request.specs.declared.score.Averages.{Averages}
 use Rattle.resolver_fetch.specs.declared.fetcher.trail.Try.{Try}
 use Rattle.resolver_fetch.specs.Fetcher.{Fetcher, snapshot}
 use Rattle.resolver_fetch.specs.Known.{askable, is_target, may_be_asked}

@@ -7,13 +7,13 @@ use Rattle.std.proofs.lemmas.List.{length-map}
 use Rattle.std.specs.Cmp.{IsTotalOrder}
 use Rattle.std.specs.Ordering.{is_eq}
 use Rattle.std.specs.Prelude.{find, nat_lt}
-use Rattle.resolver_fetch.specs.declared.score.Averages.{Averages}
+use Rattle.resolver_request.specs.declared.score.Averages.{Averages}
 use Rattle.resolver_fetch.specs.declared.fetcher.trail.Expected.{Expected}
 use Rattle.resolver_fetch.specs.declared.fetcher.trail.Reason.{Reason}
 use Rattle.resolver_fetch.specs.declared.fetcher.trail.Try.{Try}
 use Rattle.resolver_fetch.specs.Fetcher.{Fetcher, snapshot}
 use Rattle.resolver_fetch.specs.Orders.{Orders, same_key, same_peer}
-use Rattle.resolver_fetch.specs.Scores.{weight_of}
+use Rattle.resolver_request.specs.Scores.{weight_of}
 use Rattle.resolver_fetch.specs.Seeking.{scan_at, tried_now}
 use Rattle.resolver_fetch.specs.Snapshot.{Snapshot, eligible}
 use Rattle.resolver_fetch.specs.Scan.{can_be_tried, is_due, left, was_tried}

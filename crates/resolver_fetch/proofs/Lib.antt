@@ -1,17 +1,3 @@
-pub mod Groups
-pub mod Layouts
-pub mod Lengths
-pub mod Pieces
-pub mod Varints
-pub mod RoundTrip
-pub mod IdleScores
-pub mod Fades
-pub mod Counts
-pub mod Choices
-pub mod ChoiceCounts
-pub mod Ascending
-pub mod Draws
-pub mod Takes
 pub mod TriesAll
 pub mod NeedsPairs
 pub mod ChoosesBelow
@@ -21,9 +7,6 @@ pub mod Dues
 pub mod Seeking
 pub mod Tried
 pub mod Entries
-pub mod Soonest
-pub mod Timed
-pub mod NextIds
 pub mod Stepping
 pub mod Nexts
 pub mod Continues

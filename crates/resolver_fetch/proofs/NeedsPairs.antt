@@ -4,12 +4,12 @@ use Rattle.std.specs.Prelude.{nat_lt, unwrap_or, find, sum}
 use Rattle.std.specs.List.{list_any}
 use Rattle.resolver_base.specs.declared.base.check.Check.TheVariants.{Clear, Until}
 use Rattle.resolver_base.specs.declared.base.fault.Fault.TheVariants.{OutOfRange}
-use Rattle.resolver_fetch.specs.declared.score.Averages.{Averages}
+use Rattle.resolver_request.specs.declared.score.Averages.{Averages}
 use Rattle.resolver_fetch.specs.declared.fetcher.scan.Answer.{Answer}
 use Rattle.resolver_fetch.specs.declared.fetcher.scan.Answer.TheVariants.{Drawn, Checked, Sent}
 use Rattle.resolver_fetch.specs.declared.fetcher.scan.Ask.TheVariants.{Draw}
 use Rattle.resolver_fetch.specs.Orders.{Orders, same_key, same_peer}
-use Rattle.resolver_fetch.specs.Times.{never}
+use Rattle.resolver_request.specs.Times.{never}
 use Rattle.resolver_fetch.specs.Waiting.{Waiting}
 use Rattle.resolver_fetch.specs.Snapshot.{Snapshot, eligible}
 use Rattle.resolver_fetch.specs.declared.fetcher.trail.Expected.{Expected}

@@ -20,7 +20,7 @@ use Rattle.resolver_fetch.specs.declared.fetcher.trail.Try.{Try}
 use Rattle.resolver_fetch.specs.Fetcher.{Fetcher, snapshot, waiting_of}
 use Rattle.resolver_fetch.specs.Orders.{Orders, same_key}
 use Rattle.resolver_fetch.specs.Scan.{can_be_tried, is_due, left}
-use Rattle.resolver_fetch.specs.Scores.{weight_of}
+use Rattle.resolver_request.specs.Scores.{weight_of}
 use Rattle.resolver_fetch.specs.Seeking.{scan_at, tried_behind, tried_behind_now, tried_next, tried_now}
 use Rattle.resolver_fetch.specs.Trying.{Trying, apart_from, trying_for, weighed}
 use Rattle.resolver_fetch.specs.Waiting.{place_order}

@@ -11,8 +11,8 @@ use Rattle.resolver_base.specs.declared.base.check.Check.TheVariants.{Clear, Unt
 use Rattle.resolver_base.specs.declared.base.fault.Fault.{Fault}
 use Rattle.resolver_base.specs.declared.base.fault.Fault.TheVariants as faults
 use Rattle.resolver_base.specs.declared.base.fault.Fault.TheVariants.{OutOfRange}
-use Rattle.resolver_fetch.specs.declared.score.Averages.{Averages}
-use Rattle.resolver_fetch.specs.declared.score.Averages.TheVariants.{Unobserved, Observed}
+use Rattle.resolver_request.specs.declared.score.Averages.{Averages}
+use Rattle.resolver_request.specs.declared.score.Averages.TheVariants.{Unobserved, Observed}
 use Rattle.resolver_fetch.specs.declared.fetcher.scan.Answer.{Answer}
 use Rattle.resolver_fetch.specs.declared.fetcher.scan.Answer.TheVariants.{Drawn, Checked, Sent}
 use Rattle.resolver_fetch.specs.declared.fetcher.scan.Ask.{Ask}
@@ -21,11 +21,11 @@ use Rattle.resolver_fetch.specs.declared.fetcher.trail.Expected.TheVariants.{Mod
 use Rattle.resolver_fetch.specs.declared.fetcher.trail.Reason.{Reason}
 use Rattle.resolver_fetch.specs.declared.fetcher.trail.Reason.TheVariants.{Limited, Refused}
 use Rattle.resolver_fetch.specs.declared.fetcher.trail.Try.{Try}
-use Rattle.resolver_fetch.specs.Choice.{chosen, means_weighted}
+use Rattle.resolver_request.specs.Choice.{chosen, means_weighted}
 use Rattle.resolver_fetch.specs.Fetcher.{Fetcher, answered as answered_with, asked_by, question, scan_answer, scan_begin, scan_taken, snapshot, turned}
 use Rattle.resolver_fetch.specs.Orders.{Orders, same_key, same_peer}
 use Rattle.resolver_fetch.specs.Progress.{ExpectsLeft, Fits, IsAnswerable, IsSound, IsSoundWith, IsTrying, Keeps, answers_left, answers_with, is_left, pairs_left, stage}
-use Rattle.resolver_fetch.specs.Scores.{weight_of}
+use Rattle.resolver_request.specs.Scores.{weight_of}
 use Rattle.resolver_fetch.specs.Snapshot.{Snapshot}
 use Rattle.resolver_fetch.specs.Scan.{Scan, Turn, answered, asks_for, by_place, by_weight, can_be_tried, clears, draws, fails, goes_on, goes_on_with, is_due, left, next, question_for, question_of, takes_for, weights}
 use Rattle.resolver_fetch.specs.Waiting.{Waiting}

@@ -8,13 +8,13 @@ use Rattle.std.specs.Ordering.{bool_cmp, is_le, is_lt, nat_cmp, ordering_then}
 use Rattle.std.specs.Prelude.{find, nat_le, nat_lt}
 use Rattle.std.specs.declared.cmp.Ordering.{Ordering}
 use Rattle.resolver_base.specs.Priorities.{after, from, pair_order}
-use Rattle.resolver_fetch.specs.declared.score.Averages.{Averages}
+use Rattle.resolver_request.specs.declared.score.Averages.{Averages}
 use Rattle.resolver_fetch.specs.declared.fetcher.place.Place.{Place}
 use Rattle.resolver_fetch.specs.declared.fetcher.trail.Try.{Try}
 use Rattle.resolver_fetch.specs.Fetcher.{Fetcher, snapshot, waiting_of}
 use Rattle.resolver_fetch.specs.Orders.{Orders}
 use Rattle.resolver_fetch.specs.Scan.{can_be_tried, left}
-use Rattle.resolver_fetch.specs.Scores.{weight_of}
+use Rattle.resolver_request.specs.Scores.{weight_of}
 use Rattle.resolver_fetch.specs.Seeking.{first_until, scan_at, tried_behind, tried_next, trying_key}
 use Rattle.resolver_fetch.specs.Trying.{Trying, trying_for, weighed}
 use Rattle.resolver_fetch.specs.Waiting.{fresh_at, place_order, retry_at}

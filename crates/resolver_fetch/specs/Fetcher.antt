@@ -6,16 +6,16 @@ use Rattle.std.specs.Ordering.{nat_cmp}
 use Rattle.resolver_base.specs.declared.base.fault.Fault.{Fault}
 use Rattle.resolver_base.specs.declared.base.fault.Fault.TheVariants.{Unasked}
 use Rattle.resolver_base.specs.Priorities.{put, retained, without}
-use Rattle.resolver_fetch.specs.declared.score.Averages.{Averages}
+use Rattle.resolver_request.specs.declared.score.Averages.{Averages}
 use Rattle.resolver_fetch.specs.declared.fetcher.config.Config.{Config}
 use Rattle.resolver_fetch.specs.declared.fetcher.place.Place.{Place}
-use Rattle.resolver_fetch.specs.declared.fetcher.request.Request.{Request}
+use Rattle.resolver_request.specs.declared.requests.request.Request.{Request}
 use Rattle.resolver_fetch.specs.declared.fetcher.scan.Answer.{Answer}
 use Rattle.resolver_fetch.specs.declared.fetcher.scan.Ask.{Ask}
 use Rattle.resolver_fetch.specs.Orders.{Orders}
-use Rattle.resolver_fetch.specs.Times.{elapsed_since, charged}
+use Rattle.resolver_request.specs.Times.{elapsed_since, charged}
 use Rattle.resolver_fetch.specs.Waiting.{Waiting, place_order, fresh_at, retry_at, once_more, wake_up}
-use Rattle.resolver_fetch.specs.Requests.{soonest, overdue, matching, without_request}
+use Rattle.resolver_request.specs.Requests.{soonest, overdue, matching, without_request}
 use Rattle.resolver_fetch.specs.Peers.{replaced, observed, with_targets, set_of}
 use Rattle.resolver_fetch.specs.Known.{weight_in}
 use Rattle.resolver_fetch.specs.Snapshot.{Snapshot, known}

@@ -7,11 +7,11 @@ use Rattle.resolver_fetch.specs.declared.fetcher.scan.Answer.{Answer}
 use Rattle.resolver_fetch.specs.declared.fetcher.scan.Answer.TheVariants.{Drawn, Checked, Sent}
 use Rattle.resolver_fetch.specs.declared.fetcher.scan.Ask.{Ask}
 use Rattle.resolver_fetch.specs.declared.fetcher.scan.Ask.TheVariants as asks
-use Rattle.resolver_fetch.specs.declared.wire.Message.{Message}
-use Rattle.resolver_fetch.specs.declared.wire.Payload.TheVariants.{Request}
+use Rattle.resolver_request.specs.declared.wire.Message.{Message}
+use Rattle.resolver_request.specs.declared.wire.Payload.TheVariants.{Request}
 use Rattle.resolver_fetch.specs.Fetcher.{Fetcher, question, scan_answer, scan_begin}
 use Rattle.resolver_fetch.specs.Orders.{Orders}
-use Rattle.resolver_fetch.specs.Spelling.{spelling}
+use Rattle.resolver_request.specs.Spelling.{spelling}
 
 -- what is outside of a fetcher: how keys are spelled, and what a sender and draws may say, with what they are then
 pub record Outside (K P S D : Type 0) : Type 1 where

@@ -6,9 +6,9 @@ use Rattle.std.specs.BTreeSet.{insert_key}
 use Rattle.std.specs.Ordering.{is_eq}
 use Rattle.std.specs.declared.cmp.Ordering.{Ordering}
 use Rattle.resolver_base.specs.Joined.{joined}
-use Rattle.resolver_fetch.specs.declared.score.Averages.{Averages}
-use Rattle.resolver_fetch.specs.declared.score.Averages.TheVariants.{Unobserved}
-use Rattle.resolver_fetch.specs.Scores.{Observation, averaged}
+use Rattle.resolver_request.specs.declared.score.Averages.{Averages}
+use Rattle.resolver_request.specs.declared.score.Averages.TheVariants.{Unobserved}
+use Rattle.resolver_request.specs.Scores.{Observation, averaged}
 
 module _ {P : Type 0} (by_peer : P → P → Ordering) where
   -- nothing is known of a peer that is not in the set

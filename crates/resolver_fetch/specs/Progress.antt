@@ -1,7 +1,7 @@
 -- What holds of every open scan, and how many answers it takes at most.
 use Rattle.std.specs.Prelude.{◌≡◌, ℕ, ◌+◌, ◌*◌, ◌<◌, Bool, true, List, [], ◌∷◌, length, Option, None, Some}
 use Rattle.std.specs.List.{list_any}
-use Rattle.resolver_fetch.specs.declared.score.Averages.{Averages}
+use Rattle.resolver_request.specs.declared.score.Averages.{Averages}
 use Rattle.resolver_fetch.specs.declared.fetcher.scan.Answer.{Answer}
 use Rattle.resolver_fetch.specs.declared.fetcher.scan.Answer.TheVariants.{Drawn, Checked, Sent}
 use Rattle.resolver_fetch.specs.declared.fetcher.scan.Ask.{Ask}

@@ -1,8 +1,8 @@
 -- What a scan reads, and which peers may be asked.
 use Rattle.std.specs.Prelude.{ℕ, List, Option}
-use Rattle.resolver_fetch.specs.declared.score.Averages.{Averages}
+use Rattle.resolver_request.specs.declared.score.Averages.{Averages}
 use Rattle.resolver_fetch.specs.declared.fetcher.config.Config.{Config}
-use Rattle.resolver_fetch.specs.declared.fetcher.request.Request.{Request}
+use Rattle.resolver_request.specs.declared.requests.request.Request.{Request}
 use Rattle.resolver_fetch.specs.Orders.{Orders}
 use Rattle.resolver_fetch.specs.Known as peers
 use Rattle.resolver_fetch.specs.Known.{Known}

@@ -5,10 +5,10 @@ use Rattle.std.specs.Ordering.{is_eq}
 use Rattle.std.specs.declared.cmp.Ordering.{Ordering}
 use Rattle.resolver_fetch.specs.declared.fetcher.place.Place.{Place}
 use Rattle.resolver_fetch.specs.declared.fetcher.trail.Try.{Try}
-use Rattle.resolver_fetch.specs.declared.score.Averages.{Averages}
-use Rattle.resolver_fetch.specs.Choice.{chosen}
+use Rattle.resolver_request.specs.declared.score.Averages.{Averages}
+use Rattle.resolver_request.specs.Choice.{chosen}
 use Rattle.resolver_fetch.specs.Orders.{Orders}
-use Rattle.resolver_fetch.specs.Scores.{weight_of}
+use Rattle.resolver_request.specs.Scores.{weight_of}
 use Rattle.resolver_fetch.specs.Waiting.{Waiting}
 use Rattle.resolver_fetch.specs.Snapshot.{Snapshot}
 use Rattle.resolver_fetch.specs.Scan.{Scan, left, next}

@@ -1,12 +1,6 @@
-//! What fetching from peers is made of: how fast each peer has been (`score`), draws by weight
-//! (`sampling`), messages as bytes (`wire`), and which key is asked for next (`fetcher`).
+//! Which key is asked for next, of which peer, under which id, and when to look again (`fetcher`).
 //!
-//! `score::Score` and `sampling::WeightedIndex` choose a peer; `wire::Message` is what one peer
-//! sends another.
+//! What a request is made of, and who gets it, comes from `resolver_request`.
 #![tactic(auto)]
 
 pub mod fetcher;
-pub mod laws;
-pub mod sampling;
-pub mod score;
-pub mod wire;

@@ -5,7 +5,7 @@ ghost use Rattle.resolver_fetch.specs.Fetcher.{IsTimely};
 
 use resolver_base::base::{Check, Fault, NonEmptyVec};
 use resolver_fetch::fetcher::{Answer, Ask, Config, Fetcher};
-use resolver_fetch::score::DURATION_MAX;
+use resolver_request::score::DURATION_MAX;
 use std::alloc::Global;
 use std::process::Abort;
 use std::test::Fail;

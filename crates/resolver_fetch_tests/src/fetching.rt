@@ -3,12 +3,12 @@
 ghost use Rattle.std.specs.Prelude.{◌<◌, ◌^◌};
 ghost use Rattle.resolver_fetch.specs.Fetcher.{IsTimely};
 
-use crate::wire::keys::Key;
 use bytes::Bytes;
 use resolver_base::base::{
     Check, Draws, Fault, Feedback, NonEmptyVec, PublicKey, Sender, Unreliable,
 };
 use resolver_fetch::fetcher::{Config, Fetcher, ID};
+use resolver_request_tests::keys::Key;
 use std::alloc::Global;
 use std::process::Abort;
 use std::test::Fail;

@@ -9,9 +9,3 @@ mod fetcher;
 mod fetching;
 #[cfg(test)]
 mod laws;
-#[cfg(test)]
-mod sampling;
-#[cfg(test)]
-mod score;
-#[cfg(test)]
-mod wire;

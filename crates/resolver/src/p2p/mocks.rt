@@ -2,7 +2,7 @@
 
 use bytes::{BufMut, BytesMut};
 use resolver_base::base::Span;
-pub use resolver_fetch::wire::{Message, Payload};
+pub use resolver_request::wire::{Message, Payload};
 use std::alloc::AllocError;
 use std::fmt;
 

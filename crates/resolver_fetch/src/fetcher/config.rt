@@ -1,8 +1,5 @@
 //! How requests are made.
 
-/// Names a request; its answer has the same. Ids go up by one, and 0 follows `u64::MAX`.
-pub type ID = u64;
-
 /// How requests are made. Durations are in nanoseconds.
 #[derive(Clone, Debug, Drop)]
 pub struct Config<P> {

@@ -6,12 +6,12 @@ ghost use Rattle.resolver_fetch.specs.Fetcher.{question};
 ghost use Rattle.resolver_fetch.specs.Fetching.{Fetches, GoesOn, MaySay, Says, Stops, TakesOne, Wants, given_up, lent, outside, request_of};
 ghost use Rattle.resolver_fetch.specs.Orders.{orders};
 ghost use Rattle.resolver_fetch.specs.Progress.{Fits, IsAnswerable, IsSound, Keeps, answers_left};
-ghost use Rattle.resolver_fetch.specs.Spelling.{spelling};
+ghost use Rattle.resolver_request.specs.Spelling.{spelling};
 
 use crate::fetcher::{Answer, Ask, Fetcher, ID};
-use crate::wire::{Message, Payload};
 use bytes::{Bytes, BytesMut};
 use resolver_base::base::{Draws, Fault, PublicKey, Sender, Span};
+use resolver_request::wire::{Message, Payload};
 use std::alloc::{AllocError, Global};
 
 impl<K: Span + Drop, P: PublicKey + Drop> Fetcher<K, P> {

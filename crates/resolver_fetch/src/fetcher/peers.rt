@@ -10,8 +10,8 @@ ghost use Rattle.resolver_fetch.specs.Peers.{observed, replaced, set_of};
 ghost use Rattle.resolver_fetch.specs.Trying.{weighed};
 
 use crate::fetcher::targets::Targets;
-use crate::score::Score;
 use resolver_base::base::Fault;
+use resolver_request::score::Score;
 use std::alloc::{AllocError, Global};
 use std::collections::{BTreeMap, BTreeSet};
 use std::marker::Model;

@@ -8,8 +8,8 @@ ghost use Rattle.resolver_fetch.specs.Stepping.{checked_of, drawn_of, id_of, sen
 use crate::fetcher::trail::{Expected, Reason};
 use crate::fetcher::trying::Trying;
 use crate::fetcher::{Answer, ID};
-use crate::sampling::is_weighted;
 use resolver_base::base::{Check, Fault};
+use resolver_request::sampling::is_weighted;
 
 /// What an answer means to a scan.
 #[derive(Debug, Drop)]

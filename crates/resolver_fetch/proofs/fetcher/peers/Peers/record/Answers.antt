@@ -2,7 +2,7 @@ use Rattle.std.proofs.Common.{◌∙◌, sym}
 use Rattle.std.specs.BTreeMap.{is_at}
 use Rattle.resolver_fetch.specs.Known.{may_be_asked}
 use Rattle.resolver_fetch.specs.Peers.{averages_in}
-use Rattle.resolver_fetch.specs.Scores.{averaged}
+use Rattle.resolver_request.specs.Scores.{averaged}
 use Rattle.resolver_fetch.proofs.Askable.{counts-same}
 use Rattle.resolver_fetch.proofs.fetcher.peers.Peers.record.Goals as goal
 

@@ -1,5 +1,0 @@
-use Rattle.resolver_fetch.proofs.Draws.{draws-each-once}
-use Rattle.resolver_fetch.proofs.sampling.selection.Selection.left_count.Goals as goal
-
-pub returns-clause-draws : goal.returns-clause-draws
-returns-clause-draws c = rw (← c.self.view_is) (draws-each-once _ c.self.invariant)

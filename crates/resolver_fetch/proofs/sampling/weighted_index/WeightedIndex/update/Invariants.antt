@@ -1,9 +1,0 @@
-use Rattle.std.proofs.Common.{◌≡◌, length, take}
-use Rattle.resolver_fetch.specs.Choice.{changed}
-use Rattle.resolver_fetch.proofs.sampling.weighted_index.WeightedIndex.update.Given as goal
-
-abbrev pub invariant-loop-place : goal.invariant-loop-place
-invariant-loop-place l = record {
-  so_far : l.self-inside.weights.items ≡ changed l.initial.self-inside.weights.items (take l.place-index l.changes);
-  same_length : length l.self-inside.weights.items ≡ length l.initial.self-inside.weights.items;
-}

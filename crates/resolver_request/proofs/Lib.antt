@@ -1,0 +1,17 @@
+pub mod Groups
+pub mod Layouts
+pub mod Lengths
+pub mod Pieces
+pub mod Varints
+pub mod RoundTrip
+pub mod IdleScores
+pub mod Fades
+pub mod Counts
+pub mod Choices
+pub mod ChoiceCounts
+pub mod Ascending
+pub mod Draws
+pub mod Takes
+pub mod Soonest
+pub mod Timed
+pub mod NextIds

@@ -1,0 +1,11 @@
+use Rattle.std.proofs.Common.{◌≡◌, Some, Option, ℕ, true, option_map, rules}
+use Rattle.std.specs.Prelude.{nat_le}
+use Rattle.resolver_request.specs.Requests.{soonest}
+use Rattle.resolver_request.proofs.Soonest.{taken-first}
+use Rattle.resolver_request.proofs.requests.Requests.take_overdue.Goals as goal
+
+pub returns-then-deadline-now : goal.returns-then-deadline-now
+returns-then-deadline-now g c =
+    let over : nat_le c.in_ok-id.deadline c.args.now ≡ true = search rules in
+    let first : ◌≡◌ {A = Option (ℕ × ℕ)} (Some (c.in_ok-id.id, c.in_ok-id.deadline)) (option_map (λ r. (r.0, r.1.deadline)) (soonest c.args.self.now)) = search rules in
+    rw (c.remove.ensures.value, c.remove.ensures.after) (taken-first c.args.self.now c.args.now c.in_ok-id.id c.in_ok-id.deadline first c.first.ensures.found over)

@@ -1,0 +1,10 @@
+use Rattle.std.proofs.Common.{◌∷◌, ap, ◌∙◌}
+use Rattle.resolver_request.proofs.Layouts.{response_lies}
+use Rattle.resolver_request.proofs.wire.reading.Body.of.Goals as goal
+
+pub returns-in_ok-front_of-in-1-clause-lies : goal.returns-in_ok-front_of-in-1-clause-lies
+returns-in_ok-front_of-in-1-clause-lies g c =
+    let tagged = c.in-Some.ensures.cases.0 ∙ ap (λ tag. tag ∷ c.in-Some.rest.now) c.in-1.is in
+    let len = c.in_ok-value-in-1.ensures in
+    let there = c.in_ok-front_of-in-1.ensures in
+    response_lies _ _ _ _ _ _ _ _ tagged len.length len.after there.front there.taken.1 there.after.0

@@ -1,0 +1,13 @@
+pub mod Spelling
+pub mod Reading
+pub mod Layout
+pub mod Times
+pub mod Scores
+pub mod Bounded
+pub mod ScoreLaws
+pub mod Choice
+pub mod ChoiceLaws
+pub mod Left
+pub mod Selections
+pub mod Requests
+pub mod Ids

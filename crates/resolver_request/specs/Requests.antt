@@ -1,0 +1,70 @@
+-- Requests that were sent and have no answer so far, by their ids.
+use Rattle.std.specs.Prelude.{◌≡◌, ℕ, Bool, nat_le, option_map, List, [], ◌∷◌, Option, None, Some, option_and_then, if◌then◌else◌}
+use Rattle.std.specs.Ordering.{nat_cmp, is_eq, is_lt, ordering_then}
+use Rattle.std.specs.declared.cmp.Ordering.{Ordering}
+use Rattle.std.specs.BTreeMap.{insert_entry, is_at}
+use Rattle.std.specs.Map.{keys_of, lookup, remove_entry}
+use Rattle.std.specs.List.Sorted.{IsStrictlySortedBy}
+use Rattle.resolver_base.specs.Priorities.{listed, priorities_of}
+use Rattle.resolver_request.specs.declared.requests.request.Request.{Request}
+
+module _ {K P : Type 0} where
+  -- the earlier deadline, then the smaller id
+  abbrev pub is_sooner : ℕ × Request K P → ℕ × Request K P → Bool
+  is_sooner q r = is_lt (ordering_then (nat_cmp q.1.deadline r.1.deadline) (nat_cmp q.0 r.0))
+
+  abbrev pub sooner : ℕ × Request K P → Option (ℕ × Request K P) → ℕ × Request K P
+  sooner r None = r
+  sooner r (Some q) = if is_sooner q r then q else r
+
+  abbrev pub soonest : List (ℕ × Request K P) → Option (ℕ × Request K P)
+  soonest [] = None
+  soonest (r ∷ rs) = Some (sooner r (soonest rs))
+
+  abbrev pub if_overdue : (now : ℕ) → ℕ × Request K P → Option (ℕ × Request K P)
+  if_overdue now r = if nat_le r.1.deadline now then Some r else None
+
+  -- the soonest, if its time is over
+  abbrev pub overdue : List (ℕ × Request K P) → (now : ℕ) → Option (ℕ × Request K P)
+  overdue asked now = option_and_then (if_overdue now) (soonest asked)
+
+  abbrev pub request_of : List (ℕ × Request K P) → (id : ℕ) → Option (Request K P)
+  request_of asked id = lookup (is_at (nat_cmp id)) asked
+
+  abbrev pub without_request : (id : ℕ) → List (ℕ × Request K P) → List (ℕ × Request K P)
+  without_request id asked = remove_entry (is_at (nat_cmp id)) asked
+
+module _ {K P : Type 0} (by_peer : P → P → Ordering) where
+  abbrev pub if_of : P → Request K P → Option (Request K P)
+  if_of peer r = if is_eq (by_peer peer r.peer) then Some r else None
+
+  -- the request that a message of this peer under this id answers
+  abbrev pub matching : List (ℕ × Request K P) → (id : ℕ) → P → Option (Request K P)
+  matching asked id peer = option_and_then (if_of peer) (request_of asked id)
+
+module _ {K P : Type 0} where
+  abbrev pub taken_soonest : List (ℕ × Request K P) → Option (ℕ × Request K P) → Option (Request K P) × List (ℕ × Request K P)
+  taken_soonest asked None = (None, asked)
+  taken_soonest asked (Some r) = (Some r.1, without_request r.0 asked)
+
+  -- the request whose time is over is taken out
+  abbrev pub taken_overdue : List (ℕ × Request K P) → (now : ℕ) → Option (Request K P) × List (ℕ × Request K P)
+  taken_overdue asked now = taken_soonest asked (overdue asked now)
+
+  abbrev pub taken_if : List (ℕ × Request K P) → (id : ℕ) → Option (Request K P) → Option (Request K P) × List (ℕ × Request K P)
+  taken_if asked id None = (None, asked)
+  taken_if asked id (Some r) = (Some r, without_request id asked)
+
+  -- the request that a message answers is taken out
+  abbrev pub taken_matching : (P → P → Ordering) → List (ℕ × Request K P) → (id : ℕ) → P → Option (Request K P) × List (ℕ × Request K P)
+  taken_matching by_peer asked id peer = taken_if asked id (matching by_peer asked id peer)
+
+-- The ids are kept by their deadlines too: each id of a request, and no other, with the deadline of its request.
+pub record AreTimed {K P : Type 0} (asked : List (ℕ × Request K P)) (deadlines : List (ℕ × ℕ)) : Type 0 where
+  pub ids : IsStrictlySortedBy nat_cmp (keys_of asked)
+  pub same : (id : ℕ) → priorities_of nat_cmp deadlines id ≡ listed (option_map (λ r. r.deadline) (request_of asked id))
+
+-- some requests in the order of their ids
+abbrev pub by_id : {K P : Type 0} → List (ℕ × Request K P) → List (ℕ × Request K P)
+by_id [] = []
+by_id (r ∷ rs) = insert_entry nat_cmp (by_id rs) r.0 r.1

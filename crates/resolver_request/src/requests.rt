@@ -1,0 +1,175 @@
+//! The requests without an answer, by their ids and by when their time is over.
+
+pub mod request;
+
+ghost use Rattle.std.specs.Prelude.{◌≡◌, ◌≤◌, ℕ, Bool, None, Some, [], filter, is_some, length, IfErr, IfNone, IfOk, IfSome, OnErr, OnOk};
+ghost use Rattle.std.specs.BTreeMap.{insert_entry};
+ghost use Rattle.std.specs.Fn.{FnReturnsAt};
+ghost use Rattle.std.specs.Option.{option_copied, option_map};
+ghost use Rattle.std.specs.Ordering.{nat_cmp};
+ghost use Rattle.resolver_base.specs.Answering.{AnswersBy};
+ghost use Rattle.resolver_base.specs.declared.base.fault.Fault.TheVariants.{OutOfMemory};
+ghost use Rattle.resolver_request.specs.declared.requests.request.Request.{Request};
+ghost use Rattle.resolver_request.specs.Ids.{next_id};
+ghost use Rattle.resolver_request.specs.Requests.{request_of, soonest, taken_matching, taken_overdue, without_request};
+
+pub use request::{ID, Request};
+use resolver_base::base::{Fault, PrioritySet};
+use std::alloc::Global;
+use std::collections::BTreeMap;
+use std::marker::Model;
+
+/// The requests without an answer, by their ids. Contracts see them as a list in that order.
+///
+/// A call on one request takes time logarithmic in their number.
+#[derive(Debug, Drop)]
+pub struct Requests<K, P> {
+    by_id: BTreeMap<ID, Request<K, P>>,
+    /// The same ids, by their deadlines.
+    deadlines: PrioritySet<ID, u128>,
+}
+
+impl<K, P> Model for Requests<K, P> {
+    ghost use Rattle.std.specs.Prelude.{List, ℕ};
+    ghost use Rattle.resolver_request.specs.declared.requests.request.Request.{Request};
+    ghost use Rattle.resolver_request.specs.Requests.{AreTimed};
+
+    ghost Value = { List (ℕ × Request K P) };
+
+    ghost view = { λ a. a.by_id.entries };
+
+    ghost invariant = { λ a. AreTimed a.by_id.entries a.deadlines };
+}
+
+impl<K: Drop, P: Drop> Requests<K, P> {
+    /// No requests.
+    pub fn new(alloc: Global) -> Self
+        ensures { result ≡ [] }
+    {
+        Requests {
+            by_id: BTreeMap::new(alloc),
+            deadlines: PrioritySet::new(alloc),
+        }
+    }
+
+    /// How many requests there are.
+    pub fn len(&self) -> usize
+        ensures { result ≡ length self.now }
+    {
+        self.by_id.len()
+    }
+
+    /// The request of this id, if it has no answer.
+    pub fn get(&self, id: ID) -> Option<&Request<K, P>>
+        ensures { option_copied result ≡ request_of self.now id }
+    {
+        self.by_id.get(&id)
+    }
+
+    /// Puts a request at its place. Where memory is wanting, nothing changes.
+    pub fn insert(&mut self, id: ID, request: Request<K, P>) -> Result<(), Fault>
+        ensures ok { OnOk result (self.new ≡ insert_entry nat_cmp self.old id request) }
+        ensures err { OnErr result (self.new ≡ self.old) }
+        ensures only { IfErr result (λ fault. fault ≡ OutOfMemory) }
+    {
+        self.deadlines.put(id, request.deadline)?;
+        if let Err(_refused) = self.by_id.insert(id, request) {
+            self.deadlines.remove(&id);
+            return Err(Fault::OutOfMemory);
+        }
+        Ok(())
+    }
+
+    /// Takes out the request of this id, if it is there.
+    pub fn remove(&mut self, id: ID) -> Option<Request<K, P>>
+        ensures value { result ≡ request_of self.old id }
+        ensures after { self.new ≡ without_request id self.old }
+    {
+        self.deadlines.remove(&id);
+        self.by_id.remove(&id)
+    }
+
+    /// Lets the requests go whose keys aren't kept. `keep` is pure.
+    pub fn retain<F: Fn(&K) -> bool>(&mut self, keep: F)
+        requires { F.IsAlwaysCallable keep }
+        ensures { (test : K → Bool) → AnswersBy F.Fn keep test
+            → self.new ≡ filter (λ r. test r.1.key) self.old }
+    {
+        self.by_id.retain(
+            |_, request| -> bool
+                requires { F.IsAlwaysCallable keep }
+                ensures answer { FnReturnsAt F.Fn keep request.old.key result }
+                ensures same { request.new ≡ request.old }
+            { keeps(&keep, &request.key) },
+        );
+        let by_id = &self.by_id;
+        self.deadlines.retain(|id| by_id.contains_key(id));
+    }
+
+    /// The moment at which the time of a request is over next, if there is a request.
+    pub fn deadline(&self) -> Option<u128>
+        ensures { result ≡ option_map (λ r. r.1.deadline) (soonest self.now) }
+    {
+        let (_, deadline) = self.first()?;
+        Some(deadline)
+    }
+
+    /// Takes out the request whose time is over first, if it is over now.
+    pub fn take_overdue(&mut self, now: u128) -> Option<Request<K, P>>
+        ensures { (result, self.new) ≡ taken_overdue self.old now }
+    {
+        let (id, deadline) = self.first()?;
+        if deadline <= now {
+            self.remove(id)
+        } else {
+            None
+        }
+    }
+
+    /// The id that follows the last one, past those that a request has. It takes a look-up more
+    /// for each id that it passes.
+    pub fn next_id(&self, last: ID) -> ID
+        ensures { result ≡ next_id self.now last }
+    {
+        let mut id = last;
+        for _tried in 0..self.by_id.len() {
+            id = id.wrapping_add(1);
+            if !self.by_id.contains_key(&id) {
+                return id;
+            }
+        }
+        id.wrapping_add(1)
+    }
+
+    /// The request whose time is over first, and when.
+    fn first(&self) -> Option<(ID, u128)>
+        ensures value { result ≡ option_map (λ r. (r.0, r.1.deadline)) (soonest self.now) }
+        ensures found { (r : ℕ × Request K P) → soonest self.now ≡ Some r
+            → request_of self.now r.0 ≡ Some r.1 }
+    {
+        let (deadline, id) = self.deadlines.iter().next()?;
+        Some((*id, *deadline))
+    }
+}
+
+impl<K: Drop, P: Ord + Drop> Requests<K, P> {
+    /// Takes out the request of this id, if it went to this peer.
+    pub fn take_matching(&mut self, id: ID, peer: &P) -> Option<Request<K, P>>
+        ensures { (result, self.new) ≡ taken_matching P.cmp self.old id peer.now }
+    {
+        let request = self.by_id.get(&id)?;
+        if peer.cmp(&request.peer).is_eq() {
+            self.remove(id)
+        } else {
+            None
+        }
+    }
+}
+
+/// What a test answers of a key.
+fn keeps<K, F: Fn(&K) -> bool>(keep: &F, key: &K) -> bool
+    requires { F.IsAlwaysCallable keep.now }
+    ensures { FnReturnsAt F.Fn keep.now key.now result }
+{
+    keep(key)
+}

@@ -1,0 +1,96 @@
+//! What indexes and selections choose.
+
+use resolver_base::base::Fault;
+use resolver_request::sampling::{Selection, WeightedIndex, is_weighted};
+use std::process::Abort;
+use std::test::Fail;
+
+/// Compares an index's weights.
+fn has_weights(rt: &impl Abort, index: &WeightedIndex, weights: &[u64]) {
+    assert_eq!(rt; index.count(), weights.len());
+    for (place, weight) in weights.iter().enumerate() {
+        assert!(rt; place < index.count());
+        assert_eq!(rt; index.weight(place), *weight, "at {place}");
+    }
+}
+
+/// Begins draws without replacement.
+fn begun(index: WeightedIndex) -> Result<Selection, Fault> {
+    Ok(index.without_replacement()?)
+}
+
+#[test]
+fn index_choices(rt: HostRuntime) -> Result<(), Fail> {
+    let index = WeightedIndex::new(rt.alloc(), &[3, 0, 2])?;
+    assert_eq!(rt; index.total(), 5);
+    for (number, place) in [(0, 0), (1, 0), (2, 0), (3, 2), (4, 2)] {
+        assert!(rt; number < index.total());
+        assert_eq!(rt; index.pick(number), place, "at {number}");
+    }
+    let mut selection = begun(index)?;
+    assert!(rt; selection.left_total() > 0);
+    assert_eq!(rt; selection.take_weighted(0), 0);
+    assert_eq!(rt; selection.left_total(), 2);
+    assert_eq!(rt; selection.left_count(), 1);
+    has_weights(&rt, &selection.end(), &[3, 0, 2]);
+    Ok(())
+}
+
+#[test]
+fn takes_all_places(rt: HostRuntime) -> Result<(), Fail> {
+    let mut index = WeightedIndex::new(rt.alloc(), &[1, 1, 1, 1])?;
+    assert_eq!(rt; index.count(), 4);
+    index.set(1, 0);
+    index.update(&[(0, 7), (2, 2), (0, 3), (3, 5)]);
+    has_weights(&rt, &index, &[3, 0, 2, 5]);
+    let mut selection = begun(index)?;
+    assert!(rt; selection.left_count() > 1);
+    assert_eq!(rt; selection.take_uniform(1), 2);
+    assert_eq!(rt; selection.left_total(), 8);
+    assert!(rt; selection.left_total() > 3);
+    assert_eq!(rt; selection.take_weighted(3), 3);
+    assert!(rt; !selection.is_empty());
+    assert!(rt; selection.left_count() > 0);
+    assert_eq!(rt; selection.take_uniform(0), 0);
+    assert!(rt; selection.is_empty());
+    assert_eq!(rt; selection.left_total(), 0);
+    has_weights(&rt, &selection.end(), &[3, 0, 2, 5]);
+    Ok(())
+}
+
+#[test]
+fn nothing_to_choose(rt: HostRuntime) -> Result<(), Fail> {
+    let none: [u64; 0] = [];
+    let zeros = [0, 0, 0];
+    for weights in [none.as_slice(), zeros.as_slice()] {
+        let index = WeightedIndex::new(rt.alloc(), weights)?;
+        assert_eq!(rt; index.total(), 0);
+        let selection = begun(index)?;
+        assert!(rt; selection.is_empty());
+        assert_eq!(rt; selection.left_count(), 0);
+        assert_eq!(rt; selection.left_total(), 0);
+        has_weights(&rt, &selection.end(), weights);
+    }
+    Ok(())
+}
+
+#[test]
+fn widest_weights(rt: HostRuntime) -> Result<(), Fail> {
+    let index = WeightedIndex::new(rt.alloc(), &[u64::MAX; 3])?;
+    assert_eq!(rt; index.total(), 55_340_232_221_128_654_845);
+    for (number, place) in [
+        (18_446_744_073_709_551_614, 0),
+        (36_893_488_147_419_103_230, 2),
+    ] {
+        assert!(rt; number < index.total());
+        assert_eq!(rt; index.pick(number), place, "at {number}");
+    }
+    Ok(())
+}
+
+#[test]
+fn four_numbers_mean_weighted(rt: HostRuntime) {
+    for (number, weighted) in [(0, true), (3, true), (4, false), (u128::MAX, false)] {
+        assert_eq!(rt; is_weighted(number), weighted, "at {number}");
+    }
+}

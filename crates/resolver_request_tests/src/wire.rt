@@ -1,0 +1,191 @@
+//! Messages of the wire against their bytes.
+
+ghost use Rattle.resolver_request.specs.Spelling.{IsShort};
+
+use crate::keys::{Key, Zeros};
+use bytes::{Bytes, BytesMut};
+use resolver_base::base::Fault;
+use resolver_request::wire::{Message, Payload, max_message_size};
+use std::alloc::Global;
+use std::process::Abort;
+use std::test::Fail;
+
+const REQUEST_BYTES: [u8; 10] = [0, 0, 0, 0, 0, 0, 0x04, 0xd2, 0, 0x7b];
+
+const ERROR_BYTES: [u8; 9] = [0, 0, 0, 0, 0, 0, 0, 0xff, 2];
+
+const RESPONSE_BYTES: [u8; 23] = *b"\0\0\0\0\0\0\x10\xe1\x01\x0dHello, world!";
+
+#[test]
+fn wire_vectors(rt: HostRuntime) -> Result<(), Fail> {
+    let alloc = rt.alloc();
+    let payload = Payload::Request(Key { value: 123 });
+    spelled(&rt, alloc, &Message { id: 1234, payload }, &REQUEST_BYTES)?;
+    let payload = Payload::Error;
+    spelled(&rt, alloc, &Message { id: 255, payload }, &ERROR_BYTES)?;
+    let payload = Payload::Response(Bytes::from_static(b"Hello, world!"));
+    spelled(&rt, alloc, &Message { id: 4321, payload }, &RESPONSE_BYTES)?;
+
+    let cases: [(&[u8], Fault); 4] = [
+        (b"\0\0\0\0\0\0\x04\xd2\0", Fault::EndOfBuffer),
+        (b"\0\0\0\0\0\0\x04\xd2\x03", Fault::InvalidTag),
+        (b"\0\0\0\0\0\0\x04\xd2\x01\x80\0", Fault::InvalidVarint),
+        (b"\0\0\0\0\0\0\0\xff\x02\0", Fault::ExtraData),
+    ];
+    for (bytes, fault) in cases {
+        decodes(&rt, alloc, bytes, Some(fault))?;
+    }
+
+    assert_eq!(rt; max_message_size::<Key>(0), 14);
+    assert_eq!(rt; max_message_size::<Key>(100), 114);
+    assert_eq!(rt; max_message_size::<Zeros>(0), 73);
+    Ok(())
+}
+
+/// The message is written as these bytes and read from them, alone and with a byte behind them.
+fn spelled(rt: &impl Abort, alloc: Global, message: &Message<Key>, bytes: &[u8]) -> Result<(), Fail>
+    requires { IsShort message.now.payload }
+{
+    let mut out = BytesMut::new(alloc);
+    message.write(&mut out)?;
+    assert_eq!(rt; out.as_slice(), bytes);
+    assert_eq!(rt; message.encode_size(), bytes.len());
+    assert_eq!(rt;
+        Message::decode(Bytes::copy_from_slice(alloc, bytes)?)?,
+        message.clone()?
+    );
+
+    out.extend_from_slice(&[7])?;
+    let mut buffer = out.freeze()?;
+    assert_eq!(rt; Message::read(&mut buffer)?, message.clone()?);
+    assert_eq!(rt; buffer.as_slice(), [7].as_slice());
+    Ok(())
+}
+
+/// The bytes are refused so, or spell a message which is written as they are.
+fn decodes(rt: &impl Abort, alloc: Global, bytes: &[u8], fault: Option<Fault>) -> Result<(), Fail> {
+    match Message::<Key>::decode(Bytes::copy_from_slice(alloc, bytes)?) {
+        Err(refusal) => assert_eq!(rt; Some(refusal), fault, "at {bytes:?}"),
+        Ok(message) => {
+            assert_eq!(rt; None, fault, "at {bytes:?}");
+            let mut out = BytesMut::new(alloc);
+            message.write(&mut out)?;
+            assert_eq!(rt; out.as_slice(), bytes);
+        }
+    }
+    Ok(())
+}
+
+/// At this place, a byte from the first to the last of these is refused so.
+type Change = (usize, u8, u8, Fault);
+
+/// Each beginning has too few bytes. Each change of one byte is refused as the first of these that
+/// names it says, or is read, where none does.
+fn altered(rt: &impl Abort, alloc: Global, bytes: &[u8], changes: &[Change]) -> Result<(), Fail> {
+    for place in 0..bytes.len() {
+        decodes(rt, alloc, &bytes[..place], Some(Fault::EndOfBuffer))?;
+        for value in 0..=u8::MAX {
+            let mut changed = Vec::from_slice(alloc, bytes)?;
+            changed[place] = value;
+            let change = changes.iter().find(|change| change.0 == place
+                && change.1 <= value
+                && value <= change.2);
+            decodes(rt, alloc, &changed, change.map(|change| change.3))?;
+        }
+    }
+    Ok(())
+}
+
+#[test]
+fn messages_cut_short_or_changed(rt: HostRuntime) -> Result<(), Fail> {
+    // A byte of a key is read as the length of a value that isn't there.
+    let request = [
+        (8, 1, 1, Fault::EndOfBuffer),
+        (8, 2, 2, Fault::ExtraData),
+        (8, 3, 255, Fault::InvalidTag),
+    ];
+    let error = [
+        (8, 0, 1, Fault::EndOfBuffer),
+        (8, 3, 255, Fault::InvalidTag),
+    ];
+    // From 128 on the length goes on with an H, and is far more than there is.
+    let response = [
+        (8, 0, 0, Fault::ExtraData),
+        (8, 2, 2, Fault::ExtraData),
+        (8, 3, 255, Fault::InvalidTag),
+        (9, 0, 12, Fault::ExtraData),
+        (9, 14, 255, Fault::EndOfBuffer),
+    ];
+    altered(&rt, rt.alloc(), &REQUEST_BYTES, &request)?;
+    altered(&rt, rt.alloc(), &ERROR_BYTES, &error)?;
+    altered(&rt, rt.alloc(), &RESPONSE_BYTES, &response)
+}
+
+#[test]
+fn responses_of_zeros(rt: HostRuntime) -> Result<(), Fail> {
+    let alloc = rt.alloc();
+    let cases: [(u16, usize, usize, usize, &[u8]); 5] = [
+        (0, 10, 10, 1, b"\0"),
+        (127, 137, 10, 2, b"\x7f"),
+        (128, 139, 11, 2, b"\x80\x01"),
+        (16383, 16394, 11, 2, b"\xff\x7f"),
+        (16384, 16396, 12, 2, b"\x80\x80\x01"),
+    ];
+    for (len, size, inline_size, count, length) in cases {
+        let value = BytesMut::zeroed(alloc, usize::from(len))?.freeze()?;
+        let payload = Payload::<Key>::Response(value);
+        let message = Message { id: 0, payload };
+        assert_eq!(rt; message.encode_size(), size);
+        assert_eq!(rt; message.encode_inline_size(), inline_size);
+        let pieces = message.write_bufs(alloc)?;
+        assert_eq!(rt; pieces.len(), count);
+
+        let mut out = BytesMut::new(alloc);
+        message.write(&mut out)?;
+        assert_eq!(rt; out.len(), size);
+        assert!(rt; out.as_slice().starts_with(b"\0\0\0\0\0\0\0\0\x01"));
+        assert!(rt; out.as_slice().get(9..inline_size) == Some(length));
+        assert_eq!(rt; Message::decode(out.freeze()?)?, Clone::clone(&message)?);
+    }
+    Ok(())
+}
+
+#[test]
+fn lengths_misspelled(rt: HostRuntime) -> Result<(), Fail> {
+    let cases: [(&[u8], Fault); 6] = [
+        (b"", Fault::EndOfBuffer),
+        (b"\x80", Fault::EndOfBuffer),
+        (b"\x8d\0", Fault::InvalidVarint),
+        (b"\xff\xff\xff\xff\x0f", Fault::EndOfBuffer),
+        (b"\xff\xff\xff\xff\x10", Fault::InvalidVarint),
+        (b"\x80\x80\x80\x80\0", Fault::InvalidVarint),
+    ];
+    for (length, fault) in cases {
+        let mut bytes = BytesMut::copy_from_slice(rt.alloc(), b"\0\0\0\0\0\0\0\0\x01")?;
+        bytes.extend_from_slice(length)?;
+        decodes(&rt, rt.alloc(), &bytes, Some(fault))?;
+    }
+    Ok(())
+}
+
+#[test]
+fn keys_refused(rt: HostRuntime) -> Result<(), Fail> {
+    let mut bytes = BytesMut::zeroed(rt.alloc(), 73)?.freeze()?;
+    let request = Message {
+        id: 0,
+        payload: Payload::Request(Zeros),
+    };
+    assert_eq!(rt; Message::decode(bytes.clone()?)?, request);
+    bytes.truncate(72);
+    assert_eq!(rt;
+        Message::<Zeros>::decode(bytes).err(),
+        Some(Fault::EndOfBuffer)
+    );
+
+    let mut bytes = BytesMut::zeroed(rt.alloc(), 72)?;
+    bytes.extend_from_slice(&[1])?;
+    let mut bytes = bytes.freeze()?;
+    assert_eq!(rt; Message::<Zeros>::read(&mut bytes).err(), Some(Fault::Key));
+    assert_eq!(rt; bytes.len(), 73);
+    Ok(())
+}
