@@ -28,7 +28,7 @@ use Rattle.resolver.proofs.Mapped.{insert_entry-seen}
 use Rattle.resolver.proofs.Joined.{same_found, rows-found, rows-none, keys-rows, rows-set_demand, rows-set_keys, rows-inserted, head_key, tail_keys}
 use Rattle.resolver.proofs.Agrees.{cached-at, cached-changed, keys-changed, called_off-emptied, kept-emptied, agree-demand, agree-keys, agree-inserted}
 use Rattle.std.proofs.lemmas.Map.{keys-set_value}
-use Rattle.resolver.proofs.Joined.{removed-inserted}
+use Rattle.resolver_fetch.proofs.Entries.{removed-inserted}
 use Rattle.resolver.proofs.Deliveries.{Each-find}
 use Rattle.resolver.proofs.Rows.{each_found}
 

@@ -10,15 +10,11 @@ use Rattle.std.specs.List.Sorted.{IsStrictlySortedBy}
 use Rattle.std.specs.Map.{keys_of, lookup, lookup_key}
 use Rattle.std.specs.Ordering.{is_eq, ordering_reverse}
 use Rattle.std.specs.declared.cmp.Ordering.{Ordering}
-use Rattle.std.specs.declared.cmp.Ordering.TheVariants.{Less, Equal, Greater}
+use Rattle.std.specs.declared.cmp.Ordering.TheVariants.{Less, Equal}
 use Rattle.resolver_fetch.specs.Orders.{is_one_of}
 use Rattle.resolver_fetch.specs.Known.{Known, askable_at, eligible, may_be_asked}
 use Rattle.resolver_request.specs.declared.score.Averages.{Averages}
-
-equal-is : (r : Ordering) → is_eq r ≡ true → r ≡ Equal
-equal-is Less is = absurd cc
-equal-is Equal is = refl
-equal-is Greater is = absurd cc
+use Rattle.resolver_fetch.proofs.Tried.{equal-is}
 
 module _ {X : Type 0} (test other : X → Bool) where
   same-filter : ((x : X) → test x ≡ other x) → (xs : List X) → filter test xs ≡ filter other xs

@@ -1,7 +1,6 @@
 -- Entries that a test doesn't find.
-use Rattle.std.proofs.Common.{◌≡◌, refl, ap, sym, ◌∙◌, Bool, List, [], ◌∷◌, None, Some, cond, arith}
+use Rattle.std.proofs.Common.{◌≡◌, refl, ap, sym, ◌∙◌, Bool, true, List, [], ◌∷◌, None, Some, cond, arith}
 use Rattle.std.proofs.lemmas.Grind.{common_steps}
-use Rattle.std.proofs.lemmas.Cmp.{tied_itself}
 use Rattle.std.proofs.lemmas.Map.{lookup-none}
 use Rattle.std.proofs.lemmas.Map.Entries.{none_below_head}
 use Rattle.std.proofs.lemmas.Map.Keys.{sorted_tail}
@@ -36,13 +35,14 @@ module _ {K X : Type 0} where
         at Greater is found rest = ap (λ (tail : List (K × X)). e ∷ tail) (rest found)
 
   -- what was put in as a new key, taken out again
-  pub removed-inserted : {cmp : K → K → Ordering} → IsTotalOrder cmp → (k : K) (v : X) (es : List (K × X)) → lookup (is_at (cmp k)) es ≡ None
+  pub removed-inserted : (cmp : K → K → Ordering) (k : K) (es : List (K × X)) (v : X) → is_eq (cmp k k) ≡ true → lookup (is_at (cmp k)) es ≡ None
       → remove_entry (is_at (cmp k)) (insert_entry cmp es k v) ≡ es
-  removed-inserted {cmp} total k v [] none = rw (tied_itself total k) refl
-  removed-inserted {cmp} total k v (e ∷ es) none = at (cmp k e.0) refl none (removed-inserted total k v es) where
-    at : (o : Ordering) → cmp k e.0 ≡ o → cond (is_eq o) (Some e.1) (lookup (is_at (cmp k)) es) ≡ None
-        → (lookup (is_at (cmp k)) es ≡ None → remove_entry (is_at (cmp k)) (insert_entry cmp es k v) ≡ es)
-        → remove_entry (is_at (cmp k)) (match_ordering o ((k, v) ∷ e ∷ es) ((e.0, v) ∷ es) (e ∷ insert_entry cmp es k v)) ≡ e ∷ es
-    at Less is none rest = rw (tied_itself total k) refl
-    at Equal is none rest = cc
-    at Greater is none rest = rw (is, rest none) refl
+  removed-inserted cmp k [] v reflects none = rw reflects refl
+  removed-inserted cmp k (e ∷ es) v reflects none = at (cmp k e.0) refl none (λ later. removed-inserted cmp k es v reflects later)
+    where
+      at : (o : Ordering) → cmp k e.0 ≡ o → cond (is_eq o) (Some e.1) (lookup (is_at (cmp k)) es) ≡ None
+          → (lookup (is_at (cmp k)) es ≡ None → remove_entry (is_at (cmp k)) (insert_entry cmp es k v) ≡ es)
+          → remove_entry (is_at (cmp k)) (match_ordering o ((k, v) ∷ e ∷ es) ((e.0, v) ∷ es) (e ∷ insert_entry cmp es k v)) ≡ e ∷ es
+      at Less is none rest = rw reflects refl
+      at Equal is none rest = cc
+      at Greater is none rest = rw (is, rest none) refl

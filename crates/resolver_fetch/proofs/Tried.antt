@@ -31,7 +31,7 @@ module _ {K P : Type 0} (by_key : K → K → Ordering) (t : Try K P) (key : K) 
     at false = refl
   tried-more (u ∷ trail) = let rest = tried-more trail in grind (arith, common_steps, rest)
 
-equal-is : (r : Ordering) → is_eq r ≡ true → r ≡ Equal
+pub equal-is : (r : Ordering) → is_eq r ≡ true → r ≡ Equal
 equal-is Less is = absurd cc
 equal-is Equal is = refl
 equal-is Greater is = absurd cc

@@ -115,10 +115,3 @@ impl<P: Ord + Drop> Targets<P> {
         })
     }
 }
-
-/// Whether this peer is one of these.
-pub(super) fn is_listed<P: Ord>(listed: &[P], peer: &P) -> bool
-    ensures { result ≡ is_one_of P.cmp listed.now peer.now }
-{
-    listed.iter().any(|other| peer.cmp(other).is_eq())
-}

@@ -7,12 +7,11 @@ ghost use Rattle.std.specs.Option.{option_map_or};
 ghost use Rattle.std.specs.Ordering.{is_eq};
 ghost use Rattle.resolver_base.specs.declared.base.fault.Fault.TheVariants.{OutOfMemory};
 ghost use Rattle.resolver_fetch.specs.declared.fetcher.trail.Try.{Try};
-ghost use Rattle.resolver_fetch.specs.Orders.{orders};
+ghost use Rattle.resolver_fetch.specs.Orders.{is_one_of, orders};
 ghost use Rattle.resolver_fetch.specs.Scan.{least, least_until, limit_of, trail_moment, was_tried};
 ghost use Rattle.resolver_fetch.specs.Tried.{noted};
 
 use crate::fetcher::ID;
-use crate::fetcher::targets::is_listed;
 use resolver_base::base::Fault;
 use std::alloc::{AllocError, Global};
 use std::collections::BTreeMap;
@@ -222,4 +221,11 @@ pub(super) fn least(moment: Option<u128>, later: Option<u128>) -> Option<u128>
         },
         None => later,
     }
+}
+
+/// Whether this peer is one of these.
+fn is_listed<P: Ord>(listed: &[P], peer: &P) -> bool
+    ensures { result ≡ is_one_of P.cmp listed.now peer.now }
+{
+    listed.iter().any(|other| peer.cmp(other).is_eq())
 }

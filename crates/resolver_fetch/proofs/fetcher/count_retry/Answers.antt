@@ -1,4 +1,6 @@
 use Rattle.std.proofs.Common.{◌≡◌, ◌∙◌, ap, sym, None, Some, rules}
+use Rattle.std.proofs.lemmas.Cmp.{tied_itself}
+use Rattle.std.specs.Ordering.{is_eq}
 use Rattle.std.specs.Map.{lookup, set_value}
 use Rattle.std.specs.BTreeMap.{is_at}
 use Rattle.std.proofs.lemmas.Map.Steps.{set_value_same}
@@ -27,4 +29,4 @@ returns-in-Some-clause-counted g c =
 pub returns-in-Err-clause-as_before : goal.returns-in-Err-clause-as_before
 returns-in-Err-clause-as_before g c =
     let none : lookup (is_at (g.K.Ord.cmp c.args.key)) c.args.retries.now.entries ≡ None = search rules in
-    search (rules, none, removed-inserted g.met.K.Ord.total c.args.key 1 c.args.retries.now.entries none)
+    search (rules, none, removed-inserted g.K.Ord.cmp c.args.key c.args.retries.now.entries 1 (ap is_eq (tied_itself g.met.K.Ord.total c.args.key)) none)
