@@ -1,14 +1,120 @@
 //! Keys that wait, scans, and what becomes of requests.
+//!
+//! A test is a table of calls, and of what is seen at each. One loop goes through it, so that what
+//! a fetcher is comes up in few proofs.
 
 ghost use Rattle.std.specs.Prelude.{◌<◌, ◌^◌};
 ghost use Rattle.resolver_fetch.specs.Fetcher.{IsTimely};
 
 use resolver_base::base::{Check, Fault, NonEmptyVec};
-use resolver_fetch::fetcher::{Answer, Ask, Config, Fetcher};
+use resolver_fetch::fetcher::Answer::{self, Checked, Drawn, Sent};
+use resolver_fetch::fetcher::{Ask, Config, Fetcher, ID};
 use resolver_request::score::DURATION_MAX;
 use std::alloc::Global;
 use std::process::Abort;
 use std::test::Fail;
+
+/// A call. A moment is `at`, or stands alone.
+#[derive(Clone, Copy)]
+enum Call<'a> {
+    /// These peers come in place of the latest set.
+    Peers(&'a [u8]),
+    /// A key waits from now on.
+    Ready {
+        key: u8,
+        at: u64,
+    },
+    /// A key waits to be tried again.
+    Retry {
+        key: u8,
+        at: u64,
+    },
+    /// A key may be asked of these peers too, and of no others.
+    Targets(u8, &'a [u8]),
+    /// So many responses of peer 4 come, each after this time and with these bytes.
+    Record {
+        count: u8,
+        elapsed: u128,
+        bytes: u64,
+    },
+    /// A scan begins.
+    Begin(u64),
+    /// The scan is answered.
+    Answer(Answer),
+    /// A response of this peer comes under the id 5.
+    Response {
+        peer: u8,
+        at: u64,
+    },
+    /// Peer 4 says under the id 5 that the data is missing.
+    Missing(u64),
+    /// When may a scan do something?
+    WakeUp,
+    /// When is the time of a request over?
+    Deadline,
+    /// What does a peer weigh?
+    Weight(u8),
+    /// May a key be asked of some peers only?
+    HasTargets(u8),
+    /// Does key 1 wait, how many requests are there, and is a scan open?
+    Counts,
+}
+
+/// What is seen at a call.
+#[derive(Clone, Copy, Debug, PartialEq, Eq)]
+enum Seen {
+    /// It was done.
+    Done,
+    /// The scan asks for a number below this one.
+    Draw(u128),
+    /// The scan asks whether this peer may be sent to now.
+    Check(u8),
+    /// The scan asks that a request is sent.
+    Request {
+        peer: u8,
+        id: ID,
+        key: u8,
+        priority: bool,
+    },
+    /// The scan is over.
+    Over,
+    /// The answer was refused.
+    Refused(Fault),
+    /// A moment.
+    At(Option<u128>),
+    /// A weight.
+    Weight(Option<u64>),
+    /// The key of a request that was taken out.
+    Popped(Option<u8>),
+    /// The key of a request that was answered, and how long it took.
+    Answered(Option<(u8, u128)>),
+    /// Whether it is so.
+    Is(bool),
+    /// What is told of key 1, the requests and the scan.
+    Counts(bool, usize, bool),
+}
+
+/// What a scan asks.
+fn asked(ask: Option<Ask<u8, u8>>) -> Seen {
+    match ask {
+        None => Seen::Over,
+        Some(Ask::Draw(bound)) => Seen::Draw(bound),
+        Some(Ask::Check(peer)) => Seen::Check(peer),
+        Some(
+            Ask::Request {
+                peer,
+                id,
+                key,
+                priority,
+            },
+        ) => Seen::Request {
+            peer,
+            id,
+            key,
+            priority,
+        },
+    }
+}
 
 /// How requests are made here: there is no local name.
 fn config() -> Config<u8>
@@ -31,335 +137,379 @@ fn peers_of(alloc: Global, names: &[u8]) -> Result<Vec<u8>, Fault> {
     Ok(peers)
 }
 
+// What a test does and sees goes through calls that promise nothing, so that their callers are
+// proved without what a fetcher is.
+
+type Node = Fetcher<u8, u8>;
+
 /// Takes these peers in place of the latest set.
-fn set_peers(alloc: Global, fetcher: &mut Fetcher<u8, u8>, names: &[u8]) -> Result<(), Fault> {
+fn set_peers(alloc: Global, fetcher: &mut Node, names: &[u8]) -> Result<(), Fault> {
     fetcher.reconcile(peers_of(alloc, names)?)
 }
 
-/// Takes one peer in place of the latest set.
-fn set_peer(alloc: Global, fetcher: &mut Fetcher<u8, u8>, peer: u8) -> Result<(), Fault> {
-    set_peers(alloc, fetcher, &[peer])
-}
-
-// What a test does and sees goes through calls that promise nothing, so that a test is proved
-// without what a fetcher is.
-
 /// A key waits from now on.
-fn add_ready(fetcher: &mut Fetcher<u8, u8>, key: u8, now: u128) -> Result<(), Fault>
-    requires { now < 2 ^ 94 }
-{
-    fetcher.add_ready(key, now)
+fn add_ready(fetcher: &mut Node, key: u8, at: u64) -> Result<(), Fault> {
+    fetcher.add_ready(key, u128::from(at))
 }
 
 /// A key waits to be tried again.
-fn add_retry(fetcher: &mut Fetcher<u8, u8>, key: u8, now: u128) -> Result<(), Fault>
-    requires { now < 2 ^ 94 }
-{
-    fetcher.add_retry(key, now)
+fn add_retry(fetcher: &mut Node, key: u8, at: u64) -> Result<(), Fault> {
+    fetcher.add_retry(key, u128::from(at))
 }
 
 /// A key may be asked of these peers too, and of no others.
-fn add_targets(
-    alloc: Global,
-    fetcher: &mut Fetcher<u8, u8>,
-    key: u8,
-    names: &[u8],
-) -> Result<(), Fault> {
+fn add_targets(alloc: Global, fetcher: &mut Node, key: u8, names: &[u8]) -> Result<(), Fault> {
     let Ok(targets) = NonEmptyVec::try_from(peers_of(alloc, names)?) else {
         return Ok(());
     };
     fetcher.add_targets(key, targets)
 }
 
-/// When a scan may do something.
-fn wake_up(fetcher: &Fetcher<u8, u8>) -> Option<u128> {
-    fetcher.get_pending_deadline()
+/// Takes in so many responses of peer 4.
+fn recorded(fetcher: &mut Node, count: u8, elapsed: u128, bytes: u64) -> Seen {
+    for _ in 0..count {
+        fetcher.record_response(&4, elapsed, bytes);
+    }
+    Seen::Done
 }
 
-/// The weight of a peer.
-fn weight(fetcher: &Fetcher<u8, u8>, peer: u8) -> Option<u64> {
-    fetcher.weight(&peer)
+/// Begins a scan.
+fn begun(fetcher: &mut Node, at: u64) -> Result<Option<Ask<u8, u8>>, Fault> {
+    fetcher.scan_begin(u128::from(at))
 }
 
-/// Takes in a response of peer 4.
-fn record(fetcher: &mut Fetcher<u8, u8>, elapsed: u128, bytes: u64) {
-    fetcher.record_response(&4, elapsed, bytes);
+/// Gives an answer.
+fn answered(fetcher: &mut Node, answer: Answer) -> Result<Option<Ask<u8, u8>>, Fault> {
+    fetcher.scan_answer(answer)
+}
+
+/// A response of this peer under the id 5.
+fn pop_response(fetcher: &mut Node, peer: u8, at: u64) -> Option<(u8, u128)> {
+    fetcher.pop_response(5, &peer, u128::from(at))
+}
+
+/// Word of peer 4 under the id 5 that the data is missing.
+fn pop_missing(fetcher: &mut Node, at: u64) -> Option<u8> {
+    fetcher.pop_missing(5, &4, u128::from(at))
 }
 
 /// The key whose time is over first, if it is over now.
-fn pop_active(fetcher: &mut Fetcher<u8, u8>, now: u128) -> Option<u8>
+fn pop_active(fetcher: &mut Node, now: u128) -> Option<u8>
     requires { now < 2 ^ 94 }
 {
     fetcher.pop_active(now)
 }
 
-/// No key is wanted, and no peer is known.
-fn opened(alloc: Global) -> Fetcher<u8, u8> {
-    Fetcher::new(alloc, config())
+/// When a scan may do something.
+fn wake_up(fetcher: &Node) -> Option<u128> {
+    fetcher.get_pending_deadline()
 }
 
 /// When the time of a request is over.
-fn deadline(fetcher: &Fetcher<u8, u8>) -> Option<u128> {
+fn deadline(fetcher: &Node) -> Option<u128> {
     fetcher.get_active_deadline()
 }
 
+/// The weight of a peer.
+fn weight(fetcher: &Node, peer: u8) -> Option<u64> {
+    fetcher.weight(&peer)
+}
+
+/// Whether a key may be asked of some peers only.
+fn has_targets(fetcher: &Node, key: u8) -> bool {
+    fetcher.has_targets(&key)
+}
+
 /// Whether key 1 waits, how many requests there are, and whether a scan is open.
-fn stands(fetcher: &Fetcher<u8, u8>) -> (bool, usize, bool) {
-    (
+fn counts(fetcher: &Node) -> Seen {
+    Seen::Counts(
         fetcher.is_waiting(&1),
         fetcher.len_active(),
         fetcher.is_scanning(),
     )
 }
 
-/// A response of this peer under the id 5.
-fn pop_response(fetcher: &mut Fetcher<u8, u8>, peer: u8, now: u128) -> Option<(u8, u128)>
-    requires { now < 2 ^ 94 }
-{
-    fetcher.pop_response(5, &peer, now)
+/// What is seen of a change.
+fn changed(change: Result<(), Fault>) -> Result<Seen, Fault> {
+    change?;
+    Ok(Seen::Done)
 }
 
-/// Word of peer 4 under the id 5 that the data is missing.
-fn pop_missing(fetcher: &mut Fetcher<u8, u8>, now: u128) -> Option<u8>
-    requires { now < 2 ^ 94 }
-{
-    fetcher.pop_missing(5, &4, now)
+/// What is seen of a step of a scan.
+fn stepped(step: Result<Option<Ask<u8, u8>>, Fault>) -> Result<Seen, Fault> {
+    match step {
+        Ok(ask) => Ok(asked(ask)),
+        Err(Fault::OutOfMemory) => Err(Fault::OutOfMemory),
+        Err(fault) => Ok(Seen::Refused(fault)),
+    }
 }
 
-/// Gives an answer.
-fn answered(fetcher: &mut Fetcher<u8, u8>, answer: Answer) -> Result<Option<Ask<u8, u8>>, Fault> {
-    fetcher.scan_answer(answer)
+/// Makes a call, and tells what is seen.
+fn made(alloc: Global, fetcher: &mut Node, call: Call) -> Result<Seen, Fault> {
+    match call {
+        Call::Peers(names) => changed(set_peers(alloc, fetcher, names)),
+        Call::Ready { key, at } => changed(add_ready(fetcher, key, at)),
+        Call::Retry { key, at } => changed(add_retry(fetcher, key, at)),
+        Call::Targets(key, names) => changed(add_targets(alloc, fetcher, key, names)),
+        Call::Record {
+            count,
+            elapsed,
+            bytes,
+        } => Ok(recorded(fetcher, count, elapsed, bytes)),
+        Call::Begin(at) => stepped(begun(fetcher, at)),
+        Call::Answer(answer) => stepped(answered(fetcher, answer)),
+        Call::Response { peer, at } => Ok(Seen::Answered(pop_response(fetcher, peer, at))),
+        Call::Missing(at) => Ok(Seen::Popped(pop_missing(fetcher, at))),
+        Call::WakeUp => Ok(Seen::At(wake_up(fetcher))),
+        Call::Deadline => Ok(Seen::At(deadline(fetcher))),
+        Call::Weight(peer) => Ok(Seen::Weight(weight(fetcher, peer))),
+        Call::HasTargets(key) => Ok(Seen::Is(has_targets(fetcher, key))),
+        Call::Counts => Ok(counts(fetcher)),
+    }
 }
 
-/// Begins a scan, and looks at what it asks.
-fn begins(
+/// Makes calls, and compares what is seen at each.
+fn goes_on(
     rt: &impl Abort,
-    fetcher: &mut Fetcher<u8, u8>,
-    now: u128,
-    asked: Option<Ask<u8, u8>>,
-) -> Result<(), Fault>
-    requires { now < 2 ^ 94 }
-{
-    assert_eq!(rt; fetcher.scan_begin(now)?, asked);
-    Ok(())
-}
-
-/// Gives an answer, and looks at what is asked then.
-fn answers(
-    rt: &impl Abort,
-    fetcher: &mut Fetcher<u8, u8>,
-    answer: Answer,
-    asked: Option<Ask<u8, u8>>,
+    alloc: Global,
+    fetcher: &mut Node,
+    calls: &[(Call, Seen)],
 ) -> Result<(), Fault> {
-    assert_eq!(rt; fetcher.scan_answer(answer)?, asked);
+    for (place, (call, seen)) in calls.iter().enumerate() {
+        assert_eq!(rt; made(alloc, fetcher, *call)?, *seen, "at place {place}");
+    }
     Ok(())
 }
 
-/// Asks peer 4, which has this weight, for key 1 under the id 5.
+/// Makes calls of a new fetcher, and compares what is seen at each.
+fn goes(rt: &impl Abort, alloc: Global, calls: &[(Call, Seen)]) -> Result<(), Fault> {
+    let mut fetcher = Fetcher::new(alloc, config());
+    goes_on(rt, alloc, &mut fetcher, calls)
+}
+
+/// Has peer 4, which has this weight, asked for key 1 under the id 5.
 fn asks_peer(
     rt: &impl Abort,
-    fetcher: &mut Fetcher<u8, u8>,
-    now: u128,
+    alloc: Global,
+    fetcher: &mut Node,
+    at: u64,
     weight: u128,
-) -> Result<(), Fault>
-    requires { now < 2 ^ 94 }
-{
-    begins(rt, fetcher, now, Some(Ask::Draw(4)))?;
-    answers(rt, fetcher, Answer::Drawn(0), Some(Ask::Draw(weight)))?;
-    answers(rt, fetcher, Answer::Drawn(0), Some(Ask::Check(4)))?;
-    let first_id = Some(Ask::Draw(1 << 64));
-    answers(rt, fetcher, Answer::Checked(Check::Clear), first_id)?;
-    let request = Ask::Request {
+) -> Result<(), Fault> {
+    let request = Seen::Request {
         peer: 4,
         id: 5,
         key: 1,
         priority: false,
     };
-    answers(rt, fetcher, Answer::Drawn(5), Some(request))?;
-    answers(rt, fetcher, Answer::Sent(true), None)
+    let calls = [
+        (Call::Ready { key: 1, at }, Seen::Done),
+        (Call::Begin(at), Seen::Draw(4)),
+        (Call::Answer(Drawn(0)), Seen::Draw(weight)),
+        (Call::Answer(Drawn(0)), Seen::Check(4)),
+        (Call::Answer(Checked(Check::Clear)), Seen::Draw(1 << 64)),
+        (Call::Answer(Drawn(5)), request),
+        (Call::Answer(Sent(true)), Seen::Over),
+    ];
+    goes_on(rt, alloc, fetcher, &calls)
 }
 
-/// Asks peer 4 for key 1 under the id 5, at 30.
-fn asks_first(rt: &impl Abort, alloc: Global) -> Result<Fetcher<u8, u8>, Fault> {
-    let mut fetcher = opened(alloc);
-    set_peer(alloc, &mut fetcher, 4)?;
-    add_ready(&mut fetcher, 1, 30)?;
-    asks_peer(rt, &mut fetcher, 30, 1)?;
-    Ok(fetcher)
+/// Has peer 4 asked for key 1 under the id 5, at 30, and then makes calls.
+fn asks_first(rt: &impl Abort, alloc: Global, calls: &[(Call, Seen)]) -> Result<(), Fault> {
+    let mut fetcher = Fetcher::new(alloc, config());
+    set_peers(alloc, &mut fetcher, &[4])?;
+    asks_peer(rt, alloc, &mut fetcher, 30, 1)?;
+    goes_on(rt, alloc, &mut fetcher, calls)
 }
 
 #[test]
 fn fetcher_first_request(rt: HostRuntime) -> Result<(), Fail> {
-    let mut fetcher = asks_first(&rt, rt.alloc())?;
-    assert_eq!(rt; deadline(&fetcher), Some(80));
-    assert_eq!(rt; pop_response(&mut fetcher, 3, 40), None);
-    assert_eq!(rt; pop_response(&mut fetcher, 4, 20), Some((1, 0)));
+    let calls = [
+        (Call::Deadline, Seen::At(Some(80))),
+        (Call::Response { peer: 3, at: 40 }, Seen::Answered(None)),
+        (
+            Call::Response { peer: 4, at: 20 },
+            Seen::Answered(Some((1, 0))),
+        ),
+    ];
+    asks_first(&rt, rt.alloc(), &calls)?;
     Ok(())
 }
 
 #[test]
 fn fetcher_missing(rt: HostRuntime) -> Result<(), Fail> {
-    let mut fetcher = asks_first(&rt, rt.alloc())?;
-    assert_eq!(rt; pop_missing(&mut fetcher, 50), Some(1));
-    assert_eq!(rt; stands(&fetcher), (false, 0, false));
-    assert_eq!(rt; weight(&fetcher, 4), Some(1));
+    let calls = [
+        (Call::Missing(50), Seen::Popped(Some(1))),
+        (Call::Counts, Seen::Counts(false, 0, false)),
+        (Call::Weight(4), Seen::Weight(Some(1))),
+    ];
+    asks_first(&rt, rt.alloc(), &calls)?;
     Ok(())
 }
 
 #[test]
 fn fetcher_retry(rt: HostRuntime) -> Result<(), Fail> {
-    let mut fetcher = asks_first(&rt, rt.alloc())?;
-    assert_eq!(rt; pop_missing(&mut fetcher, 50), Some(1));
-    assert_eq!(rt; stands(&fetcher), (false, 0, false));
-    add_retry(&mut fetcher, 1, 50)?;
-    assert_eq!(rt; wake_up(&fetcher), Some(60));
-    begins(&rt, &mut fetcher, 60, Some(Ask::Draw(5)))?;
-    assert_eq!(rt; stands(&fetcher), (true, 0, true));
+    let calls = [
+        (Call::Missing(50), Seen::Popped(Some(1))),
+        (Call::Counts, Seen::Counts(false, 0, false)),
+        (Call::Retry { key: 1, at: 50 }, Seen::Done),
+        (Call::WakeUp, Seen::At(Some(60))),
+        (Call::Begin(60), Seen::Draw(5)),
+        (Call::Counts, Seen::Counts(true, 0, true)),
+    ];
+    asks_first(&rt, rt.alloc(), &calls)?;
     Ok(())
 }
 
 #[test]
 fn fetcher_wake_up(rt: HostRuntime) -> Result<(), Fail> {
-    let mut fetcher = opened(rt.alloc());
-    add_ready(&mut fetcher, 1, 5)?;
-    assert_eq!(rt; wake_up(&fetcher), Some(5));
-    begins(&rt, &mut fetcher, 5, None)?;
-    assert_eq!(rt; wake_up(&fetcher), Some(u128::MAX));
-    set_peer(rt.alloc(), &mut fetcher, 4)?;
-    assert_eq!(rt; wake_up(&fetcher), Some(5));
+    let calls = [
+        (Call::Ready { key: 1, at: 5 }, Seen::Done),
+        (Call::WakeUp, Seen::At(Some(5))),
+        (Call::Begin(5), Seen::Over),
+        (Call::WakeUp, Seen::At(Some(u128::MAX))),
+        (Call::Peers(&[4]), Seen::Done),
+        (Call::WakeUp, Seen::At(Some(5))),
+    ];
+    goes(&rt, rt.alloc(), &calls)?;
     Ok(())
 }
 
 #[test]
 fn limits_and_refusals(rt: HostRuntime) -> Result<(), Fail> {
-    let mut fetcher = opened(rt.alloc());
-    set_peer(rt.alloc(), &mut fetcher, 4)?;
-    add_ready(&mut fetcher, 1, 5)?;
-    begins(&rt, &mut fetcher, 5, Some(Ask::Draw(4)))?;
-    assert_eq!(rt;
-        answered(&mut fetcher, Answer::Sent(true)),
-        Err(Fault::Unasked)
-    );
-    assert_eq!(rt;
-        answered(&mut fetcher, Answer::Drawn(4)),
-        Err(Fault::OutOfRange)
-    );
-    answers(&rt, &mut fetcher, Answer::Drawn(0), Some(Ask::Draw(1)))?;
-    answers(&rt, &mut fetcher, Answer::Drawn(0), Some(Ask::Check(4)))?;
-    answers(&rt, &mut fetcher, Answer::Checked(Check::Until(9)), None)?;
-    assert_eq!(rt; wake_up(&fetcher), Some(9));
-    assert_eq!(rt; stands(&fetcher), (true, 0, false));
-    assert_eq!(rt;
-        answered(&mut fetcher, Answer::Drawn(0)),
-        Err(Fault::Unasked)
-    );
+    let calls = [
+        (Call::Peers(&[4]), Seen::Done),
+        (Call::Ready { key: 1, at: 5 }, Seen::Done),
+        (Call::Begin(5), Seen::Draw(4)),
+        (Call::Answer(Sent(true)), Seen::Refused(Fault::Unasked)),
+        (Call::Answer(Drawn(4)), Seen::Refused(Fault::OutOfRange)),
+        (Call::Answer(Drawn(0)), Seen::Draw(1)),
+        (Call::Answer(Drawn(0)), Seen::Check(4)),
+        (Call::Answer(Checked(Check::Until(9))), Seen::Over),
+        (Call::WakeUp, Seen::At(Some(9))),
+        (Call::Counts, Seen::Counts(true, 0, false)),
+        (Call::Answer(Drawn(0)), Seen::Refused(Fault::Unasked)),
+    ];
+    goes(&rt, rt.alloc(), &calls)?;
     Ok(())
-}
-
-/// Is told to wait, and asks.
-fn told(fetcher: &mut Fetcher<u8, u8>, until: u128) -> Result<Option<Ask<u8, u8>>, Fault> {
-    answered(fetcher, Answer::Checked(Check::Until(until)))
-}
-
-/// Draws a peer by weight among some, each of weight 1, and is told to wait.
-fn waits_for(
-    rt: &impl Abort,
-    fetcher: &mut Fetcher<u8, u8>,
-    draw: (u128, u128),
-    peer: u8,
-    until: u128,
-) -> Result<Option<Ask<u8, u8>>, Fault> {
-    answers(rt, fetcher, Answer::Drawn(0), Some(Ask::Draw(draw.0)))?;
-    answers(rt, fetcher, Answer::Drawn(draw.1), Some(Ask::Check(peer)))?;
-    told(fetcher, until)
 }
 
 #[test]
 fn targets_out_of_order(rt: HostRuntime) -> Result<(), Fail> {
-    let mut fetcher = opened(rt.alloc());
-    set_peers(rt.alloc(), &mut fetcher, &[5, 1, 3, 2])?;
-    add_ready(&mut fetcher, 1, 5)?;
-    add_targets(rt.alloc(), &mut fetcher, 1, &[5, 2, 9])?;
-    add_targets(rt.alloc(), &mut fetcher, 1, &[3, 2])?;
-    assert!(rt; fetcher.has_targets(&1));
-    begins(&rt, &mut fetcher, 5, Some(Ask::Draw(4)))?;
-    assert_eq!(rt;
-        waits_for(&rt, &mut fetcher, (3, 0), 2, 9)?,
-        Some(Ask::Draw(4))
-    );
-    assert_eq!(rt;
-        waits_for(&rt, &mut fetcher, (2, 1), 5, 8)?,
-        Some(Ask::Draw(4))
-    );
-    assert_eq!(rt; waits_for(&rt, &mut fetcher, (1, 0), 3, 20)?, None);
-    assert_eq!(rt; wake_up(&fetcher), Some(8));
+    let calls = [
+        (Call::Peers(&[5, 1, 3, 2]), Seen::Done),
+        (Call::Ready { key: 1, at: 5 }, Seen::Done),
+        (Call::Targets(1, &[5, 2, 9]), Seen::Done),
+        (Call::Targets(1, &[3, 2]), Seen::Done),
+        (Call::HasTargets(1), Seen::Is(true)),
+        (Call::Begin(5), Seen::Draw(4)),
+        (Call::Answer(Drawn(0)), Seen::Draw(3)),
+        (Call::Answer(Drawn(0)), Seen::Check(2)),
+        (Call::Answer(Checked(Check::Until(9))), Seen::Draw(4)),
+        (Call::Answer(Drawn(0)), Seen::Draw(2)),
+        (Call::Answer(Drawn(1)), Seen::Check(5)),
+        (Call::Answer(Checked(Check::Until(8))), Seen::Draw(4)),
+        (Call::Answer(Drawn(0)), Seen::Draw(1)),
+        (Call::Answer(Drawn(0)), Seen::Check(3)),
+        (Call::Answer(Checked(Check::Until(20))), Seen::Over),
+        (Call::WakeUp, Seen::At(Some(8))),
+    ];
+    goes(&rt, rt.alloc(), &calls)?;
     Ok(())
 }
 
 #[test]
 fn fetcher_two_kinds(rt: HostRuntime) -> Result<(), Fail> {
-    let mut fetcher = opened(rt.alloc());
-    set_peer(rt.alloc(), &mut fetcher, 4)?;
-    add_retry(&mut fetcher, 2, 0)?;
-    assert_eq!(rt; wake_up(&fetcher), Some(10));
-    add_ready(&mut fetcher, 1, 15)?;
-    assert_eq!(rt; wake_up(&fetcher), Some(15));
-    begins(&rt, &mut fetcher, 15, Some(Ask::Draw(4)))?;
-    assert_eq!(rt;
-        waits_for(&rt, &mut fetcher, (1, 0), 4, 19)?,
-        Some(Ask::Draw(5))
-    );
-    assert_eq!(rt; waits_for(&rt, &mut fetcher, (1, 0), 4, 18)?, None);
-    assert_eq!(rt; wake_up(&fetcher), Some(18));
+    let calls = [
+        (Call::Peers(&[4]), Seen::Done),
+        (Call::Retry { key: 2, at: 0 }, Seen::Done),
+        (Call::WakeUp, Seen::At(Some(10))),
+        (Call::Ready { key: 1, at: 15 }, Seen::Done),
+        (Call::WakeUp, Seen::At(Some(15))),
+        (Call::Begin(15), Seen::Draw(4)),
+        (Call::Answer(Drawn(0)), Seen::Draw(1)),
+        (Call::Answer(Drawn(0)), Seen::Check(4)),
+        (Call::Answer(Checked(Check::Until(19))), Seen::Draw(5)),
+        (Call::Answer(Drawn(0)), Seen::Draw(1)),
+        (Call::Answer(Drawn(0)), Seen::Check(4)),
+        (Call::Answer(Checked(Check::Until(18))), Seen::Over),
+        (Call::WakeUp, Seen::At(Some(18))),
+    ];
+    goes(&rt, rt.alloc(), &calls)?;
     Ok(())
 }
 
 #[test]
 fn next_due_of_both_kinds(rt: HostRuntime) -> Result<(), Fail> {
-    let mut fetcher = opened(rt.alloc());
-    add_ready(&mut fetcher, 3, 5)?;
-    add_ready(&mut fetcher, 1, 100)?;
-    begins(&rt, &mut fetcher, 5, None)?;
-    assert_eq!(rt; wake_up(&fetcher), Some(100));
-    add_retry(&mut fetcher, 2, 50)?;
-    begins(&rt, &mut fetcher, 5, None)?;
-    assert_eq!(rt; wake_up(&fetcher), Some(60));
-    begins(&rt, &mut fetcher, 60, None)?;
-    assert_eq!(rt; wake_up(&fetcher), Some(100));
-    begins(&rt, &mut fetcher, 100, None)?;
-    assert_eq!(rt; wake_up(&fetcher), Some(u128::MAX));
+    let calls = [
+        (Call::Ready { key: 3, at: 5 }, Seen::Done),
+        (Call::Ready { key: 1, at: 100 }, Seen::Done),
+        (Call::Begin(5), Seen::Over),
+        (Call::WakeUp, Seen::At(Some(100))),
+        (Call::Retry { key: 2, at: 50 }, Seen::Done),
+        (Call::Begin(5), Seen::Over),
+        (Call::WakeUp, Seen::At(Some(60))),
+        (Call::Begin(60), Seen::Over),
+        (Call::WakeUp, Seen::At(Some(100))),
+        (Call::Begin(100), Seen::Over),
+        (Call::WakeUp, Seen::At(Some(u128::MAX))),
+    ];
+    goes(&rt, rt.alloc(), &calls)?;
     Ok(())
+}
+
+/// The weight of peer 4.
+fn weighs(weight: u64) -> (Call<'static>, Seen) {
+    (Call::Weight(4), Seen::Weight(Some(weight)))
+}
+
+/// So many responses without bytes that took no time.
+fn idle(count: u8) -> (Call<'static>, Seen) {
+    let call = Call::Record {
+        count,
+        elapsed: 0,
+        bytes: 0,
+    };
+    (call, Seen::Done)
 }
 
 #[test]
 fn thirty_two_responses(rt: HostRuntime) -> Result<(), Fail> {
-    let mut fetcher = Fetcher::<u8, u8>::new(rt.alloc(), config());
-    set_peer(rt.alloc(), &mut fetcher, 4)?;
-    record(&mut fetcher, 1, u64::MAX);
-    assert_eq!(rt; weight(&fetcher, 4), Some(u64::MAX));
-    for _ in 0..31 {
-        record(&mut fetcher, 0, 0);
-    }
-    assert_eq!(rt; weight(&fetcher, 4), Some(8_589_934_592_000_000_000));
-    record(&mut fetcher, 0, 0);
-    assert_eq!(rt; weight(&fetcher, 4), Some(4_294_967_296_000_000_000));
-    assert_eq!(rt; weight(&fetcher, 3), None);
+    let fastest = Call::Record {
+        count: 1,
+        elapsed: 1,
+        bytes: u64::MAX,
+    };
+    let calls = [
+        (Call::Peers(&[4]), Seen::Done),
+        (fastest, Seen::Done),
+        weighs(u64::MAX),
+        idle(31),
+        weighs(8_589_934_592_000_000_000),
+        idle(1),
+        weighs(4_294_967_296_000_000_000),
+        (Call::Weight(3), Seen::Weight(None)),
+    ];
+    goes(&rt, rt.alloc(), &calls)?;
     Ok(())
 }
 
-#[test]
-fn charged_the_longest_time(rt: HostRuntime) -> Result<(), Fail> {
-    let longest = Config {
+/// A request takes the longest time, and so does a wait before a retry.
+fn longest(alloc: Global) -> Node {
+    let config = Config {
         me: None,
         fetch_timeout: DURATION_MAX,
         retry_delay: DURATION_MAX,
         priority_requests: false,
     };
-    let mut fetcher = Fetcher::<u8, u8>::new(rt.alloc(), longest);
-    set_peer(rt.alloc(), &mut fetcher, 4)?;
-    record(&mut fetcher, 1, u64::MAX);
-    add_ready(&mut fetcher, 1, 0)?;
-    asks_peer(&rt, &mut fetcher, 0, u128::from(u64::MAX))?;
+    Fetcher::new(alloc, config)
+}
+
+#[test]
+fn charged_the_longest_time(rt: HostRuntime) -> Result<(), Fail> {
+    let mut fetcher = longest(rt.alloc());
+    set_peers(rt.alloc(), &mut fetcher, &[4])?;
+    recorded(&mut fetcher, 1, 1, u64::MAX);
+    asks_peer(&rt, rt.alloc(), &mut fetcher, 0, u128::from(u64::MAX))?;
     assert_eq!(rt; pop_active(&mut fetcher, DURATION_MAX - 1), None);
     assert_eq!(rt; weight(&fetcher, 4), Some(u64::MAX));
     assert_eq!(rt; pop_active(&mut fetcher, DURATION_MAX), Some(1));
@@ -367,56 +517,63 @@ fn charged_the_longest_time(rt: HostRuntime) -> Result<(), Fail> {
     Ok(())
 }
 
-/// A key of many waits from 10 on.
-fn waits(fetcher: &mut Fetcher<u16, u8>, key: u16) -> Result<(), Fault> {
-    fetcher.add_ready(key, 10)
+// Fetchers of many keys.
+
+type Many = Fetcher<u16, u8>;
+
+/// Key after key waits from 10 on.
+fn waits_each(fetcher: &mut Many, count: u16) -> Result<(), Fault> {
+    for key in 0..count {
+        fetcher.add_ready(key, 10)?;
+    }
+    Ok(())
 }
 
 /// Begins a scan of many keys.
-fn begins_many(fetcher: &mut Fetcher<u16, u8>) -> Result<Option<Ask<u16, u8>>, Fault> {
+fn begins_many(fetcher: &mut Many) -> Result<Option<Ask<u16, u8>>, Fault> {
     fetcher.scan_begin(10)
 }
 
 /// Gives an answer to a scan of many keys.
-fn answered_many(
-    fetcher: &mut Fetcher<u16, u8>,
-    answer: Answer,
-) -> Result<Option<Ask<u16, u8>>, Fault> {
+fn answered_many(fetcher: &mut Many, answer: Answer) -> Result<Option<Ask<u16, u8>>, Fault> {
     fetcher.scan_answer(answer)
 }
 
 /// The only peer of a key is drawn, and may not be sent to before 100.
-fn limits(fetcher: &mut Fetcher<u16, u8>) -> Result<Option<Ask<u16, u8>>, Fault> {
-    answered_many(fetcher, Answer::Drawn(0))?;
-    answered_many(fetcher, Answer::Drawn(0))?;
-    answered_many(fetcher, Answer::Checked(Check::Until(100)))
+fn limits(fetcher: &mut Many) -> Result<Option<Ask<u16, u8>>, Fault> {
+    answered_many(fetcher, Drawn(0))?;
+    answered_many(fetcher, Drawn(0))?;
+    answered_many(fetcher, Checked(Check::Until(100)))
 }
 
-/// Many keys of one peer, none of which is wanted so far.
-fn many(alloc: Global) -> Result<Fetcher<u16, u8>, Fault> {
-    let mut fetcher = Fetcher::new(alloc, config());
-    fetcher.reconcile(peers_of(alloc, &[4])?)?;
-    Ok(fetcher)
+/// Begins a scan, which tries so many keys, each once.
+fn limits_each(rt: &impl Abort, fetcher: &mut Many, count: u16) -> Result<(), Fault> {
+    let mut asked = begins_many(fetcher)?;
+    for key in 0..count {
+        assert_eq!(rt; asked, Some(Ask::Draw(4)), "key {key}");
+        asked = limits(fetcher)?;
+    }
+    assert_eq!(rt; asked, None);
+    Ok(())
 }
 
 /// When a scan of many keys may do something.
-fn wake_up_many(fetcher: &Fetcher<u16, u8>) -> Option<u128> {
+fn wake_up_many(fetcher: &Many) -> Option<u128> {
     fetcher.get_pending_deadline()
+}
+
+/// So many keys of one peer wait, and each is tried once.
+fn tries_each(rt: &impl Abort, alloc: Global, count: u16) -> Result<Option<u128>, Fault> {
+    let mut fetcher = Fetcher::new(alloc, config());
+    fetcher.reconcile(peers_of(alloc, &[4])?)?;
+    waits_each(&mut fetcher, count)?;
+    limits_each(rt, &mut fetcher, count)?;
+    Ok(wake_up_many(&fetcher))
 }
 
 // A scan that looked from the first key on after each one would not end in time.
 #[test]
 fn a_scan_goes_over_each_due_key_once(rt: HostRuntime) -> Result<(), Fail> {
-    let mut fetcher = many(rt.alloc())?;
-    for key in 0..20_000 {
-        waits(&mut fetcher, key)?;
-    }
-    let mut asked = begins_many(&mut fetcher)?;
-    for key in 0..20_000 {
-        assert_eq!(rt; asked, Some(Ask::Draw(4)), "key {key}");
-        asked = limits(&mut fetcher)?;
-    }
-    assert_eq!(rt; asked, None);
-    assert_eq!(rt; wake_up_many(&fetcher), Some(100));
+    assert_eq!(rt; tries_each(&rt, rt.alloc(), 20_000)?, Some(100));
     Ok(())
 }

@@ -1,4 +1,7 @@
 //! Scans that are answered by a sender and draws with a script.
+//!
+//! A test is a table of calls, and of what is seen at each. One loop goes through it, so that what
+//! a fetcher is comes up in few proofs.
 
 ghost use Rattle.std.specs.Prelude.{◌<◌, ◌^◌};
 ghost use Rattle.resolver_fetch.specs.Fetcher.{IsTimely};
@@ -78,36 +81,58 @@ impl Draws for Numbers<'_> {
     }
 }
 
-/// Fetches at a moment. The calls are these, and no others.
-fn fetches(
-    rt: &impl Abort,
-    fetcher: &mut Fetcher<Key, Peer>,
-    now: u128,
-    draws: &[(u128, u128)],
-    checks: &[(u8, Check)],
-    sends: &[Sending],
-) -> Result<(), Fault>
-    requires { now < 2 ^ 94 }
-{
-    let mut network = Network {
-        checks,
-        checked: 0,
-        sends,
-        sent: 0,
-        is_right: true,
-    };
-    let mut numbers = Numbers {
-        draws,
-        drawn: 0,
-        is_right: true,
-    };
-    fetcher.fetch(&mut network, &mut numbers, now)?;
-    assert!(rt; network.is_right && numbers.is_right);
-    assert_eq!(rt; network.checked, checks.len());
-    assert_eq!(rt; network.sent, sends.len());
-    assert_eq!(rt; numbers.drawn, draws.len());
-    assert!(rt; !fetcher.is_scanning());
-    Ok(())
+/// What a fetch draws, checks and sends, and what it is given: these calls, and no others.
+#[derive(Clone, Copy)]
+struct Script<'a> {
+    draws: &'a [(u128, u128)],
+    checks: &'a [(u8, Check)],
+    sends: &'a [Sending<'a>],
+}
+
+/// A call. A moment is `at`, or stands alone.
+#[derive(Clone, Copy)]
+enum Call<'a> {
+    /// These peers come in place of the latest set.
+    Peers(&'a [u8]),
+    /// These peers are the ones that are blocked.
+    Blocked(&'a [u8]),
+    /// The key waits from now on.
+    Ready(u64),
+    /// The key waits to be tried again.
+    Retry(u64),
+    /// The key may be asked of this peer alone.
+    Target(u8),
+    /// Scans, and sends what is to be sent.
+    Fetch(u64, Script<'a>),
+    /// How long did the request take that a response of this peer answers?
+    Response { id: ID, peer: u8, at: u64 },
+    /// Does this peer answer a request for the key without data?
+    Missing { id: ID, peer: u8, at: u64 },
+    /// Is the time of a request for the key over?
+    Overdue(u64),
+    /// When may a scan do something, and when is a request over?
+    Deadlines,
+    /// Does the key wait, how many requests are there, and how often was the key put back?
+    Counts,
+    /// What does a peer weigh?
+    Weight(u8),
+}
+
+/// What is seen at a call.
+#[derive(Clone, Copy, Debug, PartialEq, Eq)]
+enum Seen {
+    /// It was done.
+    Done,
+    /// How long a request took.
+    Elapsed(Option<u128>),
+    /// Whether it is so.
+    Is(bool),
+    /// What is told of a scan and of a request.
+    Deadlines(Option<u128>, Option<u128>),
+    /// What is told of the key and of requests.
+    Counts(bool, usize, u32),
+    /// A weight.
+    Weight(Option<u64>),
 }
 
 const KEY: Key = Key { value: 1 };
@@ -115,6 +140,8 @@ const KEY: Key = Key { value: 1 };
 const ACCEPTED: Unreliable = Unreliable::Outcome(Feedback::Ok);
 
 const SLOWLY: Unreliable = Unreliable::Outcome(Feedback::Backoff);
+
+const CLOSED: Unreliable = Unreliable::Outcome(Feedback::Closed);
 
 /// No local name, requests that are over after 50, and retries after 10.
 fn config() -> Config<Peer>
@@ -130,8 +157,8 @@ fn config() -> Config<Peer>
 
 type Node = Fetcher<Key, Peer>;
 
-// What a test does and sees goes through calls that promise nothing, so that a test is proved
-// without what a fetcher is.
+// What a test does and sees goes through calls that promise nothing, so that their callers are
+// proved without what a fetcher is.
 
 /// These peers.
 fn named(alloc: Global, names: &[u8]) -> Result<Vec<Peer>, Fault> {
@@ -153,17 +180,13 @@ fn set_blocked(alloc: Global, fetcher: &mut Node, names: &[u8]) -> Result<(), Fa
 }
 
 /// The key waits from now on.
-fn add_ready(fetcher: &mut Node, now: u128) -> Result<(), Fault>
-    requires { now < 2 ^ 94 }
-{
-    fetcher.add_ready(KEY, now)
+fn add_ready(fetcher: &mut Node, at: u64) -> Result<(), Fault> {
+    fetcher.add_ready(KEY, u128::from(at))
 }
 
 /// The key waits to be tried again.
-fn add_retry(fetcher: &mut Node, now: u128) -> Result<(), Fault>
-    requires { now < 2 ^ 94 }
-{
-    fetcher.add_retry(KEY, now)
+fn add_retry(fetcher: &mut Node, at: u64) -> Result<(), Fault> {
+    fetcher.add_retry(KEY, u128::from(at))
 }
 
 /// The key may be asked of this peer alone.
@@ -171,193 +194,299 @@ fn add_target(alloc: Global, fetcher: &mut Node, name: u8) -> Result<(), Fault> 
     fetcher.add_targets(KEY, NonEmptyVec::new(alloc, Peer(name))?)
 }
 
+/// Fetches. The calls are these, and no others.
+fn fetch(
+    fetcher: &mut Node,
+    network: &mut Network,
+    numbers: &mut Numbers,
+    at: u64,
+) -> Result<(), Fault> {
+    fetcher.fetch(network, numbers, u128::from(at))
+}
+
+/// Fetches, and compares the calls that the fetch makes.
+fn fetches(rt: &impl Abort, fetcher: &mut Node, at: u64, script: Script) -> Result<(), Fault> {
+    let mut network = Network {
+        checks: script.checks,
+        checked: 0,
+        sends: script.sends,
+        sent: 0,
+        is_right: true,
+    };
+    let mut numbers = Numbers {
+        draws: script.draws,
+        drawn: 0,
+        is_right: true,
+    };
+    fetch(fetcher, &mut network, &mut numbers, at)?;
+    assert!(rt; network.is_right && numbers.is_right);
+    assert_eq!(rt; network.checked, script.checks.len());
+    assert_eq!(rt; network.sent, script.sends.len());
+    assert_eq!(rt; numbers.drawn, script.draws.len());
+    assert!(rt; !is_scanning(fetcher));
+    Ok(())
+}
+
+/// Whether a scan is open.
+fn is_scanning(fetcher: &Node) -> bool {
+    fetcher.is_scanning()
+}
+
+/// How long the request took that a response of this peer answers.
+fn pop_response(fetcher: &mut Node, id: ID, peer: u8, at: u64) -> Option<u128> {
+    let (key, elapsed) = fetcher.pop_response(id, &Peer(peer), u128::from(at))?;
+    if key == KEY { Some(elapsed) } else { None }
+}
+
+/// Whether this peer answers a request for the key without data.
+fn pop_missing(fetcher: &mut Node, id: ID, peer: u8, at: u64) -> bool {
+    fetcher.pop_missing(id, &Peer(peer), u128::from(at)) == Some(KEY)
+}
+
+/// Whether the time of a request for the key is over.
+fn pop_active(fetcher: &mut Node, at: u64) -> bool {
+    fetcher.pop_active(u128::from(at)) == Some(KEY)
+}
+
 /// When a scan may do something, and when a request is over.
-fn deadlines(fetcher: &Node) -> (Option<u128>, Option<u128>) {
-    (
+fn deadlines(fetcher: &Node) -> Seen {
+    Seen::Deadlines(
         fetcher.get_pending_deadline(),
         fetcher.get_active_deadline(),
     )
 }
 
 /// Whether the key waits, how many requests there are, and how often the key was put back.
-fn counts(fetcher: &Node) -> (bool, usize, u32) {
-    (
+fn counts(fetcher: &Node) -> Seen {
+    Seen::Counts(
         fetcher.is_waiting(&KEY),
         fetcher.len_active(),
         fetcher.retries(&KEY),
     )
 }
 
-/// How long the request took that a response of this peer answers.
-fn pop_response(fetcher: &mut Node, id: ID, name: u8, now: u128) -> Option<u128>
-    requires { now < 2 ^ 94 }
-{
-    let (key, elapsed) = fetcher.pop_response(id, &Peer(name), now)?;
-    if key == KEY { Some(elapsed) } else { None }
+/// The weight of a peer.
+fn weight(fetcher: &Node, peer: u8) -> Option<u64> {
+    fetcher.weight(&Peer(peer))
 }
 
-/// Whether this peer answers a request for the key without data.
-fn pop_missing(fetcher: &mut Node, id: ID, name: u8, now: u128) -> bool
-    requires { now < 2 ^ 94 }
-{
-    fetcher.pop_missing(id, &Peer(name), now) == Some(KEY)
+/// What is seen of a change.
+fn changed(change: Result<(), Fault>) -> Result<Seen, Fault> {
+    change?;
+    Ok(Seen::Done)
 }
 
-/// Whether the time of a request for the key is over.
-fn pop_active(fetcher: &mut Node, now: u128) -> bool
-    requires { now < 2 ^ 94 }
-{
-    fetcher.pop_active(now) == Some(KEY)
+/// Makes a call, and tells what is seen.
+fn made(rt: &impl Abort, alloc: Global, fetcher: &mut Node, call: Call) -> Result<Seen, Fault> {
+    match call {
+        Call::Peers(names) => changed(set_peers(alloc, fetcher, names)),
+        Call::Blocked(names) => changed(set_blocked(alloc, fetcher, names)),
+        Call::Ready(at) => changed(add_ready(fetcher, at)),
+        Call::Retry(at) => changed(add_retry(fetcher, at)),
+        Call::Target(peer) => changed(add_target(alloc, fetcher, peer)),
+        Call::Fetch(at, script) => changed(fetches(rt, fetcher, at, script)),
+        Call::Response { id, peer, at } => Ok(Seen::Elapsed(pop_response(fetcher, id, peer, at))),
+        Call::Missing { id, peer, at } => Ok(Seen::Is(pop_missing(fetcher, id, peer, at))),
+        Call::Overdue(at) => Ok(Seen::Is(pop_active(fetcher, at))),
+        Call::Deadlines => Ok(deadlines(fetcher)),
+        Call::Counts => Ok(counts(fetcher)),
+        Call::Weight(peer) => Ok(Seen::Weight(weight(fetcher, peer))),
+    }
 }
 
-/// Asks peer 4 for key 1 under the id 5, at 30.
-fn asks_first(rt: &impl Abort, alloc: Global) -> Result<Node, Fault> {
+/// Makes calls, and compares what is seen at each.
+fn goes_on(
+    rt: &impl Abort,
+    alloc: Global,
+    fetcher: &mut Node,
+    calls: &[(Call, Seen)],
+) -> Result<(), Fault> {
+    for (place, (call, seen)) in calls.iter().enumerate() {
+        assert_eq!(rt; made(rt, alloc, fetcher, *call)?, *seen, "at place {place}");
+    }
+    Ok(())
+}
+
+/// Makes calls of a new fetcher, and compares what is seen at each.
+fn goes(rt: &impl Abort, alloc: Global, calls: &[(Call, Seen)]) -> Result<(), Fault> {
     let mut fetcher = Fetcher::new(alloc, config());
-    set_peers(alloc, &mut fetcher, &[4])?;
-    add_ready(&mut fetcher, 30)?;
-    fetches(
-        rt,
-        &mut fetcher,
-        30,
-        &[(4, 0), (1, 0), (1 << 64, 5)],
-        &[(4, Check::Clear)],
-        &[(4, b"\0\0\0\0\0\0\0\x05\0\x01", false, ACCEPTED)],
-    )?;
-    Ok(fetcher)
+    goes_on(rt, alloc, &mut fetcher, calls)
 }
+
+/// Asks peer 4 for key 1 under the id 5.
+const FIRST: Script<'static> = Script {
+    draws: &[(4, 0), (1, 0), (1 << 64, 5)],
+    checks: &[(4, Check::Clear)],
+    sends: &[(4, b"\0\0\0\0\0\0\0\x05\0\x01", false, ACCEPTED)],
+};
+
+/// Neither draws, checks nor sends anything.
+const NOTHING: Script<'static> = Script {
+    draws: &[],
+    checks: &[],
+    sends: &[],
+};
 
 #[test]
 fn fetcher_first_request(rt: HostRuntime) -> Result<(), Fail> {
-    let mut fetcher = asks_first(&rt, rt.alloc())?;
-    assert_eq!(rt; counts(&fetcher), (false, 1, 0));
-    assert_eq!(rt; deadlines(&fetcher), (None, Some(80)));
-    assert_eq!(rt; pop_response(&mut fetcher, 5, 3, 40), None);
-    assert_eq!(rt; pop_response(&mut fetcher, 5, 4, 20), Some(0));
+    let calls = [
+        (Call::Peers(&[4]), Seen::Done),
+        (Call::Ready(30), Seen::Done),
+        (Call::Fetch(30, FIRST), Seen::Done),
+        (Call::Counts, Seen::Counts(false, 1, 0)),
+        (Call::Deadlines, Seen::Deadlines(None, Some(80))),
+        (
+            Call::Response {
+                id: 5,
+                peer: 3,
+                at: 40,
+            },
+            Seen::Elapsed(None),
+        ),
+        (
+            Call::Response {
+                id: 5,
+                peer: 4,
+                at: 20,
+            },
+            Seen::Elapsed(Some(0)),
+        ),
+    ];
+    goes(&rt, rt.alloc(), &calls)?;
     Ok(())
 }
 
 #[test]
 fn fetcher_missing_and_retry(rt: HostRuntime) -> Result<(), Fail> {
-    let mut fetcher = asks_first(&rt, rt.alloc())?;
-    assert!(rt; pop_missing(&mut fetcher, 5, 4, 50));
-    assert_eq!(rt; counts(&fetcher), (false, 0, 0));
-    assert_eq!(rt; fetcher.weight(&Peer(4)), Some(1));
-    add_retry(&mut fetcher, 50)?;
-    assert_eq!(rt; deadlines(&fetcher), (Some(60), None));
     // The next id follows the last.
-    fetches(
-        &rt,
-        &mut fetcher,
-        60,
-        &[(5, 4), (1, 0)],
-        &[(4, Check::Clear)],
-        &[(4, b"\0\0\0\0\0\0\0\x06\0\x01", false, ACCEPTED)],
-    )?;
-    assert_eq!(rt; deadlines(&fetcher), (None, Some(110)));
+    let second = Script {
+        draws: &[(5, 4), (1, 0)],
+        checks: &[(4, Check::Clear)],
+        sends: &[(4, b"\0\0\0\0\0\0\0\x06\0\x01", false, ACCEPTED)],
+    };
+    let calls = [
+        (Call::Peers(&[4]), Seen::Done),
+        (Call::Ready(30), Seen::Done),
+        (Call::Fetch(30, FIRST), Seen::Done),
+        (
+            Call::Missing {
+                id: 5,
+                peer: 4,
+                at: 50,
+            },
+            Seen::Is(true),
+        ),
+        (Call::Counts, Seen::Counts(false, 0, 0)),
+        (Call::Weight(4), Seen::Weight(Some(1))),
+        (Call::Retry(50), Seen::Done),
+        (Call::Deadlines, Seen::Deadlines(Some(60), None)),
+        (Call::Fetch(60, second), Seen::Done),
+        (Call::Deadlines, Seen::Deadlines(None, Some(110))),
+    ];
+    goes(&rt, rt.alloc(), &calls)?;
     Ok(())
 }
 
 #[test]
 fn fetcher_wake_up(rt: HostRuntime) -> Result<(), Fail> {
-    let mut fetcher = Fetcher::new(rt.alloc(), config());
-    add_ready(&mut fetcher, 5)?;
-    assert_eq!(rt; deadlines(&fetcher), (Some(5), None));
-    fetches(&rt, &mut fetcher, 5, &[], &[], &[])?;
-    assert_eq!(rt; deadlines(&fetcher), (Some(u128::MAX), None));
-    set_peers(rt.alloc(), &mut fetcher, &[4])?;
-    assert_eq!(rt; deadlines(&fetcher), (Some(5), None));
+    let calls = [
+        (Call::Ready(5), Seen::Done),
+        (Call::Deadlines, Seen::Deadlines(Some(5), None)),
+        (Call::Fetch(5, NOTHING), Seen::Done),
+        (Call::Deadlines, Seen::Deadlines(Some(u128::MAX), None)),
+        (Call::Peers(&[4]), Seen::Done),
+        (Call::Deadlines, Seen::Deadlines(Some(5), None)),
+    ];
+    goes(&rt, rt.alloc(), &calls)?;
     Ok(())
 }
 
 #[test]
 fn refused_sends(rt: HostRuntime) -> Result<(), Fail> {
-    let mut fetcher = Fetcher::new(rt.alloc(), config());
-    set_peers(rt.alloc(), &mut fetcher, &[3, 4])?;
-    add_ready(&mut fetcher, 0)?;
     let last = b"\xff\xff\xff\xff\xff\xff\xff\xff\0\x01";
     let first = b"\0\0\0\0\0\0\0\0\0\x01";
-    let closed = Unreliable::Outcome(Feedback::Closed);
-    fetches(
-        &rt,
-        &mut fetcher,
-        0,
-        &[
+    let refused = Script {
+        draws: &[
             (4, 0),
             (2, 0),
             (1 << 64, 18446744073709551615),
             (4, 0),
             (1, 0),
         ],
-        &[(3, Check::Clear), (4, Check::Clear)],
-        &[
+        checks: &[(3, Check::Clear), (4, Check::Clear)],
+        sends: &[
             (3, last, false, Unreliable::Rejected),
-            (4, first, false, closed),
+            (4, first, false, CLOSED),
         ],
-    )?;
-    assert_eq!(rt; counts(&fetcher), (true, 0, 0));
-    assert_eq!(rt; deadlines(&fetcher), (Some(10), None));
+    };
+    let calls = [
+        (Call::Peers(&[3, 4]), Seen::Done),
+        (Call::Ready(0), Seen::Done),
+        (Call::Fetch(0, refused), Seen::Done),
+        (Call::Counts, Seen::Counts(true, 0, 0)),
+        (Call::Deadlines, Seen::Deadlines(Some(10), None)),
+    ];
+    goes(&rt, rt.alloc(), &calls)?;
     Ok(())
 }
 
-/// Asks peer 4 with priority for the key under the id 1234, at 0, where peer 9 is the local one,
-/// and nothing is waited for before a retry.
-fn asks_with_priority(rt: &impl Abort, alloc: Global) -> Result<Node, Fault> {
+/// Peer 9 is the local one, requests go before other messages, and nothing is waited for before a
+/// retry.
+fn with_priority(alloc: Global) -> Node {
     let config = Config {
         me: Some(Peer(9)),
         fetch_timeout: 50,
         retry_delay: 0,
         priority_requests: true,
     };
-    let mut fetcher = Fetcher::new(alloc, config);
-    set_peers(alloc, &mut fetcher, &[3, 4])?;
-    add_ready(&mut fetcher, 0)?;
-    fetches(
-        rt,
-        &mut fetcher,
-        0,
-        &[(4, 3), (2, 1), (1 << 64, 1234)],
-        &[(4, Check::Clear)],
-        &[(4, b"\0\0\0\0\0\0\x04\xd2\0\x01", true, SLOWLY)],
-    )?;
-    Ok(fetcher)
+    Fetcher::new(alloc, config)
 }
 
 #[test]
 fn timeout_and_limits(rt: HostRuntime) -> Result<(), Fail> {
-    let mut fetcher = asks_with_priority(&rt, rt.alloc())?;
-    assert!(rt; pop_active(&mut fetcher, 50));
-    add_retry(&mut fetcher, 50)?;
-    fetches(
-        &rt,
-        &mut fetcher,
-        50,
-        &[(5, 4), (2, 0), (5, 0), (1, 0)],
-        &[(3, Check::Until(70)), (4, Check::Until(60))],
-        &[],
-    )?;
-    assert_eq!(rt; counts(&fetcher), (true, 0, 1));
-    assert_eq!(rt; deadlines(&fetcher), (Some(60), None));
+    let first = Script {
+        draws: &[(4, 3), (2, 1), (1 << 64, 1234)],
+        checks: &[(4, Check::Clear)],
+        sends: &[(4, b"\0\0\0\0\0\0\x04\xd2\0\x01", true, SLOWLY)],
+    };
+    let limited = Script {
+        draws: &[(5, 4), (2, 0), (5, 0), (1, 0)],
+        checks: &[(3, Check::Until(70)), (4, Check::Until(60))],
+        sends: &[],
+    };
+    let calls = [
+        (Call::Peers(&[3, 4]), Seen::Done),
+        (Call::Ready(0), Seen::Done),
+        (Call::Fetch(0, first), Seen::Done),
+        (Call::Overdue(50), Seen::Is(true)),
+        (Call::Retry(50), Seen::Done),
+        (Call::Fetch(50, limited), Seen::Done),
+        (Call::Counts, Seen::Counts(true, 0, 1)),
+        (Call::Deadlines, Seen::Deadlines(Some(60), None)),
+    ];
+    let mut fetcher = with_priority(rt.alloc());
+    goes_on(&rt, rt.alloc(), &mut fetcher, &calls)?;
     Ok(())
 }
 
 #[test]
 fn blocked_target(rt: HostRuntime) -> Result<(), Fail> {
-    let mut fetcher = Fetcher::new(rt.alloc(), config());
-    set_peers(rt.alloc(), &mut fetcher, &[3, 4])?;
-    set_blocked(rt.alloc(), &mut fetcher, &[3])?;
-    add_target(rt.alloc(), &mut fetcher, 3)?;
-    add_ready(&mut fetcher, 0)?;
-    fetches(&rt, &mut fetcher, 0, &[], &[], &[])?;
-    assert_eq!(rt; deadlines(&fetcher), (Some(u128::MAX), None));
-    set_blocked(rt.alloc(), &mut fetcher, &[])?;
-    fetches(
-        &rt,
-        &mut fetcher,
-        0,
-        &[(4, 0), (1, 0)],
-        &[(3, Check::Until(20))],
-        &[],
-    )?;
-    assert_eq!(rt; deadlines(&fetcher), (Some(20), None));
+    let limited = Script {
+        draws: &[(4, 0), (1, 0)],
+        checks: &[(3, Check::Until(20))],
+        sends: &[],
+    };
+    let calls = [
+        (Call::Peers(&[3, 4]), Seen::Done),
+        (Call::Blocked(&[3]), Seen::Done),
+        (Call::Target(3), Seen::Done),
+        (Call::Ready(0), Seen::Done),
+        (Call::Fetch(0, NOTHING), Seen::Done),
+        (Call::Deadlines, Seen::Deadlines(Some(u128::MAX), None)),
+        (Call::Blocked(&[]), Seen::Done),
+        (Call::Fetch(0, limited), Seen::Done),
+        (Call::Deadlines, Seen::Deadlines(Some(20), None)),
+    ];
+    goes(&rt, rt.alloc(), &calls)?;
     Ok(())
 }
