@@ -2,11 +2,62 @@ ghost use Rattle.std.specs.Prelude.{not, true, ◌==◌};
 ghost use Rattle.std.proofs.Common.{rules};
 
 use resolver::ingress::{FetchKey, Predicate};
-use resolver::opaque::{Actor, Effect, Event, Input, Phase, Row};
+use resolver::opaque::{Actor, Effect, Event, Input, Phase};
 use resolver_base::base::{Fault, NonEmptyVec, Numbers};
 use resolver_base::root::{Outcome, Resolution};
 use std::alloc::Global;
+use std::process::Abort;
 use std::test::Fail;
+
+// A test is a table of what is done and what is seen of it, which is plain data. The actor is
+// made, used and dropped in few places, so that the tests are proved without what an actor is.
+
+/// A moment, what is done at it, and all that is seen of that.
+type Step<'a> = (u64, Do, &'a [Seen]);
+
+/// What a test does.
+#[derive(Clone, Copy, Debug)]
+enum Do {
+    /// A subscriber, with its trace mark, wants a key.
+    Fetch(u8, (u16, u64)),
+    /// The source answers an attempt.
+    Fetched(u64, Option<u32>),
+    /// The consumer judges the delivery of this number.
+    Verdict(u64, Option<Outcome>),
+    /// Nobody wants this key any more.
+    LetGo(u8),
+    RetriesDue,
+    End,
+    /// No input: the rows are listed, and then the moment of the next retry.
+    Look,
+}
+
+/// What a test sees.
+#[derive(Clone, Copy, PartialEq, Eq, Debug)]
+enum Seen {
+    /// An input was taken, and what follows is its answer.
+    Taken,
+    /// A key is to be asked for, under this attempt.
+    Start(u64, u8),
+    /// An attempt is called off.
+    Abort(u64),
+    /// A value is to be handed out.
+    Deliver {
+        number: u64,
+        response: u64,
+        key: u8,
+        first: (u16, u64),
+        value: u32,
+    },
+    /// A number is called off.
+    Cancel(u64),
+    /// The input was refused.
+    Refused(Fault),
+    /// A demanded key, its first subscriber, and what is being done for it.
+    Row(u8, (u16, u64), Phase),
+    /// The moment of the next retry, after the last row.
+    Due(Option<u128>),
+}
 
 /// Keeps the subscribers of every key but one.
 #[derive(Drop)]
@@ -22,46 +73,121 @@ impl Predicate<u8, u16> for AllBut {
     ghost alike = { λ q k l s t same_key same_subscriber. Prim.search rules };
 }
 
-type Effects = Vec<Effect<u8, u32, u16>>;
-
 type Plain = Actor<u8, u32, u16, AllBut>;
 
-// What a test does and sees goes through calls that promise nothing, so that a test is proved
-// without what an actor is.
+type PlainEvent = Event<u8, u32, u16, AllBut>;
 
-/// Takes one input.
-fn step(actor: &mut Plain, now: u64, event: Event<u8, u32, u16, AllBut>) -> Result<Effects, Fault> {
-    actor.step(at(now, event))
+type PlainEffect = Effect<u8, u32, u16>;
+
+/// That a new actor, which retries after 100, shows what the table says, one step after another.
+fn shows(rt: &impl Abort, alloc: Global, table: &[Step]) -> Result<(), Fail> {
+    assert_seen(
+        rt,
+        alloc,
+        table,
+        play(alloc, Actor::new(alloc, 100), table)?,
+    )
 }
 
-/// Takes a list of inputs.
-fn run(
-    actor: &mut Plain,
-    inputs: Vec<Input<u8, u32, u16, AllBut>>,
-) -> Result<Vec<Result<Effects, Fault>>, Fault> {
-    actor.run(inputs)
+/// That a new actor shows what the table says where it takes all inputs in one run. The table's
+/// only look is its last step.
+fn run_shows(rt: &impl Abort, alloc: Global, table: &[Step]) -> Result<(), Fail> {
+    assert_seen(rt, alloc, table, play_in_one_run(alloc, table)?)
 }
 
-/// What the keys stand at.
-fn rows_of(actor: &Plain) -> Result<Vec<Row<u8, u16>>, Fault> {
-    actor.rows()
-}
-
-/// When a key is due again.
-fn next_retry(actor: &Plain) -> Option<u128> {
-    actor.next_retry()
-}
-
-fn fetch(
+/// That this was seen.
+fn assert_seen(
+    rt: &impl Abort,
     alloc: Global,
-    key: u8,
-    subscriber: u16,
-    mark: u64,
-) -> Result<Event<u8, u32, u16, AllBut>, Fault> {
-    let subscribers = NonEmptyVec::new(alloc, (subscriber, mark))?;
+    table: &[Step],
+    seen: Vec<Seen>,
+) -> Result<(), Fail> {
+    let expected = expected_of(alloc, table)?;
+    assert_eq!(rt; seen.as_slice(), expected.as_slice(), "of {table:?}");
+    Ok(())
+}
+
+fn expected_of(alloc: Global, table: &[Step]) -> Result<Vec<Seen>, Fault> {
+    let mut expected = Vec::new(alloc);
+    for (_, what, answer) in table {
+        if !matches!(what, Do::Look) {
+            expected.push(Seen::Taken)?;
+        }
+        for seen in *answer {
+            expected.push(*seen)?;
+        }
+    }
+    Ok(expected)
+}
+
+fn play(alloc: Global, actor: Plain, table: &[Step]) -> Result<Vec<Seen>, Fault> {
+    let mut actor = actor;
+    let mut seen = Vec::new(alloc);
+    take_each(alloc, &mut actor, table, &mut seen)?;
+    Ok(seen)
+}
+
+fn take_each(
+    alloc: Global,
+    actor: &mut Plain,
+    table: &[Step],
+    seen: &mut Vec<Seen>,
+) -> Result<(), Fault> {
+    for (now, what, _) in table {
+        match event_of(alloc, *what)? {
+            Some(event) => note_answer(actor.step(at(*now, event)), seen)?,
+            None => look(actor, seen)?,
+        }
+    }
+    Ok(())
+}
+
+fn play_in_one_run(alloc: Global, table: &[Step]) -> Result<Vec<Seen>, Fault> {
+    let mut actor: Plain = Actor::new(alloc, 100);
+    let mut seen = Vec::new(alloc);
+    run_all(alloc, &mut actor, table, &mut seen)?;
+    Ok(seen)
+}
+
+fn run_all(
+    alloc: Global,
+    actor: &mut Plain,
+    table: &[Step],
+    seen: &mut Vec<Seen>,
+) -> Result<(), Fault> {
+    for answer in actor.run(inputs_of(alloc, table)?)? {
+        note_answer(answer, seen)?;
+    }
+    look(actor, seen)
+}
+
+fn inputs_of(alloc: Global, table: &[Step]) -> Result<Vec<Input<u8, u32, u16, AllBut>>, Fault> {
+    let mut inputs = Vec::new(alloc);
+    for (now, what, _) in table {
+        if let Some(event) = event_of(alloc, *what)? {
+            inputs.push(at(*now, event))?;
+        }
+    }
+    Ok(inputs)
+}
+
+/// The event of what is done, unless it is a look.
+fn event_of(alloc: Global, what: Do) -> Result<Option<PlainEvent>, Fault> {
+    Ok(match what {
+        Do::Fetch(key, subscriber) => Some(fetch(alloc, key, subscriber)?),
+        Do::Fetched(attempt, value) => Some(Event::Fetched { attempt, value }),
+        Do::Verdict(number, outcome) => Some(Event::Verdict { number, outcome }),
+        Do::LetGo(key) => Some(Event::Retain(AllBut(key))),
+        Do::RetriesDue => Some(Event::RetriesDue),
+        Do::End => Some(Event::End),
+        Do::Look => None,
+    })
+}
+
+fn fetch(alloc: Global, key: u8, subscriber: (u16, u64)) -> Result<PlainEvent, Fault> {
     let item = FetchKey {
         key,
-        subscribers,
+        subscribers: NonEmptyVec::new(alloc, subscriber)?,
         metadata: (),
     };
     let mut items = Vec::new(alloc);
@@ -69,246 +195,217 @@ fn fetch(
     Ok(Event::Fetch(items))
 }
 
-fn at<V>(now: u64, event: Event<u8, V, u16, AllBut>) -> Input<u8, V, u16, AllBut> {
+fn at(now: u64, event: PlainEvent) -> Input<u8, u32, u16, AllBut> {
     Input {
         now: u128::from(now),
         event,
     }
 }
 
-fn started(effects: &Effects) -> Option<(u64, u8)> {
-    match effects.as_slice() {
-        [Effect::Start { attempt, key }] => Some((*attempt, *key)),
-        _ => None,
+/// Notes what an input gave. Where memory is wanting, the test is given up.
+fn note_answer(answer: Result<Vec<PlainEffect>, Fault>, seen: &mut Vec<Seen>) -> Result<(), Fault> {
+    seen.push(Seen::Taken)?;
+    match answer {
+        Ok(effects) => note_effects(effects.as_slice(), seen),
+        Err(Fault::OutOfMemory) => Err(Fault::OutOfMemory),
+        Err(fault) => Ok(seen.push(Seen::Refused(fault))?),
     }
 }
 
-fn delivered(effects: &Effects) -> Option<(u64, u64, u8, (u16, u64), u32)> {
-    match effects.as_slice() {
-        [
-            Effect::Deliver {
-                number,
-                response,
-                delivery,
-                value,
-            },
-        ] => {
-            let first = *delivery.subscribers.first();
-            Some((*number, *response, delivery.key, first, *value))
-        }
-        _ => None,
+fn note_effects(effects: &[PlainEffect], seen: &mut Vec<Seen>) -> Result<(), Fault> {
+    for effect in effects {
+        seen.push(seen_of(effect))?;
+    }
+    Ok(())
+}
+
+fn seen_of(effect: &PlainEffect) -> Seen {
+    match effect {
+        Effect::Start { attempt, key } => Seen::Start(*attempt, *key),
+        Effect::Abort { attempt } => Seen::Abort(*attempt),
+        Effect::Deliver {
+            number,
+            response,
+            delivery,
+            value,
+        } => Seen::Deliver {
+            number: *number,
+            response: *response,
+            key: delivery.key,
+            first: *delivery.subscribers.first(),
+            value: *value,
+        },
+        Effect::Cancel { number } => Seen::Cancel(*number),
     }
 }
+
+fn look(actor: &Plain, seen: &mut Vec<Seen>) -> Result<(), Fault> {
+    for row in actor.rows()?.iter() {
+        seen.push(Seen::Row(row.key, *row.subscribers.first(), row.phase))?;
+    }
+    seen.push(Seen::Due(actor.next_retry()))?;
+    Ok(())
+}
+
+const COMPLETE: Option<Outcome> = Some(Outcome::Resolved(Resolution::Complete));
+
+/// Key 1 is handed out to the subscriber 10.
+const HANDED_OUT: Seen = Seen::Deliver {
+    number: 0,
+    response: 0,
+    key: 1,
+    first: (10, 7),
+    value: 0x6869,
+};
+
+/// The same response goes to the subscriber 11, which came late.
+const HANDED_OUT_AGAIN: Seen = Seen::Deliver {
+    number: 1,
+    response: 0,
+    key: 1,
+    first: (11, 8),
+    value: 0x6869,
+};
 
 // The row opaque_first_run, one step after another.
 #[test]
 fn opaque_first_run(rt: HostRuntime) -> Result<(), Fail> {
-    let alloc = rt.alloc();
-    let mut actor: Plain = Actor::new(alloc, 100);
-    let effects = step(&mut actor, 0, fetch(alloc, 1, 10, 7)?)?;
-    assert_eq!(rt; started(&effects), Some((0, 1)));
-    let value = Event::Fetched {
-        attempt: 0,
-        value: Some(0x6869),
-    };
-    let effects = step(&mut actor, 0, value)?;
-    assert_eq!(rt; delivered(&effects), Some((0, 0, 1, (10, 7), 0x6869)));
-    let rows = rows_of(&actor)?;
-    assert_eq!(rt; rows.len(), 1);
-    assert_eq!(rt; rows[0].key, 1);
-    assert_eq!(rt; *rows[0].subscribers.first(), (10, 7));
-    assert_eq!(rt; rows[0].phase, Phase::Judged { number: 0 });
-    let verdict = Event::Verdict {
-        number: 0,
-        outcome: Some(Outcome::Resolved(Resolution::Complete)),
-    };
-    let effects = step(&mut actor, 0, verdict)?;
-    assert_eq!(rt; effects.len(), 0);
-    assert_eq!(rt; rows_of(&actor)?.len(), 0);
-    assert_eq!(rt; next_retry(&actor), None);
-    Ok(())
+    let judged = Seen::Row(1, (10, 7), Phase::Judged { number: 0 });
+    let table: [Step; 5] = [
+        (0, Do::Fetch(1, (10, 7)), &[Seen::Start(0, 1)]),
+        (0, Do::Fetched(0, Some(0x6869)), &[HANDED_OUT]),
+        (0, Do::Look, &[judged, Seen::Due(None)]),
+        (0, Do::Verdict(0, COMPLETE), &[]),
+        (0, Do::Look, &[Seen::Due(None)]),
+    ];
+    shows(&rt, rt.alloc(), &table)
 }
 
 // A list of inputs gets one answer each.
 #[test]
 fn a_run_waits_for_the_delay(rt: HostRuntime) -> Result<(), Fail> {
-    let alloc = rt.alloc();
-    let mut actor: Plain = Actor::new(alloc, 100);
-    let mut inputs = Vec::new(alloc);
-    inputs.push(at(0, fetch(alloc, 1, 10, 7)?))?;
-    inputs.push(at(
-        5,
-        Event::Fetched {
-            attempt: 0,
-            value: None,
-        },
-    ))?;
-    let mut answers = run(&mut actor, inputs)?;
-    assert_eq!(rt; answers.len(), 2);
-    let first = answers.remove(0)?;
-    assert_eq!(rt; started(&first), Some((0, 1)));
-    let second = answers.remove(0)?;
-    assert_eq!(rt; second.len(), 0);
-    assert_eq!(rt; next_retry(&actor), Some(105));
-    let rows = rows_of(&actor)?;
-    assert_eq!(rt; rows.len(), 1);
-    assert_eq!(rt; rows[0].phase, Phase::Waiting { due: 105 });
-    Ok(())
+    let waits = Seen::Row(1, (10, 7), Phase::Waiting { due: 105 });
+    let table: [Step; 3] = [
+        (0, Do::Fetch(1, (10, 7)), &[Seen::Start(0, 1)]),
+        (5, Do::Fetched(0, None), &[]),
+        (5, Do::Look, &[waits, Seen::Due(Some(105))]),
+    ];
+    run_shows(&rt, rt.alloc(), &table)
 }
 
 // The row ends: what was asked and what was judged are called off by key, and a later step is
 // refused.
 #[test]
 fn ends(rt: HostRuntime) -> Result<(), Fail> {
-    let alloc = rt.alloc();
-    let mut actor: Plain = Actor::new(alloc, 100);
-    let _ = step(&mut actor, 0, fetch(alloc, 2, 20, 0)?)?;
-    let _ = step(&mut actor, 0, fetch(alloc, 1, 10, 0)?)?;
-    let value = Event::Fetched {
-        attempt: 0,
-        value: Some(0x6869),
+    let handed_out = Seen::Deliver {
+        number: 0,
+        response: 0,
+        key: 2,
+        first: (20, 0),
+        value: 0x6869,
     };
-    let _ = step(&mut actor, 0, value)?;
-    let effects = step(&mut actor, 0, Event::End)?;
-    let is_called_off = matches!(
-        effects.as_slice(),
-        [Effect::Abort { attempt: 1 }, Effect::Cancel { number: 0 }]
-    );
-    assert!(rt; is_called_off);
-    assert_eq!(rt; rows_of(&actor)?.len(), 0);
-    let refused = step(&mut actor, 0, fetch(alloc, 3, 30, 0)?).err();
-    assert_eq!(rt; refused, Some(Fault::Ended));
-    Ok(())
+    let table: [Step; 6] = [
+        (0, Do::Fetch(2, (20, 0)), &[Seen::Start(0, 2)]),
+        (0, Do::Fetch(1, (10, 0)), &[Seen::Start(1, 1)]),
+        (0, Do::Fetched(0, Some(0x6869)), &[handed_out]),
+        (0, Do::End, &[Seen::Abort(1), Seen::Cancel(0)]),
+        (0, Do::Look, &[Seen::Due(None)]),
+        (0, Do::Fetch(3, (30, 0)), &[Seen::Refused(Fault::Ended)]),
+    ];
+    shows(&rt, rt.alloc(), &table)
 }
 
 // The row dropped_then_fetched_again: what was judged is called off, and its verdict is passed
 // over when the key is wanted again.
 #[test]
 fn dropped_then_fetched_again(rt: HostRuntime) -> Result<(), Fail> {
-    let alloc = rt.alloc();
-    let mut actor: Plain = Actor::new(alloc, 100);
-    let _ = step(&mut actor, 0, fetch(alloc, 1, 10, 7)?)?;
-    let value = Event::Fetched {
-        attempt: 0,
-        value: Some(0x6869),
-    };
-    let _ = step(&mut actor, 0, value)?;
-    let effects = step(&mut actor, 0, Event::Retain(AllBut(1)))?;
-    assert!(rt; matches!(effects.as_slice(), [Effect::Cancel { number: 0 }]));
-    let effects = step(&mut actor, 0, fetch(alloc, 1, 12, 9)?)?;
-    assert_eq!(rt; started(&effects), Some((1, 1)));
-    let verdict = Event::Verdict {
-        number: 0,
-        outcome: Some(Outcome::Resolved(Resolution::Complete)),
-    };
-    assert_eq!(rt; step(&mut actor, 0, verdict)?.len(), 0);
-    let rows = rows_of(&actor)?;
-    assert_eq!(rt; rows.len(), 1);
-    assert_eq!(rt; *rows[0].subscribers.first(), (12, 9));
-    assert_eq!(rt; rows[0].phase, Phase::Asked { attempt: 1 });
-    Ok(())
+    let asked = Seen::Row(1, (12, 9), Phase::Asked { attempt: 1 });
+    let table: [Step; 6] = [
+        (0, Do::Fetch(1, (10, 7)), &[Seen::Start(0, 1)]),
+        (0, Do::Fetched(0, Some(0x6869)), &[HANDED_OUT]),
+        (0, Do::LetGo(1), &[Seen::Cancel(0)]),
+        (0, Do::Fetch(1, (12, 9)), &[Seen::Start(1, 1)]),
+        (0, Do::Verdict(0, COMPLETE), &[]),
+        (0, Do::Look, &[asked, Seen::Due(None)]),
+    ];
+    shows(&rt, rt.alloc(), &table)
 }
 
-/// The inputs of the row opaque_retry.
-fn retry_inputs(alloc: Global) -> Result<Vec<Input<u8, u32, u16, AllBut>>, Fault> {
-    let mut inputs = Vec::new(alloc);
-    inputs.push(at(0, fetch(alloc, 1, 10, 7)?))?;
-    let none = Event::Fetched {
-        attempt: 0,
-        value: None,
-    };
-    inputs.push(at(0, none))?;
-    inputs.push(at(99, Event::RetriesDue))?;
-    inputs.push(at(100, Event::RetriesDue))?;
-    let old = Event::Fetched {
-        attempt: 0,
-        value: Some(0xaa),
-    };
-    inputs.push(at(100, old))?;
-    inputs.push(at(100, fetch(alloc, 1, 10, 9)?))?;
-    Ok(inputs)
-}
-
+// The row opaque_retry, in one run and one step after another.
 #[test]
 fn opaque_retry(rt: HostRuntime) -> Result<(), Fail> {
-    let alloc = rt.alloc();
-    let mut actor: Plain = Actor::new(alloc, 100);
-    let answers = run(&mut actor, retry_inputs(alloc)?)?;
-    assert_eq!(rt; answers.len(), 6);
-    let mut starts = Vec::new(alloc);
-    for answer in answers {
-        starts.push(started(&answer?))?;
-    }
-    let expected = [Some((0, 1)), None, None, Some((1, 1)), None, None];
-    assert_eq!(rt; starts.as_slice(), expected.as_slice());
-    let rows = rows_of(&actor)?;
-    assert_eq!(rt; rows.len(), 1);
-    assert_eq!(rt; *rows[0].subscribers.first(), (10, 7));
-    assert_eq!(rt; rows[0].phase, Phase::Asked { attempt: 1 });
-    assert_eq!(rt; next_retry(&actor), None);
-    Ok(())
+    let asked = Seen::Row(1, (10, 7), Phase::Asked { attempt: 1 });
+    let table: [Step; 7] = [
+        (0, Do::Fetch(1, (10, 7)), &[Seen::Start(0, 1)]),
+        (0, Do::Fetched(0, None), &[]),
+        (99, Do::RetriesDue, &[]),
+        (100, Do::RetriesDue, &[Seen::Start(1, 1)]),
+        (100, Do::Fetched(0, Some(0xaa)), &[]),
+        (100, Do::Fetch(1, (10, 9)), &[]),
+        (100, Do::Look, &[asked, Seen::Due(None)]),
+    ];
+    run_shows(&rt, rt.alloc(), &table)?;
+    shows(&rt, rt.alloc(), &table)
 }
 
-/// A verdict's outcome on a delivery in progress, and what becomes of its key.
-#[derive(Clone, Copy, PartialEq, Eq, Debug)]
-enum Fate {
-    Retired,
-    Waits,
-    HandedOutAgain,
-}
+/// What is left of key 1 where it is retired.
+const RETIRED: &[Seen] = &[Seen::Due(None)];
 
-/// An actor whose key 1 is judged for the subscriber 10, under the number 0.
-fn judged(alloc: Global) -> Result<Plain, Fault> {
-    let mut actor: Plain = Actor::new(alloc, 100);
-    let _ = step(&mut actor, 0, fetch(alloc, 1, 10, 7)?)?;
-    let value = Event::Fetched {
-        attempt: 0,
-        value: Some(0x6869),
-    };
-    let _ = step(&mut actor, 0, value)?;
-    Ok(actor)
-}
+/// What is left of key 1 where it waits since 5.
+const WAITS: &[Seen] = &[
+    Seen::Row(1, (10, 7), Phase::Waiting { due: 105 }),
+    Seen::Due(Some(105)),
+];
 
-/// What an outcome on number 0 makes of key 1.
-fn made_of(actor: &mut Plain, outcome: Option<Outcome>) -> Result<Option<Fate>, Fault> {
-    let effects = step(actor, 5, Event::Verdict { number: 0, outcome })?;
-    let rows = rows_of(actor)?;
-    if rows.is_empty() {
-        return Ok(Some(Fate::Retired));
-    }
-    Ok(match rows[0].phase {
-        Phase::Waiting { due: 105 } if effects.is_empty() => Some(Fate::Waits),
-        Phase::Judged { number: 1 } if delivered(&effects).is_some() => Some(Fate::HandedOutAgain),
-        _ => None,
-    })
-}
-
-/// Each outcome, and what it makes of a key that no subscriber came to late.
-fn outcomes() -> [(Option<Outcome>, Fate); 6] {
+/// Each outcome, and what it leaves of a key that no subscriber came to late.
+fn outcomes() -> [(Option<Outcome>, &'static [Seen]); 6] {
     [
-        (Some(Outcome::Resolved(Resolution::Complete)), Fate::Retired),
-        (None, Fate::Retired),
-        (Some(Outcome::Ignored), Fate::Retired),
-        (Some(Outcome::Resolved(Resolution::Partial)), Fate::Waits),
-        (Some(Outcome::Unresolved), Fate::Waits),
-        (Some(Outcome::Invalid), Fate::Waits),
+        (COMPLETE, RETIRED),
+        (None, RETIRED),
+        (Some(Outcome::Ignored), RETIRED),
+        (Some(Outcome::Resolved(Resolution::Partial)), WAITS),
+        (Some(Outcome::Unresolved), WAITS),
+        (Some(Outcome::Invalid), WAITS),
     ]
+}
+
+/// What a verdict is answered with, and what it leaves of its key.
+type Verdict = (&'static [Seen], &'static [Seen]);
+
+/// What an outcome makes of a key that the subscriber 11 came to late.
+fn with_late_subscriber(outcome: Option<Outcome>, alone: &'static [Seen]) -> Verdict {
+    match outcome {
+        None | Some(Outcome::Resolved(Resolution::Complete)) => (
+            &[HANDED_OUT_AGAIN],
+            &[
+                Seen::Row(1, (11, 8), Phase::Judged { number: 1 }),
+                Seen::Due(None),
+            ],
+        ),
+        _ => (&[], alone),
+    }
 }
 
 // The table of verdicts, with no subscriber left and with one that came late.
 #[test]
 fn every_outcome(rt: HostRuntime) -> Result<(), Fail> {
-    let alloc = rt.alloc();
-    for (outcome, expected) in outcomes() {
-        let mut actor = judged(alloc)?;
-        assert_eq!(rt; made_of(&mut actor, outcome)?, Some(expected));
-        let mut actor = judged(alloc)?;
-        let _ = step(&mut actor, 0, fetch(alloc, 1, 11, 8)?)?;
-        let late = match outcome {
-            None | Some(Outcome::Resolved(Resolution::Complete)) => Fate::HandedOutAgain,
-            _ => expected,
-        };
-        assert_eq!(rt; made_of(&mut actor, outcome)?, Some(late));
+    for (outcome, left) in outcomes() {
+        let table: [Step; 4] = [
+            (0, Do::Fetch(1, (10, 7)), &[Seen::Start(0, 1)]),
+            (0, Do::Fetched(0, Some(0x6869)), &[HANDED_OUT]),
+            (5, Do::Verdict(0, outcome), &[]),
+            (5, Do::Look, left),
+        ];
+        shows(&rt, rt.alloc(), &table)?;
+        let (answer, left) = with_late_subscriber(outcome, left);
+        let table: [Step; 5] = [
+            (0, Do::Fetch(1, (10, 7)), &[Seen::Start(0, 1)]),
+            (0, Do::Fetched(0, Some(0x6869)), &[HANDED_OUT]),
+            (0, Do::Fetch(1, (11, 8)), &[]),
+            (5, Do::Verdict(0, outcome), answer),
+            (5, Do::Look, left),
+        ];
+        shows(&rt, rt.alloc(), &table)?;
     }
     Ok(())
 }
@@ -316,24 +413,27 @@ fn every_outcome(rt: HostRuntime) -> Result<(), Fail> {
 // A number whose key was dropped, or dropped and fetched again, is closed and changes nothing.
 #[test]
 fn every_outcome_canceled(rt: HostRuntime) -> Result<(), Fail> {
-    let alloc = rt.alloc();
+    let asked = Seen::Row(1, (12, 9), Phase::Asked { attempt: 1 });
     for (outcome, _) in outcomes() {
-        for comes_back in [false, true] {
-            let mut actor = judged(alloc)?;
-            let _ = step(&mut actor, 0, Event::Retain(AllBut(1)))?;
-            if comes_back {
-                let _ = step(&mut actor, 0, fetch(alloc, 1, 12, 9)?)?;
-            }
-            for _ in 0..2 {
-                let verdict = Event::Verdict { number: 0, outcome };
-                assert!(rt; step(&mut actor, 5, verdict)?.is_empty());
-            }
-            let rows = rows_of(&actor)?;
-            assert_eq!(rt; rows.len(), usize::from(comes_back));
-            if comes_back {
-                assert_eq!(rt; rows[0].phase, Phase::Asked { attempt: 1 });
-            }
-        }
+        let table: [Step; 6] = [
+            (0, Do::Fetch(1, (10, 7)), &[Seen::Start(0, 1)]),
+            (0, Do::Fetched(0, Some(0x6869)), &[HANDED_OUT]),
+            (0, Do::LetGo(1), &[Seen::Cancel(0)]),
+            (5, Do::Verdict(0, outcome), &[]),
+            (5, Do::Verdict(0, outcome), &[]),
+            (5, Do::Look, &[Seen::Due(None)]),
+        ];
+        shows(&rt, rt.alloc(), &table)?;
+        let table: [Step; 7] = [
+            (0, Do::Fetch(1, (10, 7)), &[Seen::Start(0, 1)]),
+            (0, Do::Fetched(0, Some(0x6869)), &[HANDED_OUT]),
+            (0, Do::LetGo(1), &[Seen::Cancel(0)]),
+            (0, Do::Fetch(1, (12, 9)), &[Seen::Start(1, 1)]),
+            (5, Do::Verdict(0, outcome), &[]),
+            (5, Do::Verdict(0, outcome), &[]),
+            (5, Do::Look, &[asked, Seen::Due(None)]),
+        ];
+        shows(&rt, rt.alloc(), &table)?;
     }
     Ok(())
 }
@@ -341,70 +441,54 @@ fn every_outcome_canceled(rt: HostRuntime) -> Result<(), Fail> {
 // A response that was accepted retires its key where a later verdict says Invalid.
 #[test]
 fn a_conflict_retires(rt: HostRuntime) -> Result<(), Fail> {
-    let alloc = rt.alloc();
-    let mut actor = judged(alloc)?;
-    let _ = step(&mut actor, 0, fetch(alloc, 1, 11, 8)?)?;
-    let complete = Some(Outcome::Resolved(Resolution::Complete));
-    let again = Event::Verdict {
-        number: 0,
-        outcome: complete,
-    };
-    let effects = step(&mut actor, 0, again)?;
-    assert_eq!(rt; delivered(&effects), Some((1, 0, 1, (11, 8), 0x6869)));
-    let invalid = Event::Verdict {
-        number: 1,
-        outcome: Some(Outcome::Invalid),
-    };
-    assert!(rt; step(&mut actor, 0, invalid)?.is_empty());
-    assert!(rt; rows_of(&actor)?.is_empty());
-    Ok(())
+    let table: [Step; 6] = [
+        (0, Do::Fetch(1, (10, 7)), &[Seen::Start(0, 1)]),
+        (0, Do::Fetched(0, Some(0x6869)), &[HANDED_OUT]),
+        (0, Do::Fetch(1, (11, 8)), &[]),
+        (0, Do::Verdict(0, COMPLETE), &[HANDED_OUT_AGAIN]),
+        (0, Do::Verdict(1, Some(Outcome::Invalid)), &[]),
+        (0, Do::Look, &[Seen::Due(None)]),
+    ];
+    shows(&rt, rt.alloc(), &table)
 }
 
 // An end in each phase: a key that waits has nothing to be called off.
 #[test]
 fn ends_in_each_phase(rt: HostRuntime) -> Result<(), Fail> {
-    let alloc = rt.alloc();
-    let mut actor: Plain = Actor::new(alloc, 100);
-    for key in [3, 1, 2] {
-        let _ = step(&mut actor, 0, fetch(alloc, key, 10, 0)?)?;
-    }
-    let none = Event::Fetched {
-        attempt: 0,
-        value: None,
+    let handed_out = Seen::Deliver {
+        number: 0,
+        response: 0,
+        key: 2,
+        first: (10, 0),
+        value: 1,
     };
-    let _ = step(&mut actor, 0, none)?;
-    let value = Event::Fetched {
-        attempt: 2,
-        value: Some(1),
-    };
-    let _ = step(&mut actor, 0, value)?;
-    let effects = step(&mut actor, 0, Event::End)?;
-    let is_called_off = matches!(
-        effects.as_slice(),
-        [Effect::Abort { attempt: 1 }, Effect::Cancel { number: 0 }]
-    );
-    assert!(rt; is_called_off);
-    assert!(rt; rows_of(&actor)?.is_empty());
-    assert_eq!(rt; next_retry(&actor), None);
-    assert_eq!(rt; step(&mut actor, 0, Event::End).err(), Some(Fault::Ended));
-    Ok(())
+    let table: [Step; 8] = [
+        (0, Do::Fetch(3, (10, 0)), &[Seen::Start(0, 3)]),
+        (0, Do::Fetch(1, (10, 0)), &[Seen::Start(1, 1)]),
+        (0, Do::Fetch(2, (10, 0)), &[Seen::Start(2, 2)]),
+        (0, Do::Fetched(0, None), &[]),
+        (0, Do::Fetched(2, Some(1)), &[handed_out]),
+        (0, Do::End, &[Seen::Abort(1), Seen::Cancel(0)]),
+        (0, Do::Look, &[Seen::Due(None)]),
+        (0, Do::End, &[Seen::Refused(Fault::Ended)]),
+    ];
+    shows(&rt, rt.alloc(), &table)
 }
 
 // Where no attempt is left, a new key is refused, and the actor has failed. A key that is there
 // still takes subscribers before that.
 #[test]
 fn the_last_attempt_is_given_once(rt: HostRuntime) -> Result<(), Fail> {
+    let table: [Step; 5] = [
+        (0, Do::Fetch(1, (10, 7)), &[Seen::Start(u64::MAX, 1)]),
+        (0, Do::Fetch(1, (11, 8)), &[]),
+        (0, Do::Fetch(2, (10, 7)), &[Seen::Refused(Fault::Exhausted)]),
+        (0, Do::Fetch(1, (12, 9)), &[Seen::Refused(Fault::Failed)]),
+        (0, Do::End, &[Seen::Refused(Fault::Failed)]),
+    ];
     let alloc = rt.alloc();
-    let mut actor: Plain = Actor::starting_at(alloc, 100, Numbers::starting_at(u64::MAX));
-    let effects = step(&mut actor, 0, fetch(alloc, 1, 10, 7)?)?;
-    assert_eq!(rt; started(&effects), Some((u64::MAX, 1)));
-    assert!(rt; step(&mut actor, 0, fetch(alloc, 1, 11, 8)?)?.is_empty());
-    let refused = step(&mut actor, 0, fetch(alloc, 2, 10, 7)?).err();
-    assert_eq!(rt; refused, Some(Fault::Exhausted));
-    let refused = step(&mut actor, 0, fetch(alloc, 1, 12, 9)?).err();
-    assert_eq!(rt; refused, Some(Fault::Failed));
-    assert_eq!(rt; step(&mut actor, 0, Event::End).err(), Some(Fault::Failed));
-    Ok(())
+    let actor = Actor::starting_at(alloc, 100, Numbers::starting_at(u64::MAX));
+    assert_seen(&rt, alloc, &table, play(alloc, actor, &table)?)
 }
 
 /// Keeps every subscriber.
@@ -423,28 +507,40 @@ impl Predicate<u64, u16> for Everyone {
 
 type Crowd = Actor<u64, u32, u16, Everyone>;
 
-type Told = Vec<Effect<u64, u32, u16>>;
+type CrowdEvent = Event<u64, u32, u16, Everyone>;
 
-/// Takes one input of many keys.
-fn step_crowd(
-    actor: &mut Crowd,
-    now: u64,
-    event: Event<u64, u32, u16, Everyone>,
-) -> Result<Told, Fault> {
-    actor.step(Input {
-        now: u128::from(now),
-        event,
-    })
+/// What one or more inputs made of many keys: how many effects each input had, if each had as many,
+/// how many keys are demanded after them, and when one of these is due again.
+#[derive(Clone, Copy, PartialEq, Eq, Debug)]
+struct Tally(Option<usize>, usize, Option<u128>);
+
+/// Fetches ten thousand keys and hands each out, judges the deliveries from the last on, has the
+/// keys that wait asked for again, and ends.
+fn play_crowd(alloc: Global) -> Result<Vec<Tally>, Fault> {
+    let mut actor: Crowd = Actor::new(alloc, 100);
+    let mut tallies = Vec::new(alloc);
+    take_crowd(alloc, &mut actor, &mut tallies)?;
+    Ok(tallies)
 }
 
-/// How many rows there are of many keys.
-fn count(actor: &Crowd) -> Result<usize, Fault> {
-    Ok(actor.rows()?.len())
+fn take_crowd(alloc: Global, actor: &mut Crowd, tallies: &mut Vec<Tally>) -> Result<(), Fault> {
+    let handed_out = hand_out_each(alloc, actor)?;
+    tallies.push(tally_of(actor, handed_out)?)?;
+    let judged = judge_each(actor)?;
+    tallies.push(tally_of(actor, judged)?)?;
+    take(actor, 99, Event::RetriesDue, tallies)?;
+    take(actor, 100, Event::RetriesDue, tallies)?;
+    take(actor, 100, Event::End, tallies)
 }
 
-/// When one of many keys is due again.
-fn due(actor: &Crowd) -> Option<u128> {
-    actor.next_retry()
+/// Fetches each key and hands it out, and gives up at a value with another count of effects than 1.
+fn hand_out_each(alloc: Global, actor: &mut Crowd) -> Result<Option<usize>, Fault> {
+    for key in 0..10_000 {
+        if hand_out_one(alloc, actor, key)? != 1 {
+            return Ok(None);
+        }
+    }
+    Ok(Some(1))
 }
 
 /// Fetches a key, and hands it out.
@@ -456,46 +552,70 @@ fn hand_out_one(alloc: Global, actor: &mut Crowd, key: u64) -> Result<usize, Fau
     };
     let mut items = Vec::new(alloc);
     items.push(item)?;
-    let _ = step_crowd(actor, 0, Event::Fetch(items))?;
+    let _ = count(actor, 0, Event::Fetch(items))?;
     let value = Event::Fetched {
         attempt: key,
         value: Some(1),
     };
-    Ok(step_crowd(actor, 0, value)?.len())
+    count(actor, 0, value)
+}
+
+/// Judges each number from the last on, and gives up at one with an effect.
+fn judge_each(actor: &mut Crowd) -> Result<Option<usize>, Fault> {
+    for number in (0..10_000).rev() {
+        if judge_one(actor, number)? != 0 {
+            return Ok(None);
+        }
+    }
+    Ok(Some(0))
 }
 
 /// Judges a number: an even one is complete, and the key of an odd one waits.
-fn judge(actor: &mut Crowd, number: u64) -> Result<usize, Fault> {
+fn judge_one(actor: &mut Crowd, number: u64) -> Result<usize, Fault> {
     let outcome = if number % 2 == 0 {
-        Some(Outcome::Resolved(Resolution::Complete))
+        COMPLETE
     } else {
         Some(Outcome::Unresolved)
     };
-    Ok(step_crowd(actor, 0, Event::Verdict { number, outcome })?.len())
+    count(actor, 0, Event::Verdict { number, outcome })
+}
+
+/// Takes an input, and tallies it.
+fn take(
+    actor: &mut Crowd,
+    now: u64,
+    event: CrowdEvent,
+    tallies: &mut Vec<Tally>,
+) -> Result<(), Fault> {
+    let effects = count(actor, now, event)?;
+    tallies.push(tally_of(actor, Some(effects))?)?;
+    Ok(())
+}
+
+/// How many effects an input has.
+fn count(actor: &mut Crowd, now: u64, event: CrowdEvent) -> Result<usize, Fault> {
+    let effects = actor.step(Input {
+        now: u128::from(now),
+        event,
+    })?;
+    Ok(effects.len())
+}
+
+fn tally_of(actor: &Crowd, effects: Option<usize>) -> Result<Tally, Fault> {
+    Ok(Tally(effects, actor.rows()?.len(), actor.next_retry()))
 }
 
 // Ten thousand deliveries are open at once, and closed from the last on.
 #[test]
 fn ten_thousand_deliveries(rt: HostRuntime) -> Result<(), Fail> {
-    let alloc = rt.alloc();
-    let mut actor: Crowd = Actor::new(alloc, 100);
-    for key in 0..10_000 {
-        assert_eq!(rt; hand_out_one(alloc, &mut actor, key)?, 1);
-    }
-    assert_eq!(rt; count(&actor)?, 10_000);
-    assert_eq!(rt; due(&actor), None);
-    for number in (0..10_000).rev() {
-        assert_eq!(rt; judge(&mut actor, number)?, 0);
-    }
-    assert_eq!(rt; count(&actor)?, 5_000);
-    assert_eq!(rt; due(&actor), Some(100));
-    assert_eq!(rt; step_crowd(&mut actor, 99, Event::RetriesDue)?.len(), 0);
-    assert_eq!(rt;
-        step_crowd(&mut actor, 100, Event::RetriesDue)?.len(),
-        5_000
-    );
-    assert_eq!(rt; due(&actor), None);
-    assert_eq!(rt; step_crowd(&mut actor, 100, Event::End)?.len(), 5_000);
-    assert_eq!(rt; count(&actor)?, 0);
+    let expected = [
+        Tally(Some(1), 10_000, None),
+        Tally(Some(0), 5_000, Some(100)),
+        Tally(Some(0), 5_000, Some(100)),
+        Tally(Some(5_000), 5_000, None),
+        Tally(Some(5_000), 0, None),
+    ];
+    let tallies = play_crowd(rt.alloc())?;
+    assert_eq!(rt; tallies.as_slice(), expected.as_slice());
     Ok(())
 }
