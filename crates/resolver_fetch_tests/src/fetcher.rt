@@ -504,16 +504,22 @@ fn longest(alloc: Global) -> Node {
     Fetcher::new(alloc, config)
 }
 
+/// Has peer 4 asked for key 1 until the time is over, and charged then.
+fn charges(rt: &impl Abort, alloc: Global, fetcher: &mut Node) -> Result<(), Fault> {
+    set_peers(alloc, fetcher, &[4])?;
+    recorded(fetcher, 1, 1, u64::MAX);
+    asks_peer(rt, alloc, fetcher, 0, u128::from(u64::MAX))?;
+    assert_eq!(rt; pop_active(fetcher, DURATION_MAX - 1), None);
+    assert_eq!(rt; weight(fetcher, 4), Some(u64::MAX));
+    assert_eq!(rt; pop_active(fetcher, DURATION_MAX), Some(1));
+    assert_eq!(rt; weight(fetcher, 4), Some(1));
+    Ok(())
+}
+
 #[test]
 fn charged_the_longest_time(rt: HostRuntime) -> Result<(), Fail> {
     let mut fetcher = longest(rt.alloc());
-    set_peers(rt.alloc(), &mut fetcher, &[4])?;
-    recorded(&mut fetcher, 1, 1, u64::MAX);
-    asks_peer(&rt, rt.alloc(), &mut fetcher, 0, u128::from(u64::MAX))?;
-    assert_eq!(rt; pop_active(&mut fetcher, DURATION_MAX - 1), None);
-    assert_eq!(rt; weight(&fetcher, 4), Some(u64::MAX));
-    assert_eq!(rt; pop_active(&mut fetcher, DURATION_MAX), Some(1));
-    assert_eq!(rt; weight(&fetcher, 4), Some(1));
+    charges(&rt, rt.alloc(), &mut fetcher)?;
     Ok(())
 }
 
@@ -521,10 +527,15 @@ fn charged_the_longest_time(rt: HostRuntime) -> Result<(), Fail> {
 
 type Many = Fetcher<u16, u8>;
 
+/// A key of many waits from 10 on.
+fn waits(fetcher: &mut Many, key: u16) -> Result<(), Fault> {
+    fetcher.add_ready(key, 10)
+}
+
 /// Key after key waits from 10 on.
 fn waits_each(fetcher: &mut Many, count: u16) -> Result<(), Fault> {
     for key in 0..count {
-        fetcher.add_ready(key, 10)?;
+        waits(fetcher, key)?;
     }
     Ok(())
 }
