@@ -1,14 +1,12 @@
 -- Each request goes to a peer that is eligible for its key.
-use Rattle.std.proofs.Common.{◌≡◌, refl, subst, ap, ◌∙◌, sym, inl, inr, ℕ, ◌+◌, ◌^◌, Bool, true, false, not, ◌==◌, cond, List, [], ◌∷◌, ◌++◌, Option, None, Some, Result, Ok, Err, filter, map, if◌then◌else◌}
-use Rattle.std.specs.Prelude.{option_map, option_and_then, option_to_list, nat_lt, zero, suc, find, sum, is_none, ⊤}
+use Rattle.std.proofs.Common.{◌≡◌, refl, subst, ap, ◌∙◌, sym, ℕ, ◌+◌, ◌^◌, Bool, true, false, not, ◌==◌, List, [], ◌∷◌, ◌++◌, Option, None, Some, Result, Ok, Err, filter, map, if◌then◌else◌}
+use Rattle.std.specs.Prelude.{option_map, option_and_then, option_to_list, nat_lt, is_none, ⊤}
 use Rattle.std.specs.Map.{lookup}
 use Rattle.resolver_base.specs.declared.base.fault.Fault.{Fault}
 use Rattle.resolver_base.specs.declared.base.fault.Fault.TheVariants.{OutOfRange}
 use Rattle.resolver_base.specs.declared.root.Outcome.{Outcome}
 use Rattle.resolver_base.specs.declared.root.Outcome.TheVariants.{Invalid, Resolved, Unresolved, Ignored}
 use Rattle.resolver_base.specs.Subscribers.{without}
-use Rattle.resolver_request.specs.declared.score.Averages.{Averages}
-use Rattle.resolver_request.specs.Choice as choice
 use Rattle.resolver_fetch.specs.Waiting.{Waiting}
 use Rattle.resolver_request.specs.declared.requests.request.Request.{Request}
 use Rattle.resolver_request.specs.Requests.{overdue}
@@ -27,48 +25,14 @@ use Rattle.resolver_request.specs.declared.wire.Payload.TheVariants as payloads
 use Rattle.resolver.specs.declared.ruling.Ruling.{Ruling}
 use Rattle.resolver.specs.declared.ruling.Ruling.TheVariants as rulings
 use Rattle.resolver.specs.Verdicts.{ruling}
-use Rattle.resolver_fetch.specs.FetcherLaws.{AllAre}
+use Rattle.resolver_fetch.specs.FetcherLaws.{AllAre, IsAmong}
+use Rattle.resolver_fetch.proofs.OneOf.{IsOneOf, among-filter, by_place-among, by_weight-among, found-among}
 use Rattle.resolver.specs.Parties.{Parties, orders_of}
 use Rattle.resolver.specs.PeerRows.{Row, Phase, Waits, Asked, Judged}
 use Rattle.resolver.specs.Peer.{Machine, Open, Serve, Done, Effect, Ask, Deliver, Cancel, Produce, Reply, Credit, Block, Status, Running, Ended, Failed, Item, Event, Fetch, Retain, PeerSet, Blocked, ActiveDue, PendingDue, Verdict, Served, Net, End, Input, Happens, Answers, quiet, and_then, snapshot, turned, cancel_in, cancels, closed, served_by, row_of, fetch, fetch_one, times_out, account_for, serves_rest, ruled, ruled_in, ruled_at, verdict_on, responds, misses, answered, receive, does, is_due, wake_up, scanned_if, scanned, step_of, answer_of, step_running, step_in, step, opening, has_subscribers, pruned, is_newer}
 use Rattle.std.specs.List.{cons_option}
 use Rattle.resolver.specs.PeerRun.{Fed, effects_of, after}
-use Rattle.resolver.specs.PeerLaws.{IsAmong, IsWellAsked, AsksEligible}
-
-among-if : {X : Type 0} (b : Bool) (x y : X) (xs ys : List X) → (IsAmong x xs → IsAmong x ys) → IsAmong x (cond b (y ∷ xs) xs) → IsAmong x (y ∷ ys)
-among-if true x y xs ys rest (inl e) = inl e
-among-if true x y xs ys rest (inr i) = inr (rest i)
-among-if false x y xs ys rest i = inr (rest i)
-
-pub among-filter : {X : Type 0} (test : X → Bool) (x : X) (xs : List X) → IsAmong x (filter test xs) → IsAmong x xs
-among-filter test x [] i = i
-among-filter test x (y ∷ ys) i = among-if (test y) x y (filter test ys) ys (among-filter test x ys) i
-
-among-found : {X : Type 0} (test : X → Bool) (b : Bool) (w x : X) (xs : List X) → (find test xs ≡ Some w → IsAmong w xs) → cond b (Some x) (find test xs) ≡ Some w → IsAmong w (x ∷ xs)
-among-found test true w x xs rest e = let same : x ≡ w = cc in inl (sym same)
-among-found test false w x xs rest e = inr (rest e)
-
--- what is found is one of the list
-pub found-among : {X : Type 0} (test : X → Bool) (xs : List X) (w : X) → find test xs ≡ Some w → IsAmong w xs
-found-among test [] w e = absurd cc
-found-among test (x ∷ xs) w e = among-found test (test x) w x xs (found-among test xs w) e
-
-module _ {P : Type 0} where
-  -- with what averages
-  abbrev pub IsOneOf : P → List (P × Averages) → Type 0
-  IsOneOf peer ps = (x : Averages) × IsAmong (peer, x) ps
-
-  pub by_place-among : (ps : List (P × Averages)) (n : ℕ) (peer : P) → by_place ps n ≡ Some peer → IsOneOf peer ps
-  by_place-among [] n peer e = absurd cc
-  by_place-among (p ∷ ps) zero peer e = let same : p.0 ≡ peer = cc in (p.1, inl (ap (λ q. (q, p.1)) (sym same)))
-  by_place-among (p ∷ ps) (suc n) peer e = let found : IsOneOf peer ps = by_place-among ps n peer e in (found.0, inr found.1)
-
-  within-among : (ps : List (P × Averages)) (b : Bool) (n : ℕ) (peer : P) → (if b then by_place ps n else None) ≡ Some peer → IsOneOf peer ps
-  within-among ps true n peer e = by_place-among ps n peer e
-  within-among ps false n peer e = absurd cc
-
-  pub by_weight-among : (ps : List (P × Averages)) (n : ℕ) (peer : P) → by_weight ps n ≡ Some peer → IsOneOf peer ps
-  by_weight-among ps n peer e = within-among ps (nat_lt n (sum (weights ps))) (choice.chosen (weights ps) n) peer e
+use Rattle.resolver.specs.PeerLaws.{IsWellAsked, AsksEligible}
 
 module _ {K S P : Type 0} (a : Parties K S P) where
   -- the peer is left for the key that the scan tries

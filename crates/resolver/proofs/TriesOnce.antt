@@ -1,9 +1,9 @@
 -- No scan tries a peer twice for a key.
-use Rattle.std.proofs.Common.{◌≡◌, refl, subst, ap, ◌∙◌, sym, inl, inr, ℕ, ◌+◌, ◌^◌, Bool, true, false, not, ◌&&◌, ◌||◌, cond, List, [], ◌∷◌, ◌++◌, Option, None, Some, Result, Ok, Err, filter, if◌then◌else◌}
+use Rattle.std.proofs.Common.{◌≡◌, refl, subst, sym, ℕ, ◌+◌, ◌^◌, Bool, true, false, not, List, [], ◌∷◌, ◌++◌, Option, None, Some, Result, Ok, Err, if◌then◌else◌}
+use Rattle.std.proofs.lemmas.Bool.{not-true}
 use Rattle.std.specs.Prelude.{option_and_then, nat_lt, ⊤}
 use Rattle.resolver_base.specs.declared.base.fault.Fault.{Fault}
 use Rattle.resolver_base.specs.declared.base.fault.Fault.TheVariants.{OutOfRange}
-use Rattle.resolver_fetch.specs.Orders.{Orders, same_key, same_peer}
 use Rattle.resolver_fetch.specs.Waiting.{Waiting}
 use Rattle.resolver_fetch.specs.Snapshot.{Snapshot, eligible}
 use Rattle.resolver_fetch.specs.Scan as scans
@@ -16,47 +16,14 @@ use Rattle.resolver_fetch.specs.Scan.{Scan, Turn, next, left, was_tried, takes, 
 use Rattle.resolver_base.specs.declared.base.check.Check.TheVariants.{Clear, Until}
 use Rattle.resolver_fetch.specs.declared.fetcher.scan.Answer.{Answer}
 use Rattle.resolver_fetch.specs.declared.fetcher.scan.Answer.TheVariants.{Drawn, Checked, Sent}
-use Rattle.resolver_fetch.specs.FetcherLaws.{AllAre, IsOnce}
+use Rattle.resolver_fetch.specs.FetcherLaws.{IsOnce}
+use Rattle.resolver_fetch.proofs.OneOf.{IsOneOf, tested}
+use Rattle.resolver_fetch.proofs.TriesPairs.{once-more}
 use Rattle.resolver.specs.Parties.{Parties, orders_of}
 use Rattle.resolver.specs.Peer.{Machine, Done, Status, Running, Ended, Failed, Input, Happens, Answers, and_then, snapshot, does, is_due, wake_up, scanned_if, scanned, step_of, answer_of, step_running, step_in, step, opening}
 use Rattle.resolver.specs.PeerRun.{Fed, after}
-use Rattle.resolver.specs.PeerLaws.{IsAmong, TriesOnce}
-use Rattle.resolver.proofs.AsksEligible.{IsOneOf, IsLeft, IsSound, IsSoundAt, IsSoundFor, IsCalmIfDone, does-calm, step-fine}
-
-tested-if : {X : Type 0} (test : X → Bool) (b : Bool) (x y : X) (xs : List X) → test y ≡ b → (IsAmong x xs → test x ≡ true) → IsAmong x (cond b (y ∷ xs) xs) → test x ≡ true
-tested-if test true x y xs is rest (inl e) = ap test e ∙ is
-tested-if test true x y xs is rest (inr i) = rest i
-tested-if test false x y xs is rest i = rest i
-
-tested : {X : Type 0} (test : X → Bool) (x : X) (xs : List X) → IsAmong x (filter test xs) → test x ≡ true
-tested test x [] i = absurd i
-tested test x (y ∷ ys) i = tested-if test (test y) x y (filter test ys) refl (tested test x ys) i
-
-not-true : (b : Bool) → not b ≡ true → b ≡ false
-not-true true e = cc
-not-true false e = refl
-
-or-left : (a b : Bool) → (a || b) ≡ false → (a || false) ≡ false
-or-left true b e = cc
-or-left false b e = refl
-
-or-right : (a b : Bool) → (a || b) ≡ false → b ≡ false
-or-right true b e = cc
-or-right false b e = e
-
-module _ {X : Type 0} where
-  all-snoc : (Q : X → Type 0) (xs : List X) (x : X) → AllAre Q xs → Q x → AllAre Q (xs ++ x ∷ [])
-  all-snoc Q [] x i q = (q, tt)
-  all-snoc Q (y ∷ xs) x i q = (i.0, all-snoc Q xs x i.1 q)
-
-module _ {K P : Type 0} (o : Orders K P) where
-  once-more : (trail : List (Try K P)) (t : Try K P) → IsOnce o trail → was_tried o trail t.key t.peer ≡ false → IsOnce o (trail ++ t ∷ [])
-  once-more [] t once new = (tt, tt)
-  once-more (u ∷ trail) t once new =
-      let same : Bool = same_key o t.key u.key && same_peer o t.peer u.peer in (
-        all-snoc (λ later. was_tried o (u ∷ []) later.key later.peer ≡ false) trail t once.0 (or-left same (was_tried o trail t.key t.peer) new),
-        once-more trail t once.1 (or-right same (was_tried o trail t.key t.peer) new),
-      )
+use Rattle.resolver.specs.PeerLaws.{TriesOnce}
+use Rattle.resolver.proofs.AsksEligible.{IsLeft, IsSound, IsSoundAt, IsSoundFor, IsCalmIfDone, does-calm, step-fine}
 
 module _ {K S P : Type 0} (a : Parties K S P) where
   abbrev pub OnceAfter : Result (Turn K P) Fault → Type 0

@@ -1,20 +1,15 @@
 -- Laws of the peer machine.
-use Rattle.std.specs.Prelude.{◌≡◌, ℕ, ◌≤◌, ◌⊎◌, Bool, List, [], ◌∷◌, length, ⊤}
+use Rattle.std.specs.Prelude.{ℕ, ◌≤◌, Bool, List, length, ⊤}
 use Rattle.resolver_request.specs.declared.score.Averages.{Averages}
 use Rattle.resolver_fetch.specs.declared.fetcher.config.Config.{Config}
 use Rattle.resolver_fetch.specs.declared.fetcher.scan.Ask.TheVariants as asks
 use Rattle.resolver_fetch.specs.Waiting.{Waiting}
 use Rattle.resolver_fetch.specs.Snapshot.{eligible}
-use Rattle.resolver_fetch.specs.FetcherLaws.{AllAre, IsOnce}
+use Rattle.resolver_fetch.specs.FetcherLaws.{AllAre, IsAmong, IsOnce}
 use Rattle.resolver.specs.Parties.{Parties, orders_of}
 use Rattle.resolver.specs.Peer.{Machine, Effect, Ask, Input, opening, snapshot, step}
 use Rattle.resolver.specs.PeerRun.{Fed, answers, after, effects_of, all_effects}
 use Rattle.resolver.specs.PeerAccount.{account}
-
--- x is one of these
-abbrev pub IsAmong : {X : Type 0} → X → List X → Type 0
-IsAmong x [] = ⊥
-IsAmong x (y ∷ ys) = (x ≡ y) ⊎ IsAmong x ys
 
 module _ {K S P : Type 0} (a : Parties K S P) where
   -- each response earns at most one credit or one block

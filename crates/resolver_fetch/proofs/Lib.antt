@@ -1,4 +1,8 @@
+pub mod OneOf
+pub mod InVain
 pub mod TriesAll
+pub mod TriesPairs
+pub mod WakesLater
 pub mod NeedsPairs
 pub mod ChoosesBelow
 pub mod Askable

@@ -31,18 +31,11 @@ use Rattle.resolver_fetch.specs.Scan.{Scan, Turn, answered, asks_for, by_place, 
 use Rattle.resolver_fetch.specs.Waiting.{Waiting}
 use Rattle.resolver_fetch.proofs.ChoosesBelow.{chooses_below}
 use Rattle.resolver_fetch.proofs.Continues.{left-after}
+use Rattle.resolver_fetch.proofs.OneOf.{found-passes}
 
 module _ {X : Type 0} where
   some-same : (x y : X) → Some x ≡ Some y → x ≡ y
   some-same x y e = cc
-
-  -- what a search finds passes its test
-  found-passes : (test : X → Bool) (xs : List X) (x : X) → find test xs ≡ Some x → test x ≡ true
-  found-passes test [] x e = cc
-  found-passes test (y ∷ ys) x e = at (test y) refl e (found-passes test ys x) where
-    at : (b : Bool) → test y ≡ b → cond b (Some y) (find test ys) ≡ Some x → (find test ys ≡ Some x → test x ≡ true) → test x ≡ true
-    at true is e rest = ap test (sym (some-same y x e)) ∙ is
-    at false is e rest = rest e
 
   fewer-all : (test : X → Bool) (xs : List X) → length (filter (λ x. not (test x)) xs) ≤ length xs
   fewer-all test [] = omega arith

@@ -1,21 +1,46 @@
 -- What holds of every scan.
-use Rattle.std.specs.Prelude.{◌≡◌, ℕ, Bool, true, false, List, [], ◌∷◌, None, is_some, nat_lt, length, sum, Result, Ok, Err, ⊤}
+use Rattle.std.specs.Prelude.{◌≡◌, ℕ, ◌<◌, ◌⊎◌, Bool, true, false, List, [], ◌∷◌, Option, None, Some, is_some, nat_lt, length, sum, Result, Ok, Err, ⊤}
 use Rattle.resolver_base.specs.declared.base.fault.Fault.{Fault}
 use Rattle.resolver_request.specs.declared.score.Averages.{Averages}
 use Rattle.resolver_fetch.specs.declared.fetcher.scan.Answer.{Answer}
+use Rattle.resolver_fetch.specs.declared.fetcher.trail.Reason.{Reason}
+use Rattle.resolver_fetch.specs.declared.fetcher.trail.Reason.TheVariants.{Limited, Refused}
 use Rattle.resolver_fetch.specs.declared.fetcher.trail.Try.{Try}
+use Rattle.resolver_request.specs.Times.{never}
 use Rattle.resolver_fetch.specs.Orders.{Orders}
+use Rattle.resolver_fetch.specs.Waiting.{Waiting}
 use Rattle.resolver_fetch.specs.Snapshot.{Snapshot, eligible}
 use Rattle.resolver_fetch.specs.Scan.{Scan, Turn, is_over, is_due, was_tried, least_until, weights, by_weight, by_place, begins, takes, question}
+use Rattle.resolver_fetch.specs.Fetcher.{Fetcher, pending_deadline, scan_begin, scan_answer, snapshot, turned, weight}
 
 -- each of these is so
 abbrev pub AllAre : {X : Type 0} → (X → Type 0) → List X → Type 0
 AllAre P [] = ⊤
 AllAre P (x ∷ xs) = P x × AllAre P xs
 
+-- x is one of these
+abbrev pub IsAmong : {X : Type 0} → X → List X → Type 0
+IsAmong x [] = ⊥
+IsAmong x (y ∷ ys) = (x ≡ y) ⊎ IsAmong x ys
+
 abbrev pub is_empty : {X : Type 0} → List X → Bool
 is_empty [] = true
 is_empty (x ∷ xs) = false
+
+-- later than this moment, if there is one
+abbrev pub IsLaterIfAny : (now : ℕ) → Option ℕ → Type 0
+IsLaterIfAny now None = ⊤
+IsLaterIfAny now (Some moment) = now < moment
+
+-- a limit that is over only after this moment, or a refusal
+abbrev pub IsLaterLimit : (now : ℕ) → Reason → Type 0
+IsLaterLimit now (Limited until) = now < until
+IsLaterLimit now Refused = ⊤
+
+-- what an answer makes of a scan; a refused one changes nothing
+abbrev pub unless_refused : {K P : Type 0} → Turn K P → Result (Turn K P) Fault → Turn K P
+unless_refused t (Ok next) = next
+unless_refused t (Err fault) = t
 
 module _ {K P : Type 0} (o : Orders K P) where
   -- each eligible peer of each due key was tried
@@ -57,6 +82,35 @@ module _ {K P : Type 0} (o : Orders K P) where
   abbrev pub IsOnce : List (Try K P) → Type 0
   IsOnce [] = ⊤
   IsOnce (t ∷ trail) = AllAre (λ later. was_tried o (t ∷ []) later.key later.peer ≡ false) trail × IsOnce trail
+
+  -- a pair of a due key and a peer that is eligible for it
+  abbrev pub IsPair : Snapshot K P → (now : ℕ) → Try K P → Type 0
+  IsPair s now t = (w : K × Waiting P) × IsAmong w s.waiting × (w.0 ≡ t.key) × (is_due now w ≡ true)
+      × ((x : Averages) × IsAmong (t.peer, x) (eligible o s w.1.targets))
+
+  -- a scan after these answers, while nothing else changes
+  abbrev pub after_answers : Snapshot K P → Turn K P → List Answer → Turn K P
+  after_answers s t [] = t
+  after_answers s t (answer ∷ answers) =
+      after_answers s (unless_refused t (takes o (record s { last_id = t.last_id }) t.scan answer)) answers
+
+  -- A scan that takes answers while nothing else changes tries pairs of a due key and an eligible peer alone, and none twice.
+  pub record TriesPairs : Type 0 where
+    pub eligible_alone : (s : Snapshot K P) (now : ℕ) (answers : List Answer) → AllAre (IsPair s now) (after_answers s (begins o s now) answers).scan.trail
+    pub none_twice : (s : Snapshot K P) (now : ℕ) (answers : List Answer) → IsOnce (after_answers s (begins o s now) answers).scan.trail
+
+  -- A scan in vain that met no limit at or before its moment wakes later, or never, where retries wait at all.
+  pub record WakesLater : Type 0 where
+    pub at_once : (f : Fetcher K P) (now : ℕ) → 0 < f.configuration.retry_delay → now < never
+        → IsInVain (begins o (snapshot o f) now) → IsLaterIfAny now (pending_deadline (scan_begin o now f))
+    pub later : (f : Fetcher K P) (scan : Scan K P) (answer : Answer) (t : Turn K P) → takes o (snapshot o f) scan answer ≡ Ok t
+        → 0 < f.configuration.retry_delay → t.scan.moment < never → AllAre (λ y. IsLaterLimit t.scan.moment y.reason) t.scan.trail
+        → IsInVain t → IsLaterIfAny t.scan.moment (pending_deadline (turned o t f))
+
+  -- A scan leaves every weight as it was.
+  pub record KeepsWeights : Type 0 where
+    pub begun : (f : Fetcher K P) (peer : P) (now : ℕ) → weight o peer (scan_begin o now f) ≡ weight o peer f
+    pub answered : (f : Fetcher K P) (peer : P) (answer : Answer) → weight o peer (scan_answer o answer f).1 ≡ weight o peer f
 
 -- A number chooses a peer exactly where it is below the asked bound.
 pub record ChoosesBelow (P : Type 0) : Type 0 where
