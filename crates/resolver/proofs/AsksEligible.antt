@@ -1,127 +1,71 @@
 -- Each request goes to a peer that is eligible for its key.
-use Rattle.std.proofs.Common.{◌≡◌, refl, subst, ap, ◌∙◌, sym, ℕ, ◌+◌, ◌^◌, Bool, true, false, not, ◌==◌, List, [], ◌∷◌, ◌++◌, Option, None, Some, Result, Ok, Err, filter, map, if◌then◌else◌}
+use Rattle.std.proofs.Common.{◌≡◌, refl, subst, ap, ◌∙◌, sym, ◌⊎◌, inl, inr, ℕ, ◌+◌, ◌^◌, Bool, true, false, not, ◌==◌, List, [], ◌∷◌, ◌++◌, Option, None, Some, Result, Ok, Err, filter, map, if◌then◌else◌}
 use Rattle.std.specs.Prelude.{option_map, option_and_then, option_to_list, nat_lt, is_none, ⊤}
 use Rattle.std.specs.Map.{lookup}
 use Rattle.resolver_base.specs.declared.base.fault.Fault.{Fault}
-use Rattle.resolver_base.specs.declared.base.fault.Fault.TheVariants.{OutOfRange}
 use Rattle.resolver_base.specs.declared.root.Outcome.{Outcome}
 use Rattle.resolver_base.specs.declared.root.Outcome.TheVariants.{Invalid, Resolved, Unresolved, Ignored}
 use Rattle.resolver_base.specs.Subscribers.{without}
 use Rattle.resolver_fetch.specs.Waiting.{Waiting}
 use Rattle.resolver_request.specs.declared.requests.request.Request.{Request}
 use Rattle.resolver_request.specs.Requests.{overdue}
-use Rattle.resolver_fetch.specs.Snapshot.{eligible}
+use Rattle.resolver_fetch.specs.declared.fetcher.trail.Try.{Try}
+use Rattle.resolver_fetch.specs.Snapshot.{Snapshot, eligible}
 use Rattle.resolver_fetch.specs.declared.fetcher.trail.Expected.{Expected}
 use Rattle.resolver_fetch.specs.declared.fetcher.trail.Expected.TheVariants.{Mode, ByWeight, ByPlace, Checking, FirstId, Sending}
 use Rattle.resolver_fetch.specs.declared.fetcher.trail.Reason.{Reason}
-use Rattle.resolver_fetch.specs.declared.fetcher.trail.Reason.TheVariants.{Limited, Refused}
-use Rattle.resolver_fetch.specs.Scan.{Scan, Turn, next, left, was_tried, takes, takes_for, draws, goes_on_with, begins, clears, question_of, question_for, is_over, asks_for, fails, by_weight, by_place, weights, can_be_tried, mode_of}
-use Rattle.resolver_base.specs.declared.base.check.Check.TheVariants.{Clear, Until}
-use Rattle.resolver_fetch.specs.declared.fetcher.scan.Answer.{Answer}
-use Rattle.resolver_fetch.specs.declared.fetcher.scan.Answer.TheVariants.{Drawn, Checked, Sent}
-use Rattle.resolver_fetch.specs.Scan as scans
+use Rattle.resolver_fetch.specs.Scan.{Scan, Turn, next, left, takes, begins, question_of, is_over, can_be_tried}
 use Rattle.resolver_request.specs.declared.wire.Payload.{Payload}
 use Rattle.resolver_request.specs.declared.wire.Payload.TheVariants as payloads
 use Rattle.resolver.specs.declared.ruling.Ruling.{Ruling}
 use Rattle.resolver.specs.declared.ruling.Ruling.TheVariants as rulings
 use Rattle.resolver.specs.Verdicts.{ruling}
-use Rattle.resolver_fetch.specs.FetcherLaws.{AllAre, IsAmong}
-use Rattle.resolver_fetch.proofs.OneOf.{IsOneOf, among-filter, by_place-among, by_weight-among, found-among}
+use Rattle.resolver_fetch.specs.FetcherLaws.{AllAre, IsAmong, IsOnce}
+use Rattle.resolver_fetch.proofs.OneOf.{IsOneOf, among-filter, found-among}
+use Rattle.resolver_fetch.proofs.Trails.{IsFine, IsFineAfter, IsFineTurn, IsSoundAt, begins-fine, grows-once, takes-fine}
 use Rattle.resolver.specs.Parties.{Parties, orders_of}
 use Rattle.resolver.specs.PeerRows.{Row, Phase, Waits, Asked, Judged}
-use Rattle.resolver.specs.Peer.{Machine, Open, Serve, Done, Effect, Ask, Deliver, Cancel, Produce, Reply, Credit, Block, Status, Running, Ended, Failed, Item, Event, Fetch, Retain, PeerSet, Blocked, ActiveDue, PendingDue, Verdict, Served, Net, End, Input, Happens, Answers, quiet, and_then, snapshot, turned, cancel_in, cancels, closed, served_by, row_of, fetch, fetch_one, times_out, account_for, serves_rest, ruled, ruled_in, ruled_at, verdict_on, responds, misses, answered, receive, does, is_due, wake_up, scanned_if, scanned, step_of, answer_of, step_running, step_in, step, opening, has_subscribers, pruned, is_newer}
+use Rattle.resolver.specs.Peer.{Machine, Open, Serve, Done, Effect, Ask, Deliver, Cancel, Produce, Reply, Credit, Block, Status, Running, Ended, Failed, Item, Event, Fetch, Retain, PeerSet, Blocked, ActiveDue, PendingDue, Verdict, Served, Net, End, Input, Happens, Answers, quiet, and_then, snapshot, turned, with_sent, cancel_in, cancels, closed, served_by, row_of, fetch, fetch_one, times_out, account_for, serves_rest, ruled, ruled_in, ruled_at, verdict_on, responds, misses, answered, receive, does, is_due, wake_up, scanned_if, scanned, step_of, answer_of, step_running, step_in, step, opening, has_subscribers, pruned, is_newer}
 use Rattle.std.specs.List.{cons_option}
 use Rattle.resolver.specs.PeerRun.{Fed, effects_of, after}
 use Rattle.resolver.specs.PeerLaws.{IsWellAsked, AsksEligible}
 
 module _ {K S P : Type 0} (a : Parties K S P) where
-  -- the peer is left for the key that the scan tries
-  abbrev pub IsLeft : Machine K S P → P → Type 0
-  IsLeft m peer = (w : K × Waiting P) → next (orders_of a) (snapshot a m) m.scan ≡ Some w → IsOneOf peer (left (orders_of a) (snapshot a m) m.scan.trail w)
+  -- no pair was tried twice
+  abbrev pub IsTrail : ℕ → List (Try K P) → Type 0
+  IsTrail moment trail = IsOnce (orders_of a) trail
 
-  abbrev pub IsSoundFor : Machine K S P → Expected P → Type 0
-  IsSoundFor m (Checking peer) = IsLeft m peer
-  IsSoundFor m (FirstId peer) = IsLeft m peer
-  IsSoundFor m (Sending peer id) = IsLeft m peer
-  IsSoundFor m expected = ⊤
-
-  abbrev pub IsSoundAt : Machine K S P → Option (Expected P) → Type 0
-  IsSoundAt m None = ⊤
-  IsSoundAt m (Some expected) = IsSoundFor m expected
-
-  -- what the scan expects is of a peer that is left
+  -- and a word is expected only on a peer that is left
   abbrev pub IsSound : Machine K S P → Type 0
-  IsSound m = IsSoundAt m m.scan.expects
+  IsSound m = IsFine (orders_of a) (snapshot a m) IsTrail m.scan
 
   abbrev pub IsSoundTurn : Machine K S P → Result (Turn K P) Fault → Type 0
-  IsSoundTurn m (Err fault) = ⊤
-  IsSoundTurn m (Ok t) = IsSound (turned a m t)
+  IsSoundTurn m r = IsFineAfter (orders_of a) (snapshot a m) IsTrail r
 
-  goes-sound : (m : Machine K S P) (scan : Scan K P) (w : Option (K × Waiting P)) → IsSound (turned a m (goes_on_with (orders_of a) (snapshot a m) scan w))
-  goes-sound m scan None = tt
-  goes-sound m scan (Some w) = tt
+  grows : (s : Snapshot K P) (scan : Scan K P) (w : K × Waiting P) → next (orders_of a) s scan ≡ Some w → (peer : P) (reason : Reason) → IsOneOf peer (left (orders_of a) s scan.trail w)
+      → IsOnce (orders_of a) scan.trail → IsOnce (orders_of a) (scan.trail ++ record { key = w.0; peer = peer; reason = reason } ∷ [])
+  grows s scan w is peer reason found once = grows-once (orders_of a) s scan.trail w peer reason found once
 
-  draws-sound : (m : Machine K S P) (w : K × Waiting P) → next (orders_of a) (snapshot a m) m.scan ≡ Some w
-      → (peer : Option P) → ((p : P) → peer ≡ Some p → IsOneOf p (left (orders_of a) (snapshot a m) m.scan.trail w))
-      → IsSoundTurn m (draws (orders_of a) (snapshot a m) m.scan peer)
-  draws-sound m w is None found = tt
-  draws-sound m w is (Some p) found = λ v same. let e : w ≡ v = cc in let Q : K × Waiting P → Type 0 = λ x. IsOneOf p (left (orders_of a) (snapshot a m) m.scan.trail x) in subst Q e (found p refl)
+  -- the machine that takes a turn
+  sent-sound : (m : Machine K S P) (t : Turn K P) (sent : Option (ℕ × Request K P)) (expects : Option (Expected P)) → (sent ≡ None) ⊎ (expects ≡ None)
+      → IsSoundAt (orders_of a) (snapshot a m) t.scan expects
+      → IsSoundAt (orders_of a) (snapshot a (record (with_sent a m sent) { scan = t.scan; last_id = t.last_id; waiter = t.waiter })) t.scan expects
+  sent-sound m t sent None over here = tt
+  sent-sound m t None (Some Mode) over here = tt
+  sent-sound m t None (Some ByWeight) over here = tt
+  sent-sound m t None (Some ByPlace) over here = tt
+  sent-sound m t None (Some (Checking peer)) over here = here
+  sent-sound m t None (Some (FirstId peer)) over here = here
+  sent-sound m t None (Some (Sending peer id)) over here = here
+  sent-sound m t (Some r) (Some e) (inl none) here = absurd cc
+  sent-sound m t (Some r) (Some e) (inr none) here = absurd cc
 
-  mode-sound : (m : Machine K S P) (b c : Bool) → IsSoundTurn m (if b then Ok (asks_for (orders_of a) (snapshot a m) m.scan (if c then ByWeight else ByPlace)) else Err OutOfRange)
-  mode-sound m true true = tt
-  mode-sound m true false = tt
-  mode-sound m false c = tt
-
-  first-sound : (m : Machine K S P) (peer : P) (b : Bool) (id : ℕ) → IsLeft m peer → IsSoundTurn m (if b then Ok (scans.sends (orders_of a) (snapshot a m) m.scan peer id) else Err OutOfRange)
-  first-sound m peer true id here = here
-  first-sound m peer false id here = tt
-
-  clears-sound : (m : Machine K S P) (peer : P) (last : Option ℕ) → IsLeft m peer → IsSound (turned a m (clears (orders_of a) (snapshot a m) m.scan peer last))
-  clears-sound m peer None here = here
-  clears-sound m peer (Some last) here = here
-
-  fails-sound : (m : Machine K S P) (key : K) (peer : P) (reason : Reason) → IsSound (turned a m (fails (orders_of a) (snapshot a m) m.scan key peer reason))
-  fails-sound m key peer reason =
-      let scan : Scan K P = record m.scan { trail = m.scan.trail ++ record { key = key; peer = peer; reason = reason } ∷ [] } in
-      goes-sound m scan (next (orders_of a) (snapshot a m) scan)
-
-  answered-sound : (m : Machine K S P) (w : K × Waiting P) → next (orders_of a) (snapshot a m) m.scan ≡ Some w
-      → (expected : Expected P) → IsSoundFor m expected → (answer : Answer) → IsSoundTurn m (scans.answered (orders_of a) (snapshot a m) m.scan w expected answer)
-  answered-sound m w is Mode here (Drawn n) = mode-sound m (nat_lt n (w.1.retries + 4)) (nat_lt n 4)
-  answered-sound m w is Mode here (Checked check) = tt
-  answered-sound m w is Mode here (Sent accepted) = tt
-  answered-sound m w is ByWeight here (Drawn n) = draws-sound m w is (by_weight (left (orders_of a) (snapshot a m) m.scan.trail w) n) (by_weight-among (left (orders_of a) (snapshot a m) m.scan.trail w) n)
-  answered-sound m w is ByWeight here (Checked check) = tt
-  answered-sound m w is ByWeight here (Sent accepted) = tt
-  answered-sound m w is ByPlace here (Drawn n) = draws-sound m w is (by_place (left (orders_of a) (snapshot a m) m.scan.trail w) n) (by_place-among (left (orders_of a) (snapshot a m) m.scan.trail w) n)
-  answered-sound m w is ByPlace here (Checked check) = tt
-  answered-sound m w is ByPlace here (Sent accepted) = tt
-  answered-sound m w is (Checking peer) here (Drawn n) = tt
-  answered-sound m w is (Checking peer) here (Checked Clear) = clears-sound m peer m.last_id here
-  answered-sound m w is (Checking peer) here (Checked (Until moment)) = fails-sound m w.0 peer (Limited moment)
-  answered-sound m w is (Checking peer) here (Sent accepted) = tt
-  answered-sound m w is (FirstId peer) here (Drawn n) = first-sound m peer (nat_lt n (2 ^ 64)) n here
-  answered-sound m w is (FirstId peer) here (Checked check) = tt
-  answered-sound m w is (FirstId peer) here (Sent accepted) = tt
-  answered-sound m w is (Sending peer id) here (Drawn n) = tt
-  answered-sound m w is (Sending peer id) here (Checked check) = tt
-  answered-sound m w is (Sending peer id) here (Sent true) = tt
-  answered-sound m w is (Sending peer id) here (Sent false) = fails-sound m w.0 peer Refused
-
-  takes-sound : (m : Machine K S P) (w : Option (K × Waiting P)) → next (orders_of a) (snapshot a m) m.scan ≡ w
-      → (expected : Option (Expected P)) → IsSoundAt m expected → (answer : Answer) → IsSoundTurn m (takes_for (orders_of a) (snapshot a m) m.scan w expected answer)
-  takes-sound m None is expected here answer = tt
-  takes-sound m (Some w) is None here answer = tt
-  takes-sound m (Some w) is (Some expected) here answer = answered-sound m w is expected here answer
-
-  begins-sound : (m : Machine K S P) (now : ℕ) → IsSound (turned a m (begins (orders_of a) (snapshot a m) now))
-  begins-sound m now =
-      let scan : Scan K P = record { moment = now; trail = []; expects = None } in
-      goes-sound m scan (next (orders_of a) (snapshot a m) scan)
+  turned-sound : (m : Machine K S P) (t : Turn K P) → IsFineTurn (orders_of a) (snapshot a m) IsTrail t → IsSound (turned a m t)
+  turned-sound m t fine = (fine.0.0, sent-sound m t t.sent t.scan.expects fine.1 fine.0.1)
 
   -- what a sound machine asks
   question-well : (m : Machine K S P) (w : Option (K × Waiting P)) → next (orders_of a) (snapshot a m) m.scan ≡ w
-      → (expected : Option (Expected P)) → IsSoundAt m expected
+      → (expected : Option (Expected P)) → IsSoundAt (orders_of a) (snapshot a m) m.scan expected
       → AllAre (IsWellAsked a m) (option_to_list (option_map Ask (question_of (orders_of a) (snapshot a m) m.scan w expected)))
   question-well m None is expected here = tt
   question-well m (Some w) is None here = tt
@@ -267,18 +211,18 @@ module _ {K S P : Type 0} (a : Parties K S P) where
   no-question n (Block response peer ∷ effects) none = (tt, no-question n effects none.1)
 
   -- a sound machine, and what it asked
-  abbrev pub IsFine : Result (List (Effect K S P)) Fault × Machine K S P → Type 0
-  IsFine answer = IsSound a answer.1 × AllAre (IsWellAsked a answer.1) (effects_of answer.0)
+  abbrev pub IsFineAnswer : Result (List (Effect K S P)) Fault × Machine K S P → Type 0
+  IsFineAnswer answer = IsSound a answer.1 × AllAre (IsWellAsked a answer.1) (effects_of answer.0)
 
   scanned-fine : (b : Bool) (m : Machine K S P) (now : ℕ) → IsSound a m → IsSound a (scanned_if a b m now).machine × AllAre (IsWellAsked a (scanned_if a b m now).machine) (scanned_if a b m now).effects
   scanned-fine true m now here =
       let n : Machine K S P = turned a m (begins (orders_of a) (snapshot a m) now) in
-      let sound : IsSound a n = begins-sound a m now in
-      (sound, question-well a n (next (orders_of a) (snapshot a n) n.scan) refl n.scan.expects sound)
+      let sound : IsSound a n = turned-sound a m (begins (orders_of a) (snapshot a m) now) (begins-fine (orders_of a) (snapshot a m) (IsTrail a) (grows a (snapshot a m)) now tt) in
+      (sound, question-well a n (next (orders_of a) (snapshot a n) n.scan) refl n.scan.expects sound.1)
   scanned-fine false m now here = (here, tt)
 
   happened-fine : (o : Option (Done K S P)) (m : Machine K S P) (now : ℕ) → IsSound a m → ((d : Done K S P) → o ≡ Some d → IsSound a d.machine × AllAre IsNoQuestion d.effects)
-      → IsFine (step_of a (option_and_then (λ d. and_then d (λ n. Some (scanned a n now))) o) m)
+      → IsFineAnswer (step_of a (option_and_then (λ d. and_then d (λ n. Some (scanned a n now))) o) m)
   happened-fine None m now sound here = (sound, tt)
   happened-fine (Some d) m now sound here =
       let calm : _ = here d refl in
@@ -291,47 +235,51 @@ module _ {K S P : Type 0} (a : Parties K S P) where
   over-none m (Some e) is = cc
 
   -- nothing is expected
-  over-sound : (m n : Machine K S P) → is_over m.scan ≡ true → n.scan ≡ m.scan → IsSound a n
-  over-sound m n is same =
+  over-sound : (m n : Machine K S P) → IsSound a m → is_over m.scan ≡ true → n.scan ≡ m.scan → IsSound a n
+  over-sound m n sound is same =
       let none : n.scan.expects ≡ None = ap (λ scan. scan.expects) same ∙ over-none m m.scan.expects is in
-      let Q : Option (Expected P) → Type 0 = λ e. IsSoundAt a n e in
-      subst Q (sym none) tt
+      let Q : Option (Expected P) → Type 0 = λ e. IsSoundAt (orders_of a) (snapshot a n) n.scan e in
+      (subst (λ (scan : Scan K P). IsOnce (orders_of a) scan.trail) (sym same) sound.0, subst Q (sym none) tt)
 
-  calm-fine : (m : Machine K S P) → is_over m.scan ≡ true → (o : Option (Done K S P)) → IsCalmIfDone m o → (d : Done K S P) → o ≡ Some d → IsSound a d.machine × AllAre IsNoQuestion d.effects
-  calm-fine m is None calm d e = cc
-  calm-fine m is (Some c) calm d e =
+  calm-fine : (m : Machine K S P) → IsSound a m → is_over m.scan ≡ true → (o : Option (Done K S P)) → IsCalmIfDone m o → (d : Done K S P) → o ≡ Some d → IsSound a d.machine × AllAre IsNoQuestion d.effects
+  calm-fine m sound is None calm d e = cc
+  calm-fine m sound is (Some c) calm d e =
       let same : c ≡ d = cc in
       let Q : Done K S P → Type 0 = λ x. IsSound a x.machine × AllAre IsNoQuestion x.effects in
-      subst Q same (over-sound m c.machine is calm.0, calm.1)
+      subst Q same (over-sound m c.machine sound is calm.0, calm.1)
 
-  answered-fine : (t : Result (Turn K P) Fault) (m : Machine K S P) → IsSound a m → IsSoundTurn a m t → IsFine (answer_of a t m)
+  answered-fine : (t : Result (Turn K P) Fault) (m : Machine K S P) → IsSound a m → IsSoundTurn a m t → IsFineAnswer (answer_of a t m)
   answered-fine (Err fault) m sound here = (sound, tt)
   answered-fine (Ok t) m sound here =
       let n : Machine K S P = turned a m t in
-      (here, question-well a n (next (orders_of a) (snapshot a n) n.scan) refl n.scan.expects here)
+      let fine : IsSound a n = turned-sound a m t here in
+      (fine, question-well a n (next (orders_of a) (snapshot a n) n.scan) refl n.scan.expects fine.1)
 
-  running-fine : (over : Bool) (m : Machine K S P) (now : ℕ) (input : Input K S P) → IsSound a m → is_over m.scan ≡ over → IsFine (step_running a over m now input)
+  running-fine : (over : Bool) (m : Machine K S P) (now : ℕ) (input : Input K S P) → IsSound a m → is_over m.scan ≡ over → IsFineAnswer (step_running a over m now input)
   running-fine true m now (Happens event) sound is =
       let begun : Machine K S P = record m { moment = now } in
-      happened-fine (does a begun now event) m now sound (calm-fine begun is (does a begun now event) (does-calm begun now event))
+      happened-fine (does a begun now event) m now sound (calm-fine begun sound is (does a begun now event) (does-calm begun now event))
   running-fine false m now (Happens event) sound is = (sound, tt)
   running-fine over m now (Answers answer) sound is =
       answered-fine (takes (orders_of a) (snapshot a m) m.scan answer) m sound
-      (takes-sound a m (next (orders_of a) (snapshot a m) m.scan) refl m.scan.expects sound answer)
+      (takes-fine (orders_of a) (snapshot a m) (IsTrail a) (grows a (snapshot a m)) m.scan sound answer)
 
-  in-fine : (status : Status) (m : Machine K S P) (now : ℕ) (input : Input K S P) → IsSound a m → IsFine (step_in a status m now input)
+  in-fine : (status : Status) (m : Machine K S P) (now : ℕ) (input : Input K S P) → IsSound a m → IsFineAnswer (step_in a status m now input)
   in-fine Failed m now input sound = (sound, tt)
   in-fine Ended m now input sound = (sound, tt)
   in-fine Running m now input sound = running-fine (is_over m.scan) m now input sound refl
 
-  pub step-fine : (m : Machine K S P) (now : ℕ) (input : Input K S P) → IsSound a m → IsFine (step a m now input)
+  pub step-fine : (m : Machine K S P) (now : ℕ) (input : Input K S P) → IsSound a m → IsFineAnswer (step a m now input)
   step-fine m now input sound = in-fine m.status m now input sound
 
   pub after-sound : (m : Machine K S P) (inputs : List (Fed K S P)) → IsSound a m → IsSound a (after a m inputs)
   after-sound m [] sound = sound
   after-sound m (i ∷ is) sound = after-sound (step a m i.now i.input).1 is (step-fine m i.now i.input sound).0
 
+  pub run-sound : (configuration : _) (replies_first : Bool) (inputs : List (Fed K S P)) → IsSound a (after a (opening configuration replies_first) inputs)
+  run-sound configuration replies_first inputs = after-sound (opening configuration replies_first) inputs (tt, tt)
+
   -- each request goes to a peer that is eligible for its key
   pub asks_eligible : AsksEligible a
   asks_eligible configuration replies_first inputs now input =
-      (step-fine (after a (opening configuration replies_first) inputs) now input (after-sound (opening configuration replies_first) inputs tt)).1
+      (step-fine (after a (opening configuration replies_first) inputs) now input (run-sound configuration replies_first inputs)).1

@@ -1,4 +1,5 @@
 pub mod OneOf
+pub mod Trails
 pub mod InVain
 pub mod TriesAll
 pub mod TriesPairs
