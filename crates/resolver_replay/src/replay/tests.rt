@@ -10,113 +10,114 @@ fn replayed(alloc: Global, script: &[u8]) -> Result<(Vec<u8>, Result<Ending, Fau
     Ok((output, ended))
 }
 
-// Worked rows, and what they leave out.
+/// Worked rows, and what they leave out: a name, a script, and what it prints.
+const SCRIPTS: [(&str, &[u8], &[u8]); 21] = [
+    (
+        "opaque_first_run",
+        b"opaque 100\nfetch 1 10 7\nfetched 0 x6869\nverdict 0 complete\nshow\n",
+        b"start 0 1\ndeliver 0 1 10 x6869\nwake none\n",
+    ),
+    (
+        "a wait, before, at and past its due",
+        b"opaque 100\nat 5\nfetch 1 10 7\nfetched 0 none\nshow\nat 105\nshow\nat 106\nshow\n",
+        b"start 0 1\nkey 1 subs 10:7 phase waiting 105\nwake 105\nkey 1 subs 10:7 phase waiting 105\nwake 105\nkey 1 subs 10:7 phase waiting 105\nwake 105\n",
+    ),
+    (
+        "a second value of one attempt",
+        b"opaque 0\nfetch 1 10 7\nfetched 0 xAB\nfetched 0 xcd\nshow\n",
+        b"start 0 1\ndeliver 0 1 10 xab\nkey 1 subs 10:7 phase judged 0\nwake none\n",
+    ),
+    (
+        "a verdict twice, and one of a number never handed out",
+        b"opaque 7\nfetch 1 10 7\nfetched 0 x\nverdict 5 complete\nverdict 0 partial\nverdict 0 complete\nshow\n",
+        b"start 0 1\ndeliver 0 1 10 x\nkey 1 subs 10:7 phase waiting 7\nwake 7\n",
+    ),
+    (
+        "late_subscriber",
+        b"opaque 100\nfetch 1 10 7\nfetched 0 x6869\nfetch 1 11 8\nverdict 0 complete\nverdict 1 invalid\nshow\n",
+        b"start 0 1\ndeliver 0 1 10 x6869\ndeliver 1 1 11 x6869 again 0\nwake none\n",
+    ),
+    (
+        "a late subscriber of a dropped delivery",
+        b"opaque 100\nfetch 1 10 7\nfetched 0 x6869\nfetch 1 11 8\nverdict 0 dropped\nverdict 1 invalid\nshow\n",
+        b"start 0 1\ndeliver 0 1 10 x6869\ndeliver 1 1 11 x6869 again 0\nkey 1 subs 11:8 phase waiting 100\nwake 100\n",
+    ),
+    (
+        "a dropped delivery",
+        b"opaque 100\nfetch 1 10 7\nfetched 0 x6869\nverdict 0 dropped\nshow\n",
+        b"start 0 1\ndeliver 0 1 10 x6869\nwake none\n",
+    ),
+    (
+        "the mark of a subscriber that is there stays, and keys are in order",
+        b"opaque 1\nfetch 2 10 7\nfetch 1 20 0\nfetch 2 9 1\nfetch 2 10 8\nshow\n",
+        b"start 0 2\nstart 1 1\nkey 1 subs 20:0 phase asked 1\nkey 2 subs 9:1,10:7 phase asked 0\nwake none\n",
+    ),
+    (
+        "the greatest numbers",
+        b"opaque 19807040628566084398385987583\nat 19807040628566084398385987583\nfetch 255 65535 18446744073709551615\nfetched 18446744073709551615 none\nverdict 18446744073709551615 ignored\nfetched 0 none\nshow\n",
+        b"start 0 255\nkey 255 subs 65535:18446744073709551615 phase waiting 39614081257132168796771975166\nwake 39614081257132168796771975166\n",
+    ),
+    (
+        "the earliest of several",
+        b"opaque 10\nfetch 1 1 0\nfetch 2 2 0\nat 5\nfetched 0 none\nat 2\nfetched 1 none\nshow\n",
+        b"start 0 1\nstart 1 2\nkey 1 subs 1:0 phase waiting 15\nkey 2 subs 2:0 phase waiting 12\nwake 12\n",
+    ),
+    (
+        "ignored and unresolved",
+        b"opaque 10\nfetch 1 1 0\nfetch 2 2 0\nfetched 0 xaa\nfetched 1 xbb\nverdict 0 ignored\nverdict 1 unresolved\nshow\n",
+        b"start 0 1\nstart 1 2\ndeliver 0 1 1 xaa\ndeliver 1 2 2 xbb\nkey 2 subs 2:0 phase waiting 10\nwake 10\n",
+    ),
+    (
+        "opaque_retry",
+        b"opaque 100\nfetch 1 10 7\nfetched 0 none\nshow\nat 99\nwake\nat 100\nwake\nfetched 0 xaa\nfetch 1 10 9\nshow\n",
+        b"start 0 1\nkey 1 subs 10:7 phase waiting 100\nwake 100\nstart 1 1\nkey 1 subs 10:7 phase asked 1\nwake none\n",
+    ),
+    (
+        "keys due at one moment in key order, after one that is due earlier",
+        b"opaque 10\nfetch 1 1 0\nfetch 2 2 0\nfetch 3 3 0\nfetch 4 4 0\nfetched 3 none\nat 5\nfetched 2 none\nfetched 0 none\nat 6\nfetched 1 none\nat 15\nwake\nshow\n",
+        b"start 0 1\nstart 1 2\nstart 2 3\nstart 3 4\nstart 4 4\nstart 5 1\nstart 6 3\nkey 1 subs 1:0 phase asked 5\nkey 2 subs 2:0 phase waiting 16\nkey 3 subs 3:0 phase asked 6\nkey 4 subs 4:0 phase asked 4\nwake 16\n",
+    ),
+    (
+        "dropped_then_fetched_again",
+        b"opaque 100\nfetch 1 10 7\nfetched 0 x6869\ndrop-key 1\nfetch 1 12 9\nverdict 0 complete\nshow\n",
+        b"start 0 1\ndeliver 0 1 10 x6869\ncancel 0\nstart 1 1\nkey 1 subs 12:9 phase asked 1\nwake none\n",
+    ),
+    (
+        "pruned_then_fetched_again",
+        b"opaque 100\nfetch 1 10 7\nfetch 1 11 8\nfetched 0 x6869\nkeep-sub 11\nfetch 1 10 9\nverdict 0 complete\nshow\n",
+        b"start 0 1\ndeliver 0 1 10,11 x6869\nwake none\n",
+    ),
+    (
+        "a retain that keeps no subscriber of a waiting, an asked and a judged key",
+        b"opaque 100\nfetch 3 1 0\nfetch 2 1 0\nfetch 1 1 0\nfetch 4 1 0\nfetch 4 2 5\nfetched 0 none\nfetched 1 x01\nkeep-sub 2\nshow\n",
+        b"start 0 3\nstart 1 2\nstart 2 1\nstart 3 4\ndeliver 0 2 1 x01\nabort 2\ncancel 0\nkey 4 subs 2:5 phase asked 3\nwake none\n",
+    ),
+    (
+        "a stop with a judged, an asked and a waiting key",
+        b"opaque 100\nfetch 2 20 0\nfetch 1 10 0\nfetch 3 30 0\nfetched 0 x6869\nfetched 2 none\nstop\nshow\n",
+        b"start 0 2\nstart 1 1\nstart 2 3\ndeliver 0 2 20 x6869\nabort 1\ncancel 0\nwake none\n",
+    ),
+    (
+        "lines after a stop, and a stop twice",
+        b"opaque 100\nstop\nat 5\nfetch 1 10 7\nfetched 0 x\nverdict 0 complete\nkeep-sub 1\ndrop-key 1\nwake\nstop\nshow\n",
+        b"refused 3 Ended\nrefused 3 Ended\nrefused 3 Ended\nrefused 3 Ended\nrefused 3 Ended\nrefused 3 Ended\nrefused 3 Ended\nwake none\n",
+    ),
+    (
+        "empty lines and comments, with any bytes",
+        b"\n# first\n\nopaque 100\n#\xff\n\nshow\n#",
+        b"wake none\n",
+    ),
+    (
+        "a last line without its LF",
+        b"opaque 1\nshow",
+        b"wake none\n",
+    ),
+    ("nothing at all", b"", b""),
+];
+
 #[test]
 fn scripts(rt: HostRuntime) -> Result<(), Fail> {
-    let cases: [(&str, &[u8], &[u8]); 21] = [
-        (
-            "opaque_first_run",
-            b"opaque 100\nfetch 1 10 7\nfetched 0 x6869\nverdict 0 complete\nshow\n",
-            b"start 0 1\ndeliver 0 1 10 x6869\nwake none\n",
-        ),
-        (
-            "a wait, before, at and past its due",
-            b"opaque 100\nat 5\nfetch 1 10 7\nfetched 0 none\nshow\nat 105\nshow\nat 106\nshow\n",
-            b"start 0 1\nkey 1 subs 10:7 phase waiting 105\nwake 105\nkey 1 subs 10:7 phase waiting 105\nwake 105\nkey 1 subs 10:7 phase waiting 105\nwake 105\n",
-        ),
-        (
-            "a second value of one attempt",
-            b"opaque 0\nfetch 1 10 7\nfetched 0 xAB\nfetched 0 xcd\nshow\n",
-            b"start 0 1\ndeliver 0 1 10 xab\nkey 1 subs 10:7 phase judged 0\nwake none\n",
-        ),
-        (
-            "a verdict twice, and one of a number never handed out",
-            b"opaque 7\nfetch 1 10 7\nfetched 0 x\nverdict 5 complete\nverdict 0 partial\nverdict 0 complete\nshow\n",
-            b"start 0 1\ndeliver 0 1 10 x\nkey 1 subs 10:7 phase waiting 7\nwake 7\n",
-        ),
-        (
-            "late_subscriber",
-            b"opaque 100\nfetch 1 10 7\nfetched 0 x6869\nfetch 1 11 8\nverdict 0 complete\nverdict 1 invalid\nshow\n",
-            b"start 0 1\ndeliver 0 1 10 x6869\ndeliver 1 1 11 x6869 again 0\nwake none\n",
-        ),
-        (
-            "a late subscriber of a dropped delivery",
-            b"opaque 100\nfetch 1 10 7\nfetched 0 x6869\nfetch 1 11 8\nverdict 0 dropped\nverdict 1 invalid\nshow\n",
-            b"start 0 1\ndeliver 0 1 10 x6869\ndeliver 1 1 11 x6869 again 0\nkey 1 subs 11:8 phase waiting 100\nwake 100\n",
-        ),
-        (
-            "a dropped delivery",
-            b"opaque 100\nfetch 1 10 7\nfetched 0 x6869\nverdict 0 dropped\nshow\n",
-            b"start 0 1\ndeliver 0 1 10 x6869\nwake none\n",
-        ),
-        (
-            "the mark of a subscriber that is there stays, and keys are in order",
-            b"opaque 1\nfetch 2 10 7\nfetch 1 20 0\nfetch 2 9 1\nfetch 2 10 8\nshow\n",
-            b"start 0 2\nstart 1 1\nkey 1 subs 20:0 phase asked 1\nkey 2 subs 9:1,10:7 phase asked 0\nwake none\n",
-        ),
-        (
-            "the greatest numbers",
-            b"opaque 19807040628566084398385987583\nat 19807040628566084398385987583\nfetch 255 65535 18446744073709551615\nfetched 18446744073709551615 none\nverdict 18446744073709551615 ignored\nfetched 0 none\nshow\n",
-            b"start 0 255\nkey 255 subs 65535:18446744073709551615 phase waiting 39614081257132168796771975166\nwake 39614081257132168796771975166\n",
-        ),
-        (
-            "the earliest of several",
-            b"opaque 10\nfetch 1 1 0\nfetch 2 2 0\nat 5\nfetched 0 none\nat 2\nfetched 1 none\nshow\n",
-            b"start 0 1\nstart 1 2\nkey 1 subs 1:0 phase waiting 15\nkey 2 subs 2:0 phase waiting 12\nwake 12\n",
-        ),
-        (
-            "ignored and unresolved",
-            b"opaque 10\nfetch 1 1 0\nfetch 2 2 0\nfetched 0 xaa\nfetched 1 xbb\nverdict 0 ignored\nverdict 1 unresolved\nshow\n",
-            b"start 0 1\nstart 1 2\ndeliver 0 1 1 xaa\ndeliver 1 2 2 xbb\nkey 2 subs 2:0 phase waiting 10\nwake 10\n",
-        ),
-        (
-            "opaque_retry",
-            b"opaque 100\nfetch 1 10 7\nfetched 0 none\nshow\nat 99\nwake\nat 100\nwake\nfetched 0 xaa\nfetch 1 10 9\nshow\n",
-            b"start 0 1\nkey 1 subs 10:7 phase waiting 100\nwake 100\nstart 1 1\nkey 1 subs 10:7 phase asked 1\nwake none\n",
-        ),
-        (
-            "keys due at one moment in key order, after one that is due earlier",
-            b"opaque 10\nfetch 1 1 0\nfetch 2 2 0\nfetch 3 3 0\nfetch 4 4 0\nfetched 3 none\nat 5\nfetched 2 none\nfetched 0 none\nat 6\nfetched 1 none\nat 15\nwake\nshow\n",
-            b"start 0 1\nstart 1 2\nstart 2 3\nstart 3 4\nstart 4 4\nstart 5 1\nstart 6 3\nkey 1 subs 1:0 phase asked 5\nkey 2 subs 2:0 phase waiting 16\nkey 3 subs 3:0 phase asked 6\nkey 4 subs 4:0 phase asked 4\nwake 16\n",
-        ),
-        (
-            "dropped_then_fetched_again",
-            b"opaque 100\nfetch 1 10 7\nfetched 0 x6869\ndrop-key 1\nfetch 1 12 9\nverdict 0 complete\nshow\n",
-            b"start 0 1\ndeliver 0 1 10 x6869\ncancel 0\nstart 1 1\nkey 1 subs 12:9 phase asked 1\nwake none\n",
-        ),
-        (
-            "pruned_then_fetched_again",
-            b"opaque 100\nfetch 1 10 7\nfetch 1 11 8\nfetched 0 x6869\nkeep-sub 11\nfetch 1 10 9\nverdict 0 complete\nshow\n",
-            b"start 0 1\ndeliver 0 1 10,11 x6869\nwake none\n",
-        ),
-        (
-            "a retain that keeps no subscriber of a waiting, an asked and a judged key",
-            b"opaque 100\nfetch 3 1 0\nfetch 2 1 0\nfetch 1 1 0\nfetch 4 1 0\nfetch 4 2 5\nfetched 0 none\nfetched 1 x01\nkeep-sub 2\nshow\n",
-            b"start 0 3\nstart 1 2\nstart 2 1\nstart 3 4\ndeliver 0 2 1 x01\nabort 2\ncancel 0\nkey 4 subs 2:5 phase asked 3\nwake none\n",
-        ),
-        (
-            "a stop with a judged, an asked and a waiting key",
-            b"opaque 100\nfetch 2 20 0\nfetch 1 10 0\nfetch 3 30 0\nfetched 0 x6869\nfetched 2 none\nstop\nshow\n",
-            b"start 0 2\nstart 1 1\nstart 2 3\ndeliver 0 2 20 x6869\nabort 1\ncancel 0\nwake none\n",
-        ),
-        (
-            "lines after a stop, and a stop twice",
-            b"opaque 100\nstop\nat 5\nfetch 1 10 7\nfetched 0 x\nverdict 0 complete\nkeep-sub 1\ndrop-key 1\nwake\nstop\nshow\n",
-            b"refused 3 Ended\nrefused 3 Ended\nrefused 3 Ended\nrefused 3 Ended\nrefused 3 Ended\nrefused 3 Ended\nrefused 3 Ended\nwake none\n",
-        ),
-        (
-            "empty lines and comments, with any bytes",
-            b"\n# first\n\nopaque 100\n#\xff\n\nshow\n#",
-            b"wake none\n",
-        ),
-        (
-            "a last line without its LF",
-            b"opaque 1\nshow",
-            b"wake none\n",
-        ),
-        ("nothing at all", b"", b""),
-    ];
-    for (name, script, printed) in cases {
+    for (name, script, printed) in SCRIPTS {
         let (output, ended) = replayed(rt.alloc(), script)?;
         assert_eq!(rt; output.as_slice(), printed, "{name}");
         assert_eq!(rt; ended, Ok(Ending::End), "{name}");
@@ -124,67 +125,69 @@ fn scripts(rt: HostRuntime) -> Result<(), Fail> {
     Ok(())
 }
 
+/// Scripts with a line that can't be read, and what they print.
+const UNREADABLE: [(&[u8], &[u8]); 43] = [
+    (b"show\n", b"line 1 unreadable\n"),
+    (b"p2p 9 50 10\n", b"line 1 unreadable\n"),
+    (b"\n# \nfetch 1 10 7\n", b"line 3 unreadable\n"),
+    (b"opaque 1\nopaque 1\nshow\n", b"line 2 unreadable\n"),
+    (
+        b"opaque 1\n\nshow\np2p 9 50 10\nshow\n",
+        b"wake none\nline 4 unreadable\n",
+    ),
+    (b"opaque\n", b"line 1 unreadable\n"),
+    (b"opaque 01\n", b"line 1 unreadable\n"),
+    (b"opaque +1\n", b"line 1 unreadable\n"),
+    (b"opaque -1\n", b"line 1 unreadable\n"),
+    (b"opaque 1 \n", b"line 1 unreadable\n"),
+    (b" opaque 1\n", b"line 1 unreadable\n"),
+    (b"opaque  1\n", b"line 1 unreadable\n"),
+    (b"opaque 1\r\n", b"line 1 unreadable\n"),
+    (b"opaque\t1\n", b"line 1 unreadable\n"),
+    (b"Opaque 1\n", b"line 1 unreadable\n"),
+    (
+        b"opaque 19807040628566084398385987584\n",
+        b"line 1 unreadable\n",
+    ),
+    (
+        b"opaque 340282366920938463463374607431768211456\n",
+        b"line 1 unreadable\n",
+    ),
+    (b"opaque 1\n \nshow\n", b"line 2 unreadable\n"),
+    (b"opaque 1\n # no comment\n", b"line 2 unreadable\n"),
+    (b"opaque 1\nshow all\n", b"line 2 unreadable\n"),
+    (b"opaque 1\n\xff\n", b"line 2 unreadable\n"),
+    (b"opaque 1\nat\n", b"line 2 unreadable\n"),
+    (b"opaque 1\nat 1 2\n", b"line 2 unreadable\n"),
+    (b"opaque 1\nfetch 1 10\n", b"line 2 unreadable\n"),
+    (b"opaque 1\nfetch 256 10 7\n", b"line 2 unreadable\n"),
+    (b"opaque 1\nfetch 1 65536 7\n", b"line 2 unreadable\n"),
+    (
+        b"opaque 1\nfetch 1 10 18446744073709551616\n",
+        b"line 2 unreadable\n",
+    ),
+    (b"opaque 1\nfetch 1 10 7 3\n", b"line 2 unreadable\n"),
+    (b"opaque 1\nfetched 0\n", b"line 2 unreadable\n"),
+    (b"opaque 1\nfetched 0 68\n", b"line 2 unreadable\n"),
+    (b"opaque 1\nfetched 0 x6\n", b"line 2 unreadable\n"),
+    (b"opaque 1\nfetched 0 X68\n", b"line 2 unreadable\n"),
+    (b"opaque 1\nfetched 0 xg0\n", b"line 2 unreadable\n"),
+    (b"opaque 1\nfetched 0 none none\n", b"line 2 unreadable\n"),
+    (b"opaque 1\nverdict 0\n", b"line 2 unreadable\n"),
+    (b"opaque 1\nverdict 0 Complete\n", b"line 2 unreadable\n"),
+    (b"opaque 1\nverdict x complete\n", b"line 2 unreadable\n"),
+    (b"opaque 1\nwake 5\n", b"line 2 unreadable\n"),
+    (b"opaque 1\nstop now\n", b"line 2 unreadable\n"),
+    (b"opaque 1\nkeep-sub\n", b"line 2 unreadable\n"),
+    (b"opaque 1\nkeep-sub 65536\n", b"line 2 unreadable\n"),
+    (b"opaque 1\ndrop-key 256\n", b"line 2 unreadable\n"),
+    (b"opaque 1\nnet 4 x00\n", b"line 2 unreadable\n"),
+];
+
 // The first line that can't be read ends the script, and is named.
 #[test]
 fn unreadable_lines(rt: HostRuntime) -> Result<(), Fail> {
-    let cases: [(&[u8], &[u8]); 43] = [
-        (b"show\n", b"line 1 unreadable\n"),
-        (b"p2p 9 50 10\n", b"line 1 unreadable\n"),
-        (b"\n# \nfetch 1 10 7\n", b"line 3 unreadable\n"),
-        (b"opaque 1\nopaque 1\nshow\n", b"line 2 unreadable\n"),
-        (
-            b"opaque 1\n\nshow\np2p 9 50 10\nshow\n",
-            b"wake none\nline 4 unreadable\n",
-        ),
-        (b"opaque\n", b"line 1 unreadable\n"),
-        (b"opaque 01\n", b"line 1 unreadable\n"),
-        (b"opaque +1\n", b"line 1 unreadable\n"),
-        (b"opaque -1\n", b"line 1 unreadable\n"),
-        (b"opaque 1 \n", b"line 1 unreadable\n"),
-        (b" opaque 1\n", b"line 1 unreadable\n"),
-        (b"opaque  1\n", b"line 1 unreadable\n"),
-        (b"opaque 1\r\n", b"line 1 unreadable\n"),
-        (b"opaque\t1\n", b"line 1 unreadable\n"),
-        (b"Opaque 1\n", b"line 1 unreadable\n"),
-        (
-            b"opaque 19807040628566084398385987584\n",
-            b"line 1 unreadable\n",
-        ),
-        (
-            b"opaque 340282366920938463463374607431768211456\n",
-            b"line 1 unreadable\n",
-        ),
-        (b"opaque 1\n \nshow\n", b"line 2 unreadable\n"),
-        (b"opaque 1\n # no comment\n", b"line 2 unreadable\n"),
-        (b"opaque 1\nshow all\n", b"line 2 unreadable\n"),
-        (b"opaque 1\n\xff\n", b"line 2 unreadable\n"),
-        (b"opaque 1\nat\n", b"line 2 unreadable\n"),
-        (b"opaque 1\nat 1 2\n", b"line 2 unreadable\n"),
-        (b"opaque 1\nfetch 1 10\n", b"line 2 unreadable\n"),
-        (b"opaque 1\nfetch 256 10 7\n", b"line 2 unreadable\n"),
-        (b"opaque 1\nfetch 1 65536 7\n", b"line 2 unreadable\n"),
-        (
-            b"opaque 1\nfetch 1 10 18446744073709551616\n",
-            b"line 2 unreadable\n",
-        ),
-        (b"opaque 1\nfetch 1 10 7 3\n", b"line 2 unreadable\n"),
-        (b"opaque 1\nfetched 0\n", b"line 2 unreadable\n"),
-        (b"opaque 1\nfetched 0 68\n", b"line 2 unreadable\n"),
-        (b"opaque 1\nfetched 0 x6\n", b"line 2 unreadable\n"),
-        (b"opaque 1\nfetched 0 X68\n", b"line 2 unreadable\n"),
-        (b"opaque 1\nfetched 0 xg0\n", b"line 2 unreadable\n"),
-        (b"opaque 1\nfetched 0 none none\n", b"line 2 unreadable\n"),
-        (b"opaque 1\nverdict 0\n", b"line 2 unreadable\n"),
-        (b"opaque 1\nverdict 0 Complete\n", b"line 2 unreadable\n"),
-        (b"opaque 1\nverdict x complete\n", b"line 2 unreadable\n"),
-        (b"opaque 1\nwake 5\n", b"line 2 unreadable\n"),
-        (b"opaque 1\nstop now\n", b"line 2 unreadable\n"),
-        (b"opaque 1\nkeep-sub\n", b"line 2 unreadable\n"),
-        (b"opaque 1\nkeep-sub 65536\n", b"line 2 unreadable\n"),
-        (b"opaque 1\ndrop-key 256\n", b"line 2 unreadable\n"),
-        (b"opaque 1\nnet 4 x00\n", b"line 2 unreadable\n"),
-    ];
-    for (script, printed) in cases {
+    for (script, printed) in UNREADABLE {
         let (output, ended) = replayed(rt.alloc(), script)?;
         assert_eq!(rt; output.as_slice(), printed);
         assert_eq!(rt; ended, Ok(Ending::Unreadable));
