@@ -65,6 +65,6 @@ fn event_of(alloc: Global, kind: Kind, i: u64) -> Result<Step, Fault> {
             number: i,
             outcome: Some(Outcome::Resolved(Resolution::Complete)),
         },
-        Kind::End | Kind::Put | Kind::Take => Event::End,
+        _ => Event::End,
     })
 }

@@ -1,10 +1,11 @@
-//! `resolver-bench` drives the opaque actor and a full mailbox with many keys, and prints how many
-//! steps that took and how many effects or fetches they had. With a number of keys as its argument it prints nanoseconds a
-//! step too. It is no part of the product.
+//! `resolver-bench` drives the opaque actor, a full mailbox and the fetcher with many keys, and
+//! prints how many steps that took and what they had. With a number of keys as its argument it
+//! prints nanoseconds a step too. It is no part of the product.
 #![tactic(auto)]
 
 mod actor;
 mod fault;
+mod fetcher;
 mod mailbox;
 mod spent;
 mod workload;
@@ -40,6 +41,9 @@ fn run<R: AllocGlobal + Clock + Env + Print + Wait + RandomSource + Copy + Drop>
         print(rt, one, size.is_some())?;
     }
     for one in &mailbox::run(*rt, keys)? {
+        print(rt, one, size.is_some())?;
+    }
+    for one in &fetcher::run(rt, keys)? {
         print(rt, one, size.is_some())?;
     }
     Ok(())

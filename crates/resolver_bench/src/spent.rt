@@ -9,6 +9,10 @@ pub enum Kind {
     End,
     Put,
     Take,
+    Wait,
+    Idle,
+    Scan,
+    Respond,
 }
 
 impl Kind {
@@ -17,6 +21,8 @@ impl Kind {
         match self {
             Kind::Fetch | Kind::Answer | Kind::Complete | Kind::End => "effects",
             Kind::Put | Kind::Take => "fetches",
+            Kind::Wait | Kind::Respond => "keys",
+            Kind::Idle | Kind::Scan => "questions",
         }
     }
 
@@ -29,12 +35,16 @@ impl Kind {
             Kind::End => "end",
             Kind::Put => "put",
             Kind::Take => "take",
+            Kind::Wait => "wait",
+            Kind::Idle => "idle scan",
+            Kind::Scan => "scan",
+            Kind::Respond => "respond",
         }
     }
 }
 
-/// What the steps of one kind took, and how many effects of the actor, or fetches of the mailbox,
-/// they had.
+/// What the steps of one kind took, and how many effects of the actor, fetches of the mailbox, or
+/// keys or questions of the fetcher they had.
 #[derive(Clone, Copy, Debug)]
 pub struct Spent {
     pub kind: Kind,

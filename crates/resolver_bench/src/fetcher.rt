@@ -1,0 +1,107 @@
+//! The fetcher with many keys: each is made to wait; scans are begun while every peer is blocked;
+//! then each scan's first request is taken; and each request is answered.
+
+ghost use Rattle.std.specs.Prelude.{◌<◌, ◌^◌};
+
+use crate::fault::Fault;
+use crate::spent::{Kind, Spent};
+use crate::workload::scattered;
+use resolver::base::Check;
+use resolver::p2p::fetcher::{Answer, Ask, Config, Fetcher};
+use std::alloc::Global;
+use std::rt::Clock;
+use std::time::Instant;
+
+/// The peers of the set.
+const PEERS: u16 = 16;
+
+/// More than a scan asks before its first request is taken.
+const ASKS: u64 = 8;
+
+type Asker = Fetcher<u64, u16>;
+
+/// Takes every key through the fetcher.
+pub fn run(rt: &(impl AllocGlobal + Clock), size: u64) -> Result<Vec<Spent>, Fault> {
+    let alloc = rt.alloc();
+    let config = Config {
+        me: None,
+        fetch_timeout: 1,
+        retry_delay: 1,
+        priority_requests: false,
+    };
+    let mut fetcher = Fetcher::new(alloc, config);
+    fetcher.reconcile(peers(alloc)?)?;
+    fetcher.set_blocked(peers(alloc)?)?;
+    let mut spent = Vec::with_capacity(alloc, 4)?;
+    spent.push(take_all(rt, &mut fetcher, Kind::Wait, size)?)?;
+    spent.push(take_all(rt, &mut fetcher, Kind::Idle, size)?)?;
+    fetcher.set_blocked(Vec::new(alloc))?;
+    spent.push(take_all(rt, &mut fetcher, Kind::Scan, size)?)?;
+    spent.push(take_all(rt, &mut fetcher, Kind::Respond, size)?)?;
+    Ok(spent)
+}
+
+/// The peers of the set, in their order.
+fn peers(alloc: Global) -> Result<Vec<u16>, Fault> {
+    let mut peers = Vec::with_capacity(alloc, usize::from(PEERS))?;
+    for peer in 0..PEERS {
+        peers.push(peer)?;
+    }
+    Ok(peers)
+}
+
+/// Takes calls of one kind, and measures them.
+fn take_all(
+    rt: &(impl AllocGlobal + Clock),
+    fetcher: &mut Asker,
+    kind: Kind,
+    steps: u64,
+) -> Result<Spent, Fault> {
+    let began = Instant::now(rt)?;
+    let mut counted: u64 = 0;
+    for i in 0..steps {
+        counted = counted.saturating_add(take(fetcher, kind, i)?);
+    }
+    Ok(Spent {
+        kind,
+        steps,
+        counted,
+        nanoseconds: began.elapsed(rt)?.as_nanos(),
+    })
+}
+
+/// Takes one call, and counts its keys, or what a scan asks.
+fn take(fetcher: &mut Asker, kind: Kind, i: u64) -> Result<u64, Fault> {
+    match kind {
+        Kind::Wait => {
+            fetcher.add_ready(scattered(i), 0)?;
+            Ok(1)
+        }
+        Kind::Idle | Kind::Scan => scan(fetcher, u128::from(i)),
+        _ => Ok(u64::from(fetcher.pop_response(i, &0, 0).is_some())),
+    }
+}
+
+/// Takes a whole scan, and counts what it asks. Zeros are drawn, and what it wants is allowed: the
+/// first id is 0, and the first peer is asked.
+fn scan(fetcher: &mut Asker, now: u128) -> Result<u64, Fault>
+    requires { now < 2 ^ 94 }
+{
+    let mut asked = fetcher.scan_begin(now)?;
+    for count in 0..ASKS {
+        let Some(ask) = asked else {
+            return Ok(count);
+        };
+        asked = fetcher.scan_answer(answer_to(&ask))?;
+    }
+    Ok(ASKS)
+}
+
+/// A zero, or leave.
+fn answer_to(ask: &Ask<u64, u16>) -> Answer {
+    match ask {
+        Ask::Draw(_) => Answer::Drawn(0),
+        Ask::Check(_) => Answer::Checked(Check::Clear),
+        Ask::Request { .. } => Answer::Sent(true),
+    }
+}
