@@ -1,6 +1,6 @@
 //! A set that is ordered by priority.
 
-ghost use Rattle.std.specs.Prelude.{◌≡◌, ◌≤◌, ◌↔◌, Bool, [], ◌∷◌, Some, length, slice_get, IfNone, IfOk, IfErr, IfSome, IsTrue, OnErr, OnOk};
+ghost use Rattle.std.specs.Prelude.{◌≡◌, ◌≤◌, ◌↔◌, Bool, [], ◌∷◌, Some, filter, length, slice_get, IfNone, IfOk, IfErr, IfSome, IsTrue, OnErr, OnOk};
 ghost use Rattle.std.specs.BTreeMap.{is_at};
 ghost use Rattle.std.specs.Fn.{FnReturnsAt};
 ghost use Rattle.std.specs.List.Sorted.{IsStrictlySortedBy};
@@ -175,8 +175,9 @@ impl<I: Ord + Drop, R: Ord + Drop> PrioritySet<I, R> {
     /// Lets the items go that aren't kept, with a look-up for each item. `keep` is pure.
     pub fn retain<F: Fn(&I) -> bool>(&mut self, keep: F)
         requires { F.IsAlwaysCallable keep }
-        ensures { (test : I → Bool) → AnswersBy F.Fn keep test
+        ensures kept { (test : I → Bool) → AnswersBy F.Fn keep test
             → self.new ≡ retained test self.old }
+        ensures part { (test : R × I → Bool) × (self.new ≡ filter test self.old) }
     {
         forget(&self.ordered, &mut self.priorities, &keep);
         let priorities = &self.priorities;

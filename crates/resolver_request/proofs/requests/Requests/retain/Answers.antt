@@ -9,7 +9,7 @@ pub invariant_of-self : goal.invariant_of-self
 invariant_of-self g c =
     let found = kept-found _ (λ f k v b w f' t. search rules) _ c.self.inside.by_id.entries c.retain.new.self.entries c.self.invariant.ids c.retain.ensures.filtered in
     let ids : c.retain-2.new.self ≡ retained (λ id. is_some (request_of c.retain.new.self.entries id)) c.self.inside.deadlines =
-    c.retain-2.ensures (λ id. is_some (request_of c.retain.new.self.entries id)) (record { by = λ id b at. search rules }) in
+    c.retain-2.ensures.kept (λ id. is_some (request_of c.retain.new.self.entries id)) (record { by = λ id b at. search rules }) in
     rw ids (timed-retained c.self.inside.by_id.entries c.retain.new.self.entries c.self.inside.deadlines c.self.invariant c.retain.ensures.ordered found)
 
 pub returns : goal.returns
