@@ -16,7 +16,8 @@ use Rattle.resolver_fetch.specs.declared.fetcher.trail.Try.{Try}
 use Rattle.resolver_fetch.specs.Fetcher.{Fetcher, waiting_of}
 use Rattle.resolver_fetch.specs.Orders.{Orders}
 use Rattle.resolver_fetch.specs.Scan.{least, next_due}
-use Rattle.resolver_fetch.specs.Seeking.{first_due, first_until, trying_key}
+use Rattle.resolver_fetch.specs.Pending.{first_due, later_due}
+use Rattle.resolver_fetch.specs.Seeking.{first_until, trying_key}
 use Rattle.resolver_fetch.specs.Waiting.{fresh_at, place_order, retry_at}
 
 -- what is behind a place past the last is past the last
@@ -177,14 +178,14 @@ module _ {K : Type 0} (by_key : K → K → Ordering) (p : Place × K) where
         let retry_kept : is_le (place_order (retry_at m) q.0) ≡ false = from-retry q.0.is_retry q.0.due m ∙ ap (λ r. r && nat_le m q.0.due) is ∙ due in
         rw retry_kept (rest (rw kept at all).1)
 
-module _ {K P : Type 0} (o : Orders K P) (f : Fetcher K P) (m : ℕ) where
+module _ {K : Type 0} (by_key : K → K → Ordering) (m : ℕ) where
   not-due : (d : ℕ) (due : Bool) → nat_le d m ≡ due → nat_le (m + 1) d ≡ not due
   not-due d true is = grind (arith, nat_tests, is)
   not-due d false is = grind (arith, nat_tests, is)
 
   -- the next due is that of the first fresh key that is not due, or of the first retry
-  pub next-dues : (ps : List (Place × K)) → IsStrictlySortedBy (pair_order place_order o.key) (from place_order (fresh_at (m + 1)) ps)
-      → next_due m (map (waiting_of o f) ps) ≡ least (first_due false (from place_order (fresh_at (m + 1)) ps)) (first_due true (from place_order (retry_at (m + 1)) ps))
+  pub next-dues : (ps : List (Place × K)) → IsStrictlySortedBy (pair_order place_order by_key) (from place_order (fresh_at (m + 1)) ps)
+      → later_due m ps ≡ least (first_due false (from place_order (fresh_at (m + 1)) ps)) (first_due true (from place_order (retry_at (m + 1)) ps))
   next-dues [] sorted = refl
   next-dues (p ∷ ps) sorted = at p.0.is_retry refl (nat_le p.0.due m) refl sorted (next-dues ps) where
     later : List (Place × K)
@@ -193,9 +194,9 @@ module _ {K P : Type 0} (o : Orders K P) (f : Fetcher K P) (m : ℕ) where
     retries : List (Place × K)
     retries = from place_order (retry_at (m + 1)) ps
 
-    at : (r : Bool) → p.0.is_retry ≡ r → (due : Bool) → nat_le p.0.due m ≡ due → IsStrictlySortedBy (pair_order place_order o.key) (from place_order (fresh_at (m + 1)) (p ∷ ps))
-        → (IsStrictlySortedBy (pair_order place_order o.key) later → next_due m (map (waiting_of o f) ps) ≡ least (first_due false later) (first_due true retries))
-        → next_due m (map (waiting_of o f) (p ∷ ps)) ≡ least (first_due false (from place_order (fresh_at (m + 1)) (p ∷ ps))) (first_due true (from place_order (retry_at (m + 1)) (p ∷ ps)))
+    at : (r : Bool) → p.0.is_retry ≡ r → (due : Bool) → nat_le p.0.due m ≡ due → IsStrictlySortedBy (pair_order place_order by_key) (from place_order (fresh_at (m + 1)) (p ∷ ps))
+        → (IsStrictlySortedBy (pair_order place_order by_key) later → later_due m ps ≡ least (first_due false later) (first_due true retries))
+        → later_due m (p ∷ ps) ≡ least (first_due false (from place_order (fresh_at (m + 1)) (p ∷ ps))) (first_due true (from place_order (retry_at (m + 1)) (p ∷ ps)))
     at false is true due sorted rest =
         let kept : is_le (place_order (fresh_at (m + 1)) p.0) ≡ false = from-fresh p.0.is_retry p.0.due (m + 1) ∙ ap (λ r. r || nat_le (m + 1) p.0.due) is ∙ not-due p.0.due true due in
         let retry_kept : is_le (place_order (retry_at (m + 1)) p.0) ≡ false = from-retry p.0.is_retry p.0.due (m + 1) ∙ ap (λ r. r && nat_le (m + 1) p.0.due) is in
@@ -205,21 +206,26 @@ module _ {K P : Type 0} (o : Orders K P) (f : Fetcher K P) (m : ℕ) where
         let retry_kept : is_le (place_order (retry_at (m + 1)) p.0) ≡ false = from-retry p.0.is_retry p.0.due (m + 1) ∙ ap (λ r. r && nat_le (m + 1) p.0.due) is in
         let ordered = rw kept at sorted in
         rw (kept, retry_kept, due, is)
-        (ap (least (Some p.0.due)) (rest (sorted_tail (pair_order place_order o.key) p later ordered))
+        (ap (least (Some p.0.due)) (rest (sorted_tail (pair_order place_order by_key) p later ordered))
         ∙ least-apart (Some p.0.due) (first_due false later) (first_due true retries)
-        ∙ ap (λ x. least x (first_due true retries)) (fresh-behind o.key p later (sorted_head (pair_order place_order o.key) p later ordered) is))
+        ∙ ap (λ x. least x (first_due true retries)) (fresh-behind by_key p later (sorted_head (pair_order place_order by_key) p later ordered) is))
     at true is true due sorted rest =
         let kept : is_le (place_order (fresh_at (m + 1)) p.0) ≡ true = from-fresh p.0.is_retry p.0.due (m + 1) ∙ ap (λ r. r || nat_le (m + 1) p.0.due) is in
         let retry_kept : is_le (place_order (retry_at (m + 1)) p.0) ≡ false = from-retry p.0.is_retry p.0.due (m + 1) ∙ ap (λ r. r && nat_le (m + 1) p.0.due) is ∙ not-due p.0.due true due in
         let ordered = rw kept at sorted in
         rw (kept, retry_kept, due, is)
-        (rest (sorted_tail (pair_order place_order o.key) p later ordered)
-        ∙ ap (λ x. least x (first_due true retries)) (none-fresh o.key p later (sorted_head (pair_order place_order o.key) p later ordered) is))
+        (rest (sorted_tail (pair_order place_order by_key) p later ordered)
+        ∙ ap (λ x. least x (first_due true retries)) (none-fresh by_key p later (sorted_head (pair_order place_order by_key) p later ordered) is))
     at true is false due sorted rest =
         let kept : is_le (place_order (fresh_at (m + 1)) p.0) ≡ true = from-fresh p.0.is_retry p.0.due (m + 1) ∙ ap (λ r. r || nat_le (m + 1) p.0.due) is in
         let retry_kept : is_le (place_order (retry_at (m + 1)) p.0) ≡ true = from-retry p.0.is_retry p.0.due (m + 1) ∙ ap (λ r. r && nat_le (m + 1) p.0.due) is ∙ not-due p.0.due false due in
         let ordered = rw kept at sorted in
-        let behind = sorted_head (pair_order place_order o.key) p later ordered in
+        let behind = sorted_head (pair_order place_order by_key) p later ordered in
         rw (kept, retry_kept, due, is)
-        (ap (least (Some p.0.due)) (rest (sorted_tail (pair_order place_order o.key) p later ordered) ∙ ap (λ x. least x (first_due true retries)) (none-fresh o.key p later behind is))
-        ∙ retry-behind o.key p (m + 1) ps behind is)
+        (ap (least (Some p.0.due)) (rest (sorted_tail (pair_order place_order by_key) p later ordered) ∙ ap (λ x. least x (first_due true retries)) (none-fresh by_key p later behind is))
+        ∙ retry-behind by_key p (m + 1) ps behind is)
+
+-- the next due of a scan is that of the waiting keys
+pub next-due : {K P : Type 0} (o : Orders K P) (f : Fetcher K P) (m : ℕ) (ps : List (Place × K)) → next_due m (map (waiting_of o f) ps) ≡ later_due m ps
+next-due o f m [] = refl
+next-due o f m (p ∷ ps) = ap (least (if nat_le p.0.due m then None else Some p.0.due)) (next-due o f m ps)

@@ -9,6 +9,7 @@ pub mod ChoosesBelow
 pub mod Askable
 pub mod Among
 pub mod Dues
+pub mod Pending
 pub mod Seeking
 pub mod Tried
 pub mod Entries

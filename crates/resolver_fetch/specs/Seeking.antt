@@ -1,6 +1,6 @@
 -- How a fetcher finds what a scan tries next, and when a scan in vain may be begun again.
-use Rattle.std.specs.Prelude.{◌≡◌, ℕ, ◌<◌, ◌^◌, Bool, false, not, nat_lt, List, [], ◌∷◌, length, map, Option, None, Some, option_map, option_and_then, filter, find, if◌then◌else◌}
-use Rattle.std.specs.Ordering.{bool_cmp, is_eq, is_le}
+use Rattle.std.specs.Prelude.{◌≡◌, ℕ, ◌<◌, ◌^◌, false, not, nat_lt, List, length, map, Option, None, Some, option_map, option_and_then, filter, find}
+use Rattle.std.specs.Ordering.{is_le}
 use Rattle.resolver_base.specs.Priorities.{after}
 use Rattle.resolver_fetch.specs.declared.fetcher.place.Place.{Place}
 use Rattle.resolver_fetch.specs.declared.fetcher.trail.Try.{Try}
@@ -9,7 +9,7 @@ use Rattle.resolver_fetch.specs.declared.fetcher.trying.Next.TheVariants.{Try as
 use Rattle.resolver_fetch.specs.Orders.{Orders}
 use Rattle.resolver_fetch.specs.Known.{Known}
 use Rattle.resolver_fetch.specs.Snapshot.{eligible}
-use Rattle.resolver_fetch.specs.Scan.{Scan, can_be_tried, next_due, waiter_of, was_tried}
+use Rattle.resolver_fetch.specs.Scan.{Scan, can_be_tried, trail_moment, was_tried}
 use Rattle.resolver_fetch.specs.Trying.{Trying, weighed, trying, trying_for}
 use Rattle.resolver_fetch.specs.Waiting.{place_order}
 use Rattle.resolver_fetch.specs.Fetcher.{Fetcher, IsTimely, opening, retries_of, snapshot, targets_of, waiting_of}
@@ -74,23 +74,18 @@ module _ {K P : Type 0} (o : Orders K P) where
       option_map (trying_key f trail)
       (find (λ p. nat_lt 0 (length (trying_key f trail p).left)) (filter (λ p. is_le (place_order p.0 last)) pairs))
 
-  -- the least due that is later
-  abbrev pub due_after : Fetcher K P → (moment : ℕ) → Option ℕ
-  due_after f moment = next_due moment (map (waiting_of o f) f.waiting)
+  abbrev pub next_for : Option (Trying K P) → (other : Option ℕ) → Next K P
+  next_for None other = Wait other
+  next_for (Some t) other = Tries t
 
-  abbrev pub next_for : Option (Trying K P) → (waiter : ℕ) → Next K P
-  next_for None waiter = Wait waiter
-  next_for (Some t) waiter = Tries t
+  -- when what a scan tried may be tried again
+  abbrev pub tried_again : Fetcher K P → Scan K P → Option ℕ
+  tried_again f scan = trail_moment f.configuration.retry_delay scan.moment scan.trail
 
   -- what a scan of this moment does next after this trail: it tries a key, or ends in vain
   abbrev pub next_of : Fetcher K P → (moment : ℕ) → List (Try K P) → Next K P
-  next_of f moment trail = next_for (tried_next f moment trail) (waiter_of o (snapshot o f) (scan_at moment trail))
+  next_of f moment trail = next_for (tried_next f moment trail) (tried_again f (scan_at moment trail))
 
   -- what the open scan does next
   abbrev pub next_now : Fetcher K P → Option (Next K P)
-  next_now f = option_map (λ scan. next_for (trying o (snapshot o f) scan) (waiter_of o (snapshot o f) scan)) f.scan
-
--- the due of the first of some waiting keys, if it is of this kind
-abbrev pub first_due : {K : Type 0} → (is_retry : Bool) → List (Place × K) → Option ℕ
-first_due is_retry [] = None
-first_due is_retry (p ∷ pairs) = if is_eq (bool_cmp p.0.is_retry is_retry) then Some p.0.due else None
+  next_now f = option_map (λ scan. next_for (trying o (snapshot o f) scan) (tried_again f scan)) f.scan

@@ -8,6 +8,7 @@ pub mod config;
 mod fetching;
 pub mod laws;
 mod peers;
+mod pending;
 pub mod place;
 pub mod scan;
 mod scanning;
@@ -21,22 +22,24 @@ ghost use Rattle.std.specs.BTreeMap.{insert_entry, is_at};
 ghost use Rattle.std.specs.Fn.{FnReturnsAt};
 ghost use Rattle.std.specs.Map.{lookup};
 ghost use Rattle.resolver_base.specs.Answering.{AnswersBy};
-ghost use Rattle.resolver_base.specs.Priorities.{has_item, put};
+ghost use Rattle.resolver_base.specs.Priorities.{has_item};
 ghost use Rattle.resolver_base.specs.declared.base.fault.Fault.TheVariants.{OutOfMemory};
 ghost use Rattle.resolver_fetch.specs.Fetcher as calls;
 ghost use Rattle.resolver_fetch.specs.Fetcher.{IsTimely, opening};
 ghost use Rattle.resolver_fetch.specs.Orders.{orders};
 ghost use Rattle.resolver_fetch.specs.Peers.{with_targets};
+ghost use Rattle.resolver_fetch.specs.Pending.{with_key};
 ghost use Rattle.resolver_request.specs.Times.{charged, elapsed_since};
-ghost use Rattle.resolver_fetch.specs.Waiting.{once_more, place_order};
+ghost use Rattle.resolver_fetch.specs.Waiting.{once_more};
 
 use crate::fetcher::peers::Peers;
+use crate::fetcher::pending::Pending;
 use crate::fetcher::targets::Targets;
 use crate::fetcher::trail::{Expected, Trail};
 use crate::fetcher::trying::Trying;
 pub use config::Config;
 pub use place::Place;
-use resolver_base::base::{Fault, NonEmptyVec, PrioritySet};
+use resolver_base::base::{Fault, NonEmptyVec};
 use resolver_request::requests::Requests;
 pub use resolver_request::requests::{ID, Request};
 use resolver_request::score::DURATION_MAX;
@@ -51,7 +54,7 @@ use std::marker::Model;
 /// or one peer takes time logarithmic in the number of keys and peers, unless it says otherwise.
 #[derive(Debug, Drop)]
 pub struct Fetcher<K: Ord, P: Ord> {
-    pending: PrioritySet<K, Place>,
+    pending: Pending<K>,
     requests: Requests<K, P>,
     targets: BTreeMap<K, Targets<P>>,
     retries: BTreeMap<K, u32>,
@@ -59,7 +62,6 @@ pub struct Fetcher<K: Ord, P: Ord> {
     fetch_timeout: u128,
     retry_delay: u128,
     priority_requests: bool,
-    waiter: Option<u128>,
     last_id: Option<ID>,
     /// The moment of the last scan.
     moment: u128,
@@ -81,7 +83,7 @@ impl<K: Ord, P: Ord> Model for Fetcher<K, P> {
     ghost Value = { Fetcher K P };
 
     ghost view = { λ a. record {
-      waiting = a.pending;
+      waiting = a.pending.keys;
       asked = a.requests;
       targets = a.targets.entries;
       retries = a.retries.entries;
@@ -93,7 +95,7 @@ impl<K: Ord, P: Ord> Model for Fetcher<K, P> {
         retry_delay = a.retry_delay;
         priority_requests = a.priority_requests;
       };
-      waiter = a.waiter;
+      waiter = a.pending.waiter;
       last_id = a.last_id;
       scan = option_map (λ expected. record {
         moment = a.moment;
@@ -104,7 +106,7 @@ impl<K: Ord, P: Ord> Model for Fetcher<K, P> {
 
     ghost invariant = { λ a. IsKept a.fetch_timeout a.retry_delay a.moment a.trying
         (tried_next (orders K.cmp P.cmp)
-        (searched a.pending a.targets.entries a.retries.entries a.peers) a.moment a.trail) };
+        (searched a.pending.keys a.targets.entries a.retries.entries a.peers) a.moment a.trail) };
 }
 
 impl<K: Ord + Drop, P: Ord + Drop> Fetcher<K, P> {
@@ -114,7 +116,7 @@ impl<K: Ord + Drop, P: Ord + Drop> Fetcher<K, P> {
         ensures { result ≡ opening config }
     {
         Fetcher {
-            pending: PrioritySet::new(alloc),
+            pending: Pending::new(alloc),
             requests: Requests::new(alloc),
             targets: BTreeMap::new(alloc),
             retries: BTreeMap::new(alloc),
@@ -122,7 +124,6 @@ impl<K: Ord + Drop, P: Ord + Drop> Fetcher<K, P> {
             fetch_timeout: config.fetch_timeout,
             retry_delay: config.retry_delay,
             priority_requests: config.priority_requests,
-            waiter: None,
             last_id: None,
             moment: 0,
             trail: Trail::new(alloc),
@@ -136,7 +137,7 @@ impl<K: Ord + Drop, P: Ord + Drop> Fetcher<K, P> {
     pub fn len_pending(&self) -> usize
         ensures { result ≡ length self.now.waiting }
     {
-        self.pending.len()
+        self.pending.keys().len()
     }
 
     /// How many requests have no answer.
@@ -150,7 +151,7 @@ impl<K: Ord + Drop, P: Ord + Drop> Fetcher<K, P> {
     pub fn is_waiting(&self, key: &K) -> bool
         ensures { result ≡ has_item K.cmp self.now.waiting key.now }
     {
-        self.pending.contains(key)
+        self.pending.keys().contains(key)
     }
 
     /// Whether a scan is open: it expects an answer.
@@ -185,15 +186,11 @@ impl<K: Ord + Drop, P: Ord + Drop> Fetcher<K, P> {
         self.peers.weight(peer)
     }
 
-    /// When a scan may do something, if a key waits.
+    /// When a scan may do something, if a key waits. It takes time logarithmic in the waiting keys.
     pub fn get_pending_deadline(&self) -> Option<u128>
         ensures { result ≡ calls.pending_deadline self.now }
     {
-        let (_, place) = self.pending.peek()?;
-        match self.waiter {
-            Some(waiter) => Some(place.due.max(waiter)),
-            None => Some(place.due),
-        }
+        self.pending.deadline()
     }
 
     /// When the time of a request is over next, if there is a request.
@@ -213,7 +210,7 @@ impl<K: Ord + Drop, P: Ord + Drop> Fetcher<K, P> {
     {
         self.trying = None;
         self.peers.reconcile(peers)?;
-        self.waiter = None;
+        self.pending.wake();
         Ok(())
     }
 
@@ -227,7 +224,7 @@ impl<K: Ord + Drop, P: Ord + Drop> Fetcher<K, P> {
     {
         self.trying = None;
         self.peers.set_blocked(peers)?;
-        self.waiter = None;
+        self.pending.wake();
         Ok(())
     }
 
@@ -245,9 +242,7 @@ impl<K: Ord + Drop, P: Ord + Drop> Fetcher<K, P> {
         ensures only { IfErr result (λ fault. fault ≡ OutOfMemory) }
     {
         self.trying = None;
-        self.pending.put(key, Place::fresh(now))?;
-        self.waiter = None;
-        Ok(())
+        self.pending.put(key, Place::fresh(now))
     }
 
     /// Has a key wait until the retry delay is over, and counts that it is tried once more. Where
@@ -266,9 +261,7 @@ impl<K: Ord + Drop, P: Ord + Drop> Fetcher<K, P> {
     {
         self.trying = None;
         let place = Place::retry(now + self.retry_delay);
-        count_retry(&mut self.retries, &mut self.pending, key, place)?;
-        self.waiter = None;
-        Ok(())
+        count_retry(&mut self.retries, &mut self.pending, key, place)
     }
 
     /// Limits the peers that may be asked for a key to these and those that were given before.
@@ -287,7 +280,7 @@ impl<K: Ord + Drop, P: Ord + Drop> Fetcher<K, P> {
     {
         self.trying = None;
         join_targets(self.alloc, &mut self.targets, key, peers.into_vec())?;
-        self.waiter = None;
+        self.pending.wake();
         Ok(())
     }
 
@@ -297,7 +290,7 @@ impl<K: Ord + Drop, P: Ord + Drop> Fetcher<K, P> {
     {
         self.trying = None;
         self.targets.remove(key);
-        self.waiter = None;
+        self.pending.wake();
     }
 
     /// Forgets the targets and the retries of a key.
@@ -343,7 +336,6 @@ impl<K: Ord + Drop, P: Ord + Drop> Fetcher<K, P> {
                 ensures same { retries.new ≡ retries.old }
             { keep(key) },
         );
-        self.waiter = None;
     }
 
     /// Takes in that a peer's useful response took `elapsed` nanoseconds and had `bytes` bytes. A
@@ -398,12 +390,12 @@ impl<K: Ord + Drop, P: Ord + Drop> Fetcher<K, P> {
 /// Has a key wait at this place, and counts that it is tried once more.
 fn count_retry<K: Ord + Clone + Drop>(
     retries: &mut BTreeMap<K, u32>,
-    pending: &mut PrioritySet<K, Place>,
+    pending: &mut Pending<K>,
     key: K,
     place: Place,
 ) -> Result<(), Fault>
     requires keys_clone { (x y : K) → K.is_clone x y → y ≡ x }
-    ensures ok { OnOk result (pending.new ≡ put place_order K.cmp pending.old (place, key)) }
+    ensures ok { OnOk result (pending.new ≡ with_key K.cmp (place, key) pending.old) }
     ensures counted { OnOk result (retries.new.entries
         ≡ insert_entry K.cmp retries.old.entries key
         (once_more (unwrap_or (lookup (is_at (K.cmp key)) retries.old.entries) 0))) }

@@ -121,7 +121,7 @@ impl<K: Span + Drop, P: PublicKey + Drop> Fetcher<K, P> {
         self.trying = None;
         self.trail.clear();
         self.expects = None;
-        self.waiter = None;
+        self.pending.wake();
     }
 }
 

@@ -7,16 +7,15 @@ ghost use Rattle.resolver_base.specs.Priorities.{from, pair_order};
 ghost use Rattle.resolver_base.specs.declared.base.fault.Fault.TheVariants.{OutOfMemory};
 ghost use Rattle.resolver_fetch.specs.declared.fetcher.step.Step.TheVariants.{Accept, Clear, Fail};
 ghost use Rattle.resolver_fetch.specs.Fetcher as calls;
-ghost use Rattle.resolver_fetch.specs.Fetcher.{question, snapshot};
+ghost use Rattle.resolver_fetch.specs.Fetcher.{question};
 ghost use Rattle.resolver_fetch.specs.Orders.{orders};
 ghost use Rattle.resolver_fetch.specs.declared.fetcher.place.Place.{Place};
-ghost use Rattle.resolver_fetch.specs.Scan.{waiter_of};
-ghost use Rattle.resolver_fetch.specs.Seeking.{due_after, first_due, first_until, next_now, next_of, scan_at, tried_behind, tried_behind_now, tried_next, tried_now, trying_key};
+ghost use Rattle.resolver_fetch.specs.Seeking.{first_until, next_now, next_of, scan_at, tried_behind, tried_behind_now, tried_next, tried_now, trying_key};
 ghost use Rattle.resolver_fetch.specs.Waiting.{place_order, retry_at};
 ghost use Rattle.resolver_fetch.specs.Stepping.{after_all, after_step, ask_for, expecting, step_now};
 
 use crate::fetcher::step::{Step, step_of};
-use crate::fetcher::trail::{Expected, Reason, Trail, least};
+use crate::fetcher::trail::{Expected, Reason, Trail};
 use crate::fetcher::trying::{Next, Trying};
 use crate::fetcher::{Answer, Ask, Fetcher, ID, Place, Request};
 use resolver_base::base::Fault;
@@ -27,9 +26,8 @@ impl<K: Ord + Clone + Drop, P: Ord + Clone + Drop> Fetcher<K, P> {
     /// Where memory is wanting, nothing changes.
     ///
     /// The waiting keys that are due are gone over in their order, up to the first with a peer that
-    /// may be asked, with one pass over the peers for each; none of them where no peer may be asked
-    /// at all. Of the others the next one due is looked up, in logarithmic time. Keys and names are
-    /// cloned; clones are to equal their sources.
+    /// may be asked, with one pass over the peers for each. Where no peer may be asked at all it
+    /// takes constant time. Keys and names are cloned; clones are to equal their sources.
     pub fn scan_begin(&mut self, now: u128) -> Result<Option<Ask<K, P>>, Fault>
     where
         requires moment { now < 2 ^ 94 }
@@ -162,7 +160,7 @@ impl<K: Ord + Clone + Drop, P: Ord + Clone + Drop> Fetcher<K, P> {
         let ask = ask_for(self.priority_requests, &trying, &expected)?;
         self.expects = Some(expected);
         self.last_id = last_id;
-        self.waiter = None;
+        self.pending.wake();
         self.trying = Some(trying);
         Ok(Some(ask))
     }
@@ -240,7 +238,7 @@ impl<K: Ord + Clone + Drop, P: Ord + Clone + Drop> Fetcher<K, P> {
         }
         match self.seek_behind(&rest.pair, self.moment, &self.trail)? {
             Some(trying) => Ok(Next::Try(trying)),
-            None => Ok(Next::Wait(self.waiter_after(self.moment, &self.trail)?)),
+            None => Ok(Next::Wait(self.trail.moment(self.moment, self.retry_delay))),
         }
     }
 
@@ -264,7 +262,6 @@ impl<K: Ord + Clone + Drop, P: Ord + Clone + Drop> Fetcher<K, P> {
         };
         self.requests.insert(id, request)?;
         self.pending.remove(&trying.pair.1);
-        self.waiter = None;
         self.expects = None;
         self.trail.clear();
         Ok(None)
@@ -280,13 +277,13 @@ impl<K: Ord + Clone + Drop, P: Ord + Clone + Drop> Fetcher<K, P> {
         match next {
             Next::Try(trying) => {
                 let bound = u128::from(trying.retries) + 4;
-                self.waiter = None;
+                self.pending.wake();
                 self.expects = Some(Expected::Mode);
                 self.trying = Some(trying);
                 Some(Ask::Draw(bound))
             }
-            Next::Wait(waiter) => {
-                self.waiter = Some(waiter);
+            Next::Wait(other) => {
+                self.pending.sleep(self.moment, other);
                 self.trying = None;
                 self.expects = None;
                 self.trail.clear();
@@ -307,7 +304,7 @@ impl<K: Ord + Clone + Drop, P: Ord + Clone + Drop> Fetcher<K, P> {
     {
         match self.seek(moment, trail)? {
             Some(trying) => Ok(Next::Try(trying)),
-            None => Ok(Next::Wait(self.waiter_after(moment, trail)?)),
+            None => Ok(Next::Wait(trail.moment(moment, self.retry_delay))),
         }
     }
 
@@ -327,7 +324,7 @@ impl<K: Ord + Clone + Drop, P: Ord + Clone + Drop> Fetcher<K, P> {
         if self.peers.none_askable() {
             return Ok(None);
         }
-        let fresh = self.pending.range_from(Place::fresh(0))?;
+        let fresh = self.pending.keys().range_from(Place::fresh(0))?;
         if let Some(found) = self.first_until(fresh, Place::fresh(moment), trail)? {
             return Ok(Some(found));
         }
@@ -349,7 +346,7 @@ impl<K: Ord + Clone + Drop, P: Ord + Clone + Drop> Fetcher<K, P> {
         ensures ordered { IsStrictlySortedBy (pair_order place_order K.cmp) self.now.waiting }
         ensures only { IfErr result (λ fault. fault ≡ OutOfMemory) }
     {
-        let behind = self.pending.range_after(pair);
+        let behind = self.pending.keys().range_after(pair);
         if pair.0.is_retry {
             return self.first_until(behind, Place::retry(moment), trail);
         }
@@ -368,7 +365,7 @@ impl<K: Ord + Clone + Drop, P: Ord + Clone + Drop> Fetcher<K, P> {
             trail.now (retry_at moment) (from place_order (retry_at 0) self.now.waiting)) }
         ensures only { IfErr result (λ fault. fault ≡ OutOfMemory) }
     {
-        let retries = self.pending.range_from(Place::retry(0))?;
+        let retries = self.pending.keys().range_from(Place::retry(0))?;
         self.first_until(retries, Place::retry(moment), trail)
     }
 
@@ -417,55 +414,6 @@ impl<K: Ord + Clone + Drop, P: Ord + Clone + Drop> Fetcher<K, P> {
             retries: self.retries(key),
             left,
         })
-    }
-
-    /// When a scan in vain of this moment and this trail may be begun again: where a key becomes
-    /// due, or what was tried may be tried again. It takes time linear in the trail.
-    fn waiter_after(&self, moment: u128, trail: &Trail<K, P>) -> Result<u128, Fault>
-    where
-        requires moment { moment < 2 ^ 94 }
-        requires keys_clone { (x y : K) → K.is_clone x y → y ≡ x }
-        ensures ok { IfOk result (λ waiter. waiter
-            ≡ waiter_of (orders K.cmp P.cmp) (snapshot (orders K.cmp P.cmp) self.now)
-            (scan_at moment trail.now)) }
-        ensures only { IfErr result (λ fault. fault ≡ OutOfMemory) }
-    {
-        let due = self.due_after(moment)?;
-        let tried = trail.moment(moment, self.retry_delay);
-        Ok(least(due, tried).unwrap_or(u128::MAX))
-    }
-
-    /// When a key becomes due next, if one does after this moment.
-    fn due_after(&self, moment: u128) -> Result<Option<u128>, Fault>
-    where
-        requires moment { moment < 2 ^ 94 }
-        requires keys_clone { (x y : K) → K.is_clone x y → y ≡ x }
-        ensures ok { IfOk result (λ due. due ≡ due_after (orders K.cmp P.cmp) self.now moment) }
-        ensures only { IfErr result (λ fault. fault ≡ OutOfMemory) }
-    {
-        let fresh = self.due_from(Place::fresh(moment + 1))?;
-        let retry = self.due_from(Place::retry(moment + 1))?;
-        Ok(least(fresh, retry))
-    }
-
-    /// When the first key from a place on is due, if it is of the same kind.
-    fn due_from(&self, start: Place) -> Result<Option<u128>, Fault>
-    where
-        requires keys_clone { (x y : K) → K.is_clone x y → y ≡ x }
-        ensures ok { IfOk result (λ due. due
-            ≡ first_due start.is_retry (from place_order start self.now.waiting)) }
-        ensures ordered { IfOk result (λ due. IsStrictlySortedBy (pair_order place_order K.cmp)
-            (from place_order start self.now.waiting)) }
-        ensures only { IfErr result (λ fault. fault ≡ OutOfMemory) }
-    {
-        let Some((place, _)) = self.pending.range_from(start)?.next() else {
-            return Ok(None);
-        };
-        if place.is_retry == start.is_retry {
-            Ok(Some(place.due))
-        } else {
-            Ok(None)
-        }
     }
 }
 

@@ -24,8 +24,8 @@ pub(super) struct Trying<K, P> {
 pub(super) enum Next<K, P> {
     /// It tries this key.
     Try(Trying<K, P>),
-    /// It ends in vain, and may be begun again at this moment.
-    Wait(u128),
+    /// It ends in vain, and may be begun again once a key becomes due, or at this moment.
+    Wait(Option<u128>),
 }
 
 impl<K, P> Model for Trying<K, P> {

@@ -13,7 +13,7 @@ invariant_of-self g c =
     record {
       timely = c.self.invariant.timely;
       moment_fits = c.self.invariant.moment_fits;
-      right = rw (← c.self.view_is) at (tried-kept o f a.moment a.trail a.expects scan c.args.trying c.requires.tried);
+      right = rw c.wake.ensures (rw (← c.self.view_is) at (tried-kept o f a.moment a.trail a.expects scan c.args.trying c.requires.tried));
     }
 
 pub returns-clause-asked : goal.returns-clause-asked
@@ -22,5 +22,5 @@ returns-clause-asked g c =
     let scan = sym (ap (λ (f : Fetcher g.row.K.Denot g.row.P.Denot). f.scan) c.self.view_is) in
     let f = c.args.self.now in
     let a = c.self.inside in
-    rw c.in_ok-ask.ensures.ok
+    rw (c.in_ok-ask.ensures.ok, c.wake.ensures)
     (sym (rw (← c.self.view_is) at (asks-kept o f a.moment a.trail a.expects scan c.args.trying c.args.expected c.args.last_id None c.requires.tried)))

@@ -3,6 +3,7 @@ use Rattle.std.proofs.lemmas.Bool.{eqb-true}
 use Rattle.resolver_fetch.specs.declared.fetcher.trying.Next.TheVariants.{Wait}
 use Rattle.resolver_fetch.specs.Fetcher.{Fetcher}
 use Rattle.resolver_fetch.specs.Orders.{orders}
+use Rattle.resolver_fetch.specs.Scan.{trail_moment}
 use Rattle.resolver_fetch.specs.Seeking.{scan_at, tried_behind, tried_now}
 use Rattle.resolver_fetch.specs.Trying.{Trying}
 use Rattle.resolver_fetch.proofs.Nexts.{next-waits, tries-next}
@@ -38,4 +39,6 @@ returns-clause-ok g c =
     let behind = now-behind o f a.moment (c.args.rest.place, c.args.rest.key) a.trail a.expects scan some in
     let tried : tried_now o f ≡ None =
     c.requires.passed none c.seek_behind.ensures.ordered ∙ behind ∙ ap (λ p. tried_behind o f p (scan_at a.moment a.trail)) (sym pair) ∙ sym c.in_ok-trying.ensures.ok ∙ c.in-None.is in
-    next-waits o f a.moment a.trail a.expects scan some tried ∙ ap (λ w. Some (Wait w)) (sym c.in_ok-waiter_after-in-None.ensures.ok)
+    next-waits o f a.moment a.trail a.expects scan some tried
+    ∙ ap (λ (f : Fetcher g.row.K.Denot g.row.P.Denot). Some (Wait (trail_moment f.configuration.retry_delay a.moment a.trail))) (sym c.self.view_is)
+    ∙ ap (λ w. Some (Wait w)) (sym c.moment.ensures)

@@ -1,13 +1,13 @@
 use Rattle.std.proofs.Common.{◌≡◌, ap, filter, rules}
 use Rattle.std.proofs.lemmas.Map.Made.{filter_same_pairs}
-use Rattle.resolver_base.specs.Priorities.{retained}
 use Rattle.resolver_fetch.specs.Fetcher.{Fetcher, retain}
 use Rattle.resolver_fetch.specs.Orders.{orders}
+use Rattle.resolver_fetch.specs.Pending.{with_kept}
 use Rattle.resolver_fetch.proofs.fetcher.Fetcher.retain.Goals as goal
 
 pub returns : goal.returns
 returns g c = λ test pure.
-    let waiting : c.retain.new.self ≡ retained test c.self.inside.pending = c.retain.ensures test (record { by = λ key b at. pure.by key b (search rules) }) in
+    let waiting : c.retain.new.self ≡ with_kept test c.self.inside.pending = c.retain.ensures test (record { by = λ key b at. pure.by key b (search rules) }) in
     let asked : c.retain-2.new.self ≡ filter (λ r. test r.1.key) c.self.inside.requests = c.retain-2.ensures test (record { by = λ key b at. pure.by key b (search rules) }) in
     let targets : c.retain-3.new.self.entries ≡ filter (λ e. test e.0) c.self.inside.targets.entries =
     filter_same_pairs _ (λ e. test e.0) _ (λ k v b w f' t. (pure.by k b (rw (← t.shows.0) (search rules)), search rules, search rules)) _ _ c.retain-3.ensures.filtered in

@@ -18,9 +18,9 @@ pub returns-in-Some-clause-ok : goal.returns-in-Some-clause-ok
 returns-in-Some-clause-ok g c =
     let o = orders g.K.Ord.cmp g.P.Ord.cmp in
     let f = c.args.self.now in
-    let waiting : c.self.inside.pending ≡ f.waiting = ap (λ (f : Fetcher g.row.K.Denot g.row.P.Denot). f.waiting) c.self.view_is in
+    let waiting : c.keys.result.now ≡ f.waiting = c.keys.ensures ∙ ap (λ (f : Fetcher g.row.K.Denot g.row.P.Denot). f.waiting) c.self.view_is in
     let fresh : c.in_ok-fresh.fresh ≡ from place_order (fresh_at 0) f.waiting =
-    c.in_ok-fresh.ensures.rest ∙ ap (λ place. from place_order place c.self.inside.pending) c.fresh.ensures ∙ ap (from place_order (fresh_at 0)) waiting in
+    c.in_ok-fresh.ensures.rest ∙ ap (λ place. from place_order place c.keys.result.now) c.fresh.ensures ∙ ap (from place_order (fresh_at 0)) waiting in
     let sorted = rw (fresh ∙ from-first g.K.Ord.cmp c.args.moment f.waiting) at c.in_ok-fresh.ensures.ordered in
     let found : c.in_ok-found.field-0 ≡ first_until o f c.args.trail.now (fresh_at c.args.moment) (from place_order (fresh_at 0) f.waiting) =
     c.in_ok-found.ensures.ok ∙ ap (λ place. first_until o f c.args.trail.now place c.in_ok-fresh.fresh) c.fresh-2.ensures ∙ ap (first_until o f c.args.trail.now (fresh_at c.args.moment)) fresh in
@@ -30,9 +30,9 @@ pub returns-clause-ok : goal.returns-clause-ok
 returns-clause-ok g c =
     let o = orders g.K.Ord.cmp g.P.Ord.cmp in
     let f = c.args.self.now in
-    let waiting : c.self.inside.pending ≡ f.waiting = ap (λ (f : Fetcher g.row.K.Denot g.row.P.Denot). f.waiting) c.self.view_is in
+    let waiting : c.keys.result.now ≡ f.waiting = c.keys.ensures ∙ ap (λ (f : Fetcher g.row.K.Denot g.row.P.Denot). f.waiting) c.self.view_is in
     let fresh : c.in_ok-fresh.fresh ≡ from place_order (fresh_at 0) f.waiting =
-    c.in_ok-fresh.ensures.rest ∙ ap (λ place. from place_order place c.self.inside.pending) c.fresh.ensures ∙ ap (from place_order (fresh_at 0)) waiting in
+    c.in_ok-fresh.ensures.rest ∙ ap (λ place. from place_order place c.keys.result.now) c.fresh.ensures ∙ ap (from place_order (fresh_at 0)) waiting in
     let sorted = rw (fresh ∙ from-first g.K.Ord.cmp c.args.moment f.waiting) at c.in_ok-fresh.ensures.ordered in
     let found : c.in_ok-found.field-0 ≡ first_until o f c.args.trail.now (fresh_at c.args.moment) (from place_order (fresh_at 0) f.waiting) =
     c.in_ok-found.ensures.ok ∙ ap (λ place. first_until o f c.args.trail.now place c.in_ok-fresh.fresh) c.fresh-2.ensures ∙ ap (first_until o f c.args.trail.now (fresh_at c.args.moment)) fresh in

@@ -12,7 +12,7 @@ pub returns-then-pair-clause-ok : goal.returns-then-pair-clause-ok
 returns-then-pair-clause-ok g c =
     let o = orders g.K.Ord.cmp g.P.Ord.cmp in
     let f = c.args.self.now in
-    let waiting : c.self.inside.pending ≡ f.waiting = ap (λ (f : Fetcher g.row.K.Denot g.row.P.Denot). f.waiting) c.self.view_is in
+    let waiting : c.keys.result.now ≡ f.waiting = c.keys.ensures ∙ ap (λ (f : Fetcher g.row.K.Denot g.row.P.Denot). f.waiting) c.self.view_is in
     let behind : c.range_after-behind.result ≡ after place_order g.K.Ord.cmp c.args.pair.now f.waiting = c.range_after-behind.ensures.rest ∙ ap (after place_order g.K.Ord.cmp c.args.pair.now) waiting in
     let sorted = rw behind at c.range_after-behind.ensures.ordered in
     IfOk-weaker c.first_until.result _ _ (λ t it. it
@@ -24,7 +24,7 @@ pub returns-in-Some-clause-ok : goal.returns-in-Some-clause-ok
 returns-in-Some-clause-ok g c =
     let o = orders g.K.Ord.cmp g.P.Ord.cmp in
     let f = c.args.self.now in
-    let waiting : c.self.inside.pending ≡ f.waiting = ap (λ (f : Fetcher g.row.K.Denot g.row.P.Denot). f.waiting) c.self.view_is in
+    let waiting : c.keys.result.now ≡ f.waiting = c.keys.ensures ∙ ap (λ (f : Fetcher g.row.K.Denot g.row.P.Denot). f.waiting) c.self.view_is in
     let behind : c.range_after-behind.result ≡ after place_order g.K.Ord.cmp c.args.pair.now f.waiting = c.range_after-behind.ensures.rest ∙ ap (after place_order g.K.Ord.cmp c.args.pair.now) waiting in
     let sorted = rw behind at c.range_after-behind.ensures.ordered in
     let found : c.in_ok-found.field-0 ≡ first_until o f c.args.trail.now (fresh_at c.args.moment) (after place_order g.K.Ord.cmp c.args.pair.now f.waiting) =
@@ -35,7 +35,7 @@ pub returns-clause-ok : goal.returns-clause-ok
 returns-clause-ok g c =
     let o = orders g.K.Ord.cmp g.P.Ord.cmp in
     let f = c.args.self.now in
-    let waiting : c.self.inside.pending ≡ f.waiting = ap (λ (f : Fetcher g.row.K.Denot g.row.P.Denot). f.waiting) c.self.view_is in
+    let waiting : c.keys.result.now ≡ f.waiting = c.keys.ensures ∙ ap (λ (f : Fetcher g.row.K.Denot g.row.P.Denot). f.waiting) c.self.view_is in
     let behind : c.range_after-behind.result ≡ after place_order g.K.Ord.cmp c.args.pair.now f.waiting = c.range_after-behind.ensures.rest ∙ ap (after place_order g.K.Ord.cmp c.args.pair.now) waiting in
     let sorted = rw behind at c.range_after-behind.ensures.ordered in
     let found : c.in_ok-found.field-0 ≡ first_until o f c.args.trail.now (fresh_at c.args.moment) (after place_order g.K.Ord.cmp c.args.pair.now f.waiting) =

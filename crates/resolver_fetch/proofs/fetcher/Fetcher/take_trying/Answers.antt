@@ -23,3 +23,11 @@ returns-clause-found g c =
     let f = c.args.self.now in
     let a = c.self.inside in
     IfOk-weaker c.seek.result _ _ (λ found is. is ∙ rw (← c.self.view_is) (rw (← c.self.view_is) at (sym (tried-found o f a.moment a.trail a.expects scan c.if-is_none.ensures)))) c.seek.ensures.ok
+
+-- nothing is kept of what is tried
+pub invariant_of-self-3 : goal.invariant_of-self-3
+invariant_of-self-3 g c = record {
+  timely = c.self.invariant.timely;
+  moment_fits = c.self.invariant.moment_fits;
+  right = rw c.take.ensures.after tt;
+}
