@@ -375,6 +375,28 @@ fn fetcher_wake_up(rt: HostRuntime) -> Result<(), Fail> {
 }
 
 #[test]
+fn the_next_due_wakes(rt: HostRuntime) -> Result<(), Fail> {
+    let calls = [
+        (Call::Retry { key: 2, at: 0 }, Seen::Done),
+        (Call::Retry { key: 1, at: 5 }, Seen::Done),
+        (Call::Ready { key: 3, at: 12 }, Seen::Done),
+        (Call::Ready { key: 4, at: 30 }, Seen::Done),
+        (Call::Begin(12), Seen::Over),
+        (Call::WakeUp, Seen::At(Some(15))),
+        (Call::Begin(15), Seen::Over),
+        (Call::WakeUp, Seen::At(Some(30))),
+        (Call::Begin(30), Seen::Over),
+        (Call::WakeUp, Seen::At(Some(u128::MAX))),
+        (Call::Ready { key: 0, at: 31 }, Seen::Done),
+        (Call::WakeUp, Seen::At(Some(12))),
+        (Call::Begin(30), Seen::Over),
+        (Call::WakeUp, Seen::At(Some(31))),
+    ];
+    goes(&rt, rt.alloc(), &calls)?;
+    Ok(())
+}
+
+#[test]
 fn limits_and_refusals(rt: HostRuntime) -> Result<(), Fail> {
     let calls = [
         (Call::Peers(&[4]), Seen::Done),
