@@ -1,5 +1,5 @@
-//! The fetcher with many keys: each is made to wait; scans are begun while every peer is blocked;
-//! then each scan's first request is taken; and each request is answered.
+//! The fetcher with many keys: each is made to wait; scans are begun while every peer is blocked, and
+//! the wake-up is asked for; then each scan's first request is taken; and each request is answered.
 
 ghost use Rattle.std.specs.Prelude.{◌<◌, ◌^◌};
 
@@ -32,9 +32,10 @@ pub fn run(rt: &(impl AllocGlobal + Clock), size: u64) -> Result<Vec<Spent>, Fau
     let mut fetcher = Fetcher::new(alloc, config);
     fetcher.reconcile(peers(alloc)?)?;
     fetcher.set_blocked(peers(alloc)?)?;
-    let mut spent = Vec::with_capacity(alloc, 4)?;
+    let mut spent = Vec::with_capacity(alloc, 5)?;
     spent.push(take_all(rt, &mut fetcher, Kind::Wait, size)?)?;
     spent.push(take_all(rt, &mut fetcher, Kind::Idle, size)?)?;
+    spent.push(take_all(rt, &mut fetcher, Kind::Wake, size)?)?;
     fetcher.set_blocked(Vec::new(alloc))?;
     spent.push(take_all(rt, &mut fetcher, Kind::Scan, size)?)?;
     spent.push(take_all(rt, &mut fetcher, Kind::Respond, size)?)?;
@@ -70,7 +71,7 @@ fn take_all(
     })
 }
 
-/// Takes one call, and counts its keys, or what a scan asks.
+/// Takes one call, and counts its keys or moments, or what a scan asks.
 fn take(fetcher: &mut Asker, kind: Kind, i: u64) -> Result<u64, Fault> {
     match kind {
         Kind::Wait => {
@@ -78,6 +79,7 @@ fn take(fetcher: &mut Asker, kind: Kind, i: u64) -> Result<u64, Fault> {
             Ok(1)
         }
         Kind::Idle | Kind::Scan => scan(fetcher, u128::from(i)),
+        Kind::Wake => Ok(u64::from(fetcher.get_pending_deadline().is_some())),
         _ => Ok(u64::from(fetcher.pop_response(i, &0, 0).is_some())),
     }
 }

@@ -11,6 +11,7 @@ pub enum Kind {
     Take,
     Wait,
     Idle,
+    Wake,
     Scan,
     Respond,
 }
@@ -23,6 +24,7 @@ impl Kind {
             Kind::Put | Kind::Take => "fetches",
             Kind::Wait | Kind::Respond => "keys",
             Kind::Idle | Kind::Scan => "questions",
+            Kind::Wake => "moments",
         }
     }
 
@@ -37,6 +39,7 @@ impl Kind {
             Kind::Take => "take",
             Kind::Wait => "wait",
             Kind::Idle => "idle scan",
+            Kind::Wake => "wake-up",
             Kind::Scan => "scan",
             Kind::Respond => "respond",
         }
@@ -44,7 +47,7 @@ impl Kind {
 }
 
 /// What the steps of one kind took, and how many effects of the actor, fetches of the mailbox, or
-/// keys or questions of the fetcher they had.
+/// keys, questions or moments of the fetcher they had.
 #[derive(Clone, Copy, Debug)]
 pub struct Spent {
     pub kind: Kind,
