@@ -22,7 +22,14 @@ type Asker = Fetcher<u64, u16>;
 
 /// Takes every key through the fetcher.
 pub fn run(rt: &(impl AllocGlobal + Clock), size: u64) -> Result<Vec<Spent>, Fault> {
-    let alloc = rt.alloc();
+    let mut spent = Vec::with_capacity(rt.alloc(), 5)?;
+    let mut fetcher = blocked(rt.alloc())?;
+    take_every(rt, &mut fetcher, &mut spent, size)?;
+    Ok(spent)
+}
+
+/// A fetcher whose peers are all blocked.
+fn blocked(alloc: Global) -> Result<Asker, Fault> {
     let config = Config {
         me: None,
         fetch_timeout: 1,
@@ -32,14 +39,20 @@ pub fn run(rt: &(impl AllocGlobal + Clock), size: u64) -> Result<Vec<Spent>, Fau
     let mut fetcher = Fetcher::new(alloc, config);
     fetcher.reconcile(peers(alloc)?)?;
     fetcher.set_blocked(peers(alloc)?)?;
-    let mut spent = Vec::with_capacity(alloc, 5)?;
-    spent.push(take_all(rt, &mut fetcher, Kind::Wait, size)?)?;
-    spent.push(take_all(rt, &mut fetcher, Kind::Idle, size)?)?;
-    spent.push(take_all(rt, &mut fetcher, Kind::Wake, size)?)?;
-    fetcher.set_blocked(Vec::new(alloc))?;
-    spent.push(take_all(rt, &mut fetcher, Kind::Scan, size)?)?;
-    spent.push(take_all(rt, &mut fetcher, Kind::Respond, size)?)?;
-    Ok(spent)
+    Ok(fetcher)
+}
+
+/// Takes calls of every kind of a fetcher whose peers are all blocked, and measures them.
+fn take_every(
+    rt: &(impl AllocGlobal + Clock),
+    fetcher: &mut Asker,
+    spent: &mut Vec<Spent>,
+    size: u64,
+) -> Result<(), Fault> {
+    let blocked = [Kind::Wait, Kind::Idle, Kind::Wake];
+    take_each(rt, fetcher, spent, &blocked, size)?;
+    fetcher.set_blocked(Vec::new(rt.alloc()))?;
+    take_each(rt, fetcher, spent, &[Kind::Scan, Kind::Respond], size)
 }
 
 /// The peers of the set, in their order.
@@ -49,6 +62,20 @@ fn peers(alloc: Global) -> Result<Vec<u16>, Fault> {
         peers.push(peer)?;
     }
     Ok(peers)
+}
+
+/// Takes calls of some kinds, one kind after another, and measures them.
+fn take_each(
+    rt: &(impl AllocGlobal + Clock),
+    fetcher: &mut Asker,
+    spent: &mut Vec<Spent>,
+    kinds: &[Kind],
+    steps: u64,
+) -> Result<(), Fault> {
+    for kind in kinds {
+        spent.push(take_all(rt, fetcher, *kind, steps)?)?;
+    }
+    Ok(())
 }
 
 /// Takes calls of one kind, and measures them.
