@@ -17,7 +17,7 @@ mod targets;
 mod trail;
 mod trying;
 
-ghost use Rattle.std.specs.Prelude.{◌≡◌, Bool, false, ◌<◌, ◌^◌, [], length, is_some, unwrap_or, IfErr, OnErr, OnOk};
+ghost use Rattle.std.specs.Prelude.{◌≡◌, Bool, ◌<◌, ◌^◌, [], length, is_some, unwrap_or, IfErr, OnErr, OnOk};
 ghost use Rattle.std.specs.BTreeMap.{insert_entry, is_at};
 ghost use Rattle.std.specs.Fn.{FnReturnsAt};
 ghost use Rattle.std.specs.Map.{lookup};

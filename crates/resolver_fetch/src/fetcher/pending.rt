@@ -2,9 +2,8 @@
 
 ghost use Rattle.std.specs.Prelude.{◌≡◌, ℕ, Bool, [], Some, IfErr, IsSome, OnErr, OnOk, option_map};
 ghost use Rattle.std.specs.List.Sorted.{IsStrictlySortedBy};
-ghost use Rattle.std.specs.Fn.{FnReturnsAt};
 ghost use Rattle.resolver_base.specs.Answering.{AnswersBy};
-ghost use Rattle.resolver_base.specs.Priorities.{after, pair_order};
+ghost use Rattle.resolver_base.specs.Priorities.{pair_order};
 ghost use Rattle.resolver_base.specs.declared.base.fault.Fault.TheVariants.{OutOfMemory};
 ghost use Rattle.resolver_fetch.specs.Pending.{IsBound, asleep, awake, due_behind, later_due, raised, with_kept, with_key, with_keys, without_key};
 ghost use Rattle.resolver_fetch.specs.Waiting.{fresh_at, place_order, retry_at, wake_up};
