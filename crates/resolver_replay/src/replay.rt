@@ -13,7 +13,7 @@ use resolver::opaque::{Actor, Effect, Event, Input};
 use resolver::p2p::mocks::Key;
 use std::alloc::{AllocError, AllocFailed, Global};
 use std::io;
-use std::io::{BufRead, ErrorKind, Write};
+use std::io::{BufRead, BufReader, ErrorKind, Read, Write};
 use thiserror::Error;
 
 /// How a script ended.
@@ -78,16 +78,32 @@ struct Session {
     alloc: Global,
 }
 
-/// Reads the script, feeds its inputs one after another, and prints what comes of each before the
-/// next line is read.
-pub fn run<R: BufRead, W: Write>(
+/// Reads the script, feeds its inputs one after another, and prints what comes of each before more
+/// input is waited for. What was printed before a fault is written, too.
+pub fn run<R: Read, W: Write>(
     alloc: Global,
-    input: &mut R,
+    input: &mut BufReader<R>,
+    output: &mut W,
+) -> Result<Ending, Fault> {
+    let ended = take_lines(alloc, input, output);
+    let flushed = written(output.flush());
+    let ending = ended?;
+    flushed?;
+    Ok(ending)
+}
+
+/// Does what the lines say, up to the first that can't be read.
+fn take_lines<R: Read, W: Write>(
+    alloc: Global,
+    input: &mut BufReader<R>,
     output: &mut W,
 ) -> Result<Ending, Fault> {
     let mut session = None;
     let mut line = Vec::new(alloc);
     for number in 1..=u64::MAX {
+        if !has_line(input) {
+            written(output.flush())?;
+        }
         if !read_line(input, &mut line)? {
             break;
         }
@@ -96,16 +112,19 @@ pub fn run<R: BufRead, W: Write>(
         }
         if !take_line(alloc, &mut session, &line, output)? {
             written(writeln!(output, "line {number} unreadable"))?;
-            written(output.flush())?;
             return Ok(Ending::Unreadable);
         }
-        written(output.flush())?;
     }
     Ok(Ending::End)
 }
 
+/// Whether the next line can be read without waiting for more input.
+fn has_line<R: Read>(input: &BufReader<R>) -> bool {
+    input.buffer().contains(&b'\n')
+}
+
 /// Reads the next line, without its LF, in place of the one there. False at the end of the input.
-fn read_line<R: BufRead>(input: &mut R, line: &mut Vec<u8>) -> Result<bool, Fault> {
+fn read_line<R: Read>(input: &mut BufReader<R>, line: &mut Vec<u8>) -> Result<bool, Fault> {
     line.clear();
     let count = input
         .read_until(b'\n', line)

@@ -1,11 +1,10 @@
 use super::*;
-use std::io::Read;
 use std::test::Fail;
 
 /// What a script prints, and how it ended.
-fn replayed(alloc: Global, script: &[u8]) -> Result<(Vec<u8>, Result<Ending, Fault>), AllocError> {
+fn replayed(alloc: Global, script: &[u8]) -> io::Result<(Vec<u8>, Result<Ending, Fault>)> {
     let mut output = Vec::new(alloc);
-    let mut input = script;
+    let mut input = BufReader::new(alloc, script)?;
     let ended = run(alloc, &mut input, &mut output);
     Ok((output, ended))
 }
@@ -212,26 +211,14 @@ impl Read for Torn<'_> {
     }
 }
 
-impl BufRead for Torn<'_> {
-    fn fill_buf(&mut self) -> io::Result<&[u8]> {
-        if self.rest.is_empty() {
-            return Err(ErrorKind::Other.into());
-        }
-        Ok(self.rest)
-    }
-
-    fn consume(&mut self, amount: usize) {
-        self.rest.consume(amount);
-    }
-}
-
 // A line that was read in part is not executed.
 #[test]
 fn a_torn_input(rt: HostRuntime) -> Result<(), Fail> {
     let mut output = Vec::new(rt.alloc());
-    let mut input = Torn {
+    let torn = Torn {
         rest: b"opaque 1\nfetch 1 10 7\nfetch 2 10 7",
     };
+    let mut input = BufReader::new(rt.alloc(), torn)?;
     let ended = run(rt.alloc(), &mut input, &mut output);
     assert_eq!(rt; ended, Err(Fault::Input));
     assert_eq!(rt; output.as_slice(), b"start 0 1\n".as_slice());
@@ -271,10 +258,76 @@ fn a_full_output(rt: HostRuntime) -> Result<(), Fail> {
             taken: Vec::new(rt.alloc()),
             room,
         };
-        let mut input = script.as_slice();
+        let mut input = BufReader::new(rt.alloc(), script.as_slice())?;
         let ended = run(rt.alloc(), &mut input, &mut output);
         assert_eq!(rt; ended, Err(Fault::Output));
         assert_eq!(rt; output.taken.as_slice(), &whole[..room]);
     }
+    Ok(())
+}
+
+/// A reader that gives one line at a time.
+#[derive(Drop)]
+struct Lines<'a> {
+    rest: &'a [u8],
+}
+
+impl Read for Lines<'_> {
+    fn read(&mut self, buf: &mut [u8]) -> io::Result<usize> {
+        let line = self.rest.split_inclusive(|byte| *byte == b'\n').next();
+        let count = line.unwrap_or_default().len().min(buf.len());
+        self.rest.read(&mut buf[..count])
+    }
+}
+
+/// A writer that notes how much it had taken whenever it was flushed.
+#[derive(Drop)]
+struct Flushed {
+    taken: usize,
+    flushes: Vec<usize>,
+}
+
+impl Write for Flushed {
+    fn write(&mut self, buf: &[u8]) -> io::Result<usize> {
+        self.taken = self.taken.saturating_add(buf.len());
+        Ok(buf.len())
+    }
+
+    fn flush(&mut self) -> io::Result<()> {
+        self.flushes.push(self.taken)?;
+        Ok(())
+    }
+}
+
+const TWO_FETCHES: &[u8] = b"opaque 1\nfetch 1 10 7\n\nfetch 2 10 7\n";
+
+// What is executed is printed before more input is waited for.
+#[test]
+fn lines_that_come_one_by_one(rt: HostRuntime) -> Result<(), Fail> {
+    let mut output = Flushed {
+        taken: 0,
+        flushes: Vec::new(rt.alloc()),
+    };
+    let mut input = BufReader::new(rt.alloc(), Lines { rest: TWO_FETCHES })?;
+    let ended = run(rt.alloc(), &mut input, &mut output);
+    assert_eq!(rt; ended, Ok(Ending::End));
+    assert_eq!(rt;
+        output.flushes.as_slice(),
+        [0, 0, 10, 10, 20, 20].as_slice()
+    );
+    Ok(())
+}
+
+// Lines that are there already are not waited for.
+#[test]
+fn lines_that_come_together(rt: HostRuntime) -> Result<(), Fail> {
+    let mut output = Flushed {
+        taken: 0,
+        flushes: Vec::new(rt.alloc()),
+    };
+    let mut input = BufReader::new(rt.alloc(), TWO_FETCHES)?;
+    let ended = run(rt.alloc(), &mut input, &mut output);
+    assert_eq!(rt; ended, Ok(Ending::End));
+    assert_eq!(rt; output.flushes.as_slice(), [0, 20, 20].as_slice());
     Ok(())
 }
