@@ -2,6 +2,7 @@
 use Rattle.std.proofs.Common.{◌≡◌, refl, ap, sym, ◌∙◌, subst, Bool, true, false, cond, not, List, [], ◌∷◌, ◌++◌, map, filter, Option, None, Some, ℕ, length}
 use Rattle.std.specs.Prelude.{nat_lt}
 use Rattle.std.specs.List.{IsDistinct, AllByRecursion}
+use Rattle.std.specs.List.Sorted.{IsStrictlySortedBy}
 use Rattle.std.specs.Ordering.{match_ordering, is_eq}
 use Rattle.std.specs.declared.cmp.Ordering.{Ordering}
 use Rattle.std.specs.declared.cmp.Ordering.TheVariants.{Less, Equal, Greater}
@@ -16,14 +17,14 @@ use Rattle.resolver_demand.specs.Entries.{changed_at}
 use Rattle.resolver.specs.Opaque.{Row, kept, unkept, called_off, all_called_off}
 use Rattle.resolver.specs.OpaqueActor.{Kept, phase_of, rows_of, has_cached, AreCached, Agree}
 use Rattle.resolver.specs.OpaqueFound.{each_called_off, without_each}
-use Rattle.std.specs.Prelude.{Result, Ok, Err, IfOk}
+use Rattle.std.specs.Prelude.{Result, Ok, Err, IfOk, OnOk}
 use Rattle.std.specs.declared.vec.Vec.{Vec}
 use Rattle.std.specs.declared.alloc.Global.{Global}
 use Rattle.resolver_base.specs.declared.base.fault.Fault.{Fault}
 use Rattle.resolver.specs.declared.opaque.rows.Row.{Row as ListedRow}
 use Rattle.resolver.specs.OpaqueListed.{listed}
 use Rattle.resolver.proofs.Joined.{head_key, tail_keys, keys-inserted, keys-removed, keys-rows}
-use Rattle.resolver.proofs.Rows.{Distinct-inserted, Distinct-removed}
+use Rattle.resolver_machine.proofs.Rows.{Distinct-inserted, Distinct-removed}
 
 abbrev HasCached : {V : Type 0} → Kept V → Type 0
 HasCached e = has_cached e.number e.response
@@ -245,6 +246,13 @@ distinct-rows cmp ts es a = subst (IsDistinct (λ k l. is_eq (cmp k l))) (sym (k
 keys-listed : {K V S : Type 0} (rs : List (K × Row V S)) → map (λ row. row.key) (map listed rs) ≡ keys_of rs
 keys-listed [] = refl
 keys-listed (r ∷ rs) = ap (λ ks. r.0 ∷ ks) (keys-listed rs)
+
+-- the keys that are listed are the tracker's, in their order
+pub listed-ordered : {K V S : Type 0} (cmp : K → K → Ordering) (ts : List (K × List (S × ℕ))) (es : List (K × Kept V)) → Agree cmp ts es
+    → (result : Result (Vec (ListedRow K S) Global) Fault) → OnOk result (IsStrictlySortedBy cmp (keys_of ts)) → IfOk result (λ list. list.items ≡ map listed (rows_of ts es))
+    → IfOk result (λ list. IsStrictlySortedBy cmp (map (λ row. row.key) list.items))
+listed-ordered cmp ts es a (Ok list) ordered is = subst (IsStrictlySortedBy cmp) (sym (ap (map (λ row. row.key)) is ∙ (keys-listed (rows_of ts es) ∙ keys-rows ts es a.same))) ordered
+listed-ordered cmp ts es a (Err fault) ordered is = tt
 
 pub listed-distinct : {K V S : Type 0} (cmp : K → K → Ordering) (ts : List (K × List (S × ℕ))) (es : List (K × Kept V)) → Agree cmp ts es
     → (result : Result (Vec (ListedRow K S) Global) Fault) → IfOk result (λ list. list.items ≡ map listed (rows_of ts es))

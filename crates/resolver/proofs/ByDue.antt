@@ -10,8 +10,8 @@ use Rattle.resolver.specs.Opaque.{Machine, Row, Phase, Waiting, Asked, Judged, D
 use Rattle.resolver.specs.OpaqueActor.{Kept, phase_of, rows_of, row_of as code_row_of}
 use Rattle.resolver.specs.OpaqueFound.{IsIdle, IsIdlePhase, first_due}
 use Rattle.resolver.proofs.Joined.{head_key, tail_keys}
-use Rattle.resolver.proofs.Deliveries.{Each}
-use Rattle.resolver.proofs.Rows.{each_found}
+use Rattle.resolver_machine.specs.Lawful.{Each}
+use Rattle.resolver_machine.proofs.Rows.{each_found}
 use Rattle.std.specs.Prelude.{option_and_then, unwrap_or, ◌++◌, IfSome, nat_lt}
 use Rattle.std.proofs.Common.{append_assoc}
 use Rattle.resolver.specs.declared.opaque.actor.Effect.{Effect}

@@ -26,18 +26,19 @@ use Rattle.resolver_base.specs.declared.root.Delivery.{Delivery}
 use Rattle.std.specs.declared.cmp.Ordering.{Ordering}
 use Rattle.resolver_demand.specs.declared.delivery.completion.Completion.{Completion}
 use Rattle.resolver_demand.specs.declared.delivery.completion.Aborted.{Aborted}
-use Rattle.resolver.specs.declared.ruling.Ruling.TheVariants.{Serve, Retry, Retire}
+use Rattle.resolver_machine.specs.declared.ruling.Ruling.TheVariants.{Serve, Retry, Retire}
 use Rattle.resolver.specs.declared.opaque.rows.Stage.{Stage}
 use Rattle.resolver.specs.declared.opaque.rows.Stage.TheVariants as stages
 use Rattle.resolver.specs.declared.opaque.actor.Effect.{Effect}
 use Rattle.resolver.specs.declared.opaque.actor.Effect.TheVariants.{Deliver}
-use Rattle.resolver.specs.Account.{Handed}
-use Rattle.resolver.specs.Verdicts.{ruling}
+use Rattle.resolver_machine.specs.Account.{Handed}
+use Rattle.resolver_machine.specs.Verdicts.{ruling}
 use Rattle.resolver.specs.Opaque.{Machine, Row, Judged, Judging, Done, Status, quiet, hand_out, row_of, without_row, served, ruled, verdict, verdict_on, verdict_at, verdict_in}
 use Rattle.resolver.specs.OpaqueActor.{Kept, phase_in, phase_of, has_cached, AreCached, Agree, rows_of, row_of as code_row_of, handed_of, machine_with}
 use Rattle.resolver.specs.OpaqueFound.{IsRefusal, flagged, handed_again}
+use Rattle.resolver.specs.OpaqueStages.{resting}
 use Rattle.resolver.specs.OpaqueSteps.{onto, Goes}
-use Rattle.resolver.proofs.Mapped.{insert_entry-seen, remove_entry-seen}
+use Rattle.resolver_machine.proofs.Mapped.{insert_entry-seen, remove_entry-seen}
 use Rattle.resolver.proofs.Joined.{same_found, rows-found, rows-set_demand, rows-set_keys, rows-removed, set-set, remove-set, lookup-set_self}
 use Rattle.resolver.proofs.Agrees.{cached-at, cached-set, cached-changed, keys-changed, agree-removed, agree-demand, agree-keys}
 use Rattle.std.specs.Cmp.{IsEquivalence}
@@ -303,10 +304,10 @@ module _ {K V S : Type 0} (n : Names K S) (ts : List (K × List (S × ℕ))) (d 
 
     pub retry_goes : (due : ℕ) (before : List (Effect K V S)) → due ≡ now + delay → Retry ≡ ruling (is_accepted n.key e c.delivery.key) outcome
         → onto before (verdict n m now number outcome)
-        ≡ Some (record { machine = machine_with ts (changed n.key c.delivery.key (with_state (stages.Waiting due)) e) attempts delay status; effects = before })
+        ≡ Some (record { machine = machine_with ts (changed n.key c.delivery.key (resting due) e) attempts delay status; effects = before })
     retry_goes due before later is =
-        let put = rows-set_keys (same_key n c.delivery.key) ts d.keys l.subscribers (with_state (stages.Waiting (now + delay)) (ended l.entry)) agree.same l.first in
-        let twice = set-set (same_key n c.delivery.key) d.keys (ended l.entry) (with_state (stages.Waiting (now + delay)) (ended l.entry)) in
+        let put = rows-set_keys (same_key n c.delivery.key) ts d.keys l.subscribers (resting (now + delay) (ended l.entry)) agree.same l.first in
+        let twice = set-set (same_key n c.delivery.key) d.keys (ended l.entry) (resting (now + delay) (ended l.entry)) in
         rw (l.rules, ← accepted-left, ← is, append-nil, later, found-left, put, l.left, twice) refl
 
     rest_is : tables.rest_of n c.delivery.key c.delivery.subscribers ts ≡ tables.some_of (without n.subscriber c.delivery.subscribers l.subscribers)

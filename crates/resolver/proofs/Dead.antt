@@ -5,11 +5,11 @@ use Rattle.std.specs.BTreeMap.{is_at}
 use Rattle.std.specs.Ordering.{nat_cmp}
 use Rattle.resolver_base.specs.Names.{Names}
 use Rattle.resolver_base.specs.declared.root.Outcome.{Outcome}
-use Rattle.resolver.specs.Account.{Handed}
-use Rattle.resolver.specs.Verdicts.{ruling}
+use Rattle.resolver_machine.specs.Account.{Handed}
+use Rattle.resolver_machine.specs.Verdicts.{ruling}
 use Rattle.resolver.specs.Opaque.{Machine, Row, Phase, Waiting, Asked, Judged, Verdict, step_in, step_done, quiet, closed, ruled, row_of, verdict, verdict_on, verdict_at, verdict_in}
 use Rattle.resolver.specs.OpaqueLaws.{is_judged_under, row_judged_under, is_live_as, is_live, DeadVerdictsPass}
-use Rattle.resolver.proofs.Tallies.{remove_entry-absent}
+use Rattle.resolver_machine.proofs.Tallies.{remove_entry-absent}
 
 module _ {K V S : Type 0} (n : Names K S) where
   dead-phase : (m : Machine K V S) (now number : ℕ) (h : Handed K S) (outcome : Option Outcome) (row : Row V S) (phase : Phase V) → is_judged_under number phase ≡ false

@@ -1,5 +1,5 @@
 -- The first of the retries is the waiting key that is due first.
-use Rattle.std.proofs.Common.{◌≡◌, refl, ap, sym, ◌∙◌, subst, ℕ, ◌≤◌, ◌<◌, Bool, true, false, cond, List, [], ◌∷◌, Option, None, Some, filter, nat_le, arith}
+use Rattle.std.proofs.Common.{◌≡◌, refl, ap, sym, ◌∙◌, subst, ℕ, ◌≤◌, ◌<◌, Bool, true, false, cond, List, [], ◌∷◌, Option, None, Some, filter, nat_le, arith, ◌^◌}
 use Rattle.std.proofs.lemmas.Bool.Decides.{nat_tests}
 use Rattle.std.proofs.lemmas.Map.Keys.{sorted_head, sorted_tail, IsDistinct-from_sorted}
 use Rattle.std.proofs.lemmas.Cmp.{nat_cmp_total, tied_itself}
@@ -109,18 +109,20 @@ module _ {K V : Type 0} {cmp : K → K → Ordering} (o : IsTotalOrder cmp) (law
       pub entry : Kept V
       pub kept : kept_at cmp es p.1 ≡ Some (p.1, entry)
       pub waits : phase_of entry ≡ Waiting p.0
+      pub soon : p.0 < 2 ^ 95
 
     is-first : (p : ℕ × K) (ps : List (ℕ × K)) → retries ≡ p ∷ ps → IsFirst p
     is-first p ps is = at (kept_at cmp es p.1) refl (ap (λ b. cond b (p ∷ filter (is_of cmp p.1) ps) (filter (is_of cmp p.1) ps)) (sym (laws.refl p.1)) ∙ (ap (filter (is_of cmp p.1)) (sym is) ∙ d.due p.1)) (d.rests p.1)
       where
-        staged : (f : K × Kept V) → kept_at cmp es p.1 ≡ Some f → (stage : Stage) → f.1.state ≡ stage → p ∷ filter (is_of cmp p.1) ps ≡ retry_at f.0 stage → RestsAt stage f.1.number → IsFirst p
+        staged : (f : K × Kept V) → kept_at cmp es p.1 ≡ Some f → (stage : Stage) → f.1.state ≡ stage → p ∷ filter (is_of cmp p.1) ps ≡ retry_at f.0 stage → RestsAt stage f.1.number f.1.response → IsFirst p
         staged f kept (stages.Asked a) state pairs rests = cc
         staged f kept (stages.Waiting due) state pairs rests =
             let same : p ≡ (due, f.0) = first-is p (due, f.0) (filter (is_of cmp p.1) ps) pairs in
             record {
               entry = f.1;
               kept = kept ∙ ap (λ k. Some (k, f.1)) (sym (ap (λ (q : ℕ × K). q.1) same));
-              waits = ap (λ n. phase_in f.1.state n f.1.response) rests ∙ (ap (λ s. phase_in s None f.1.response) state ∙ ap (λ (n : ℕ). Waiting n) (sym (ap (λ (q : ℕ × K). q.0) same)));
+              waits = ap (λ n. phase_in f.1.state n f.1.response) rests.idle ∙ (ap (λ s. phase_in s None f.1.response) state ∙ ap (λ (n : ℕ). Waiting n) (sym (ap (λ (q : ℕ × K). q.0) same)));
+              soon = subst (λ n. n < 2 ^ 95) (sym (ap (λ (q : ℕ × K). q.0) same)) rests.soon;
             }
           where
             first-is : (p q : ℕ × K) (ps : List (ℕ × K)) → p ∷ ps ≡ q ∷ [] → p ≡ q
@@ -270,6 +272,9 @@ module _ {K V : Type 0} {cmp : K → K → Ordering} (o : IsTotalOrder cmp) (law
 
       pub first-is-least : Some p.0 ≡ first_due es
       first-is-least = let f = is-first retries es d p ps is in sym (least-due-is 0 p f.entry f.waits es none f.kept)
+
+      pub first-is-soon : p.0 < 2 ^ 95
+      first-is-soon = (is-first retries es d p ps is).soon
 
       pub first-is-due : (now : ℕ) → p.0 ≤ now → Some p.1 ≡ first_key (by_due (due_of now es))
       first-is-due now over = let f = is-first retries es d p ps is in ap first_key (sym (head-due now p f.entry f.waits over es ordered none f.kept).1)

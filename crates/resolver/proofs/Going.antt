@@ -22,15 +22,15 @@ use Rattle.resolver.specs.declared.opaque.actor.Effect.TheVariants.{Start, Deliv
 use Rattle.resolver.specs.Opaque.{Machine, Row, Phase, Asked, Waiting, Judged, Done, Status, Item, quiet, retry, is_asked_by, hand_out, fetch_one, row_of, start_new, start_again, retain, end, Ended, all_called_off, called_off}
 use Rattle.resolver.specs.OpaqueActor.{Kept, staged, phase_in, phase_of, has_cached, Agree, rows_of, row_of as code_row_of, handed_of, machine_with}
 use Rattle.resolver.specs.OpaqueFound.{asked_key, all_kept_called_off, each_called_off, without_each, IsIdle, IsIdlePhase, IsAskedFor, IsAskedPhase}
-use Rattle.resolver.specs.OpaqueStages.{IsAsked, Staged}
+use Rattle.resolver.specs.OpaqueStages.{IsAsked, Staged, resting}
 use Rattle.resolver.specs.OpaqueSteps.{onto, Goes}
-use Rattle.resolver.proofs.Mapped.{insert_entry-seen}
+use Rattle.resolver_machine.proofs.Mapped.{insert_entry-seen}
 use Rattle.resolver.proofs.Joined.{same_found, rows-found, rows-none, keys-rows, rows-set_demand, rows-set_keys, rows-inserted, head_key, tail_keys}
 use Rattle.resolver.proofs.Agrees.{cached-at, cached-changed, keys-changed, called_off-emptied, kept-emptied, agree-demand, agree-keys, agree-inserted}
 use Rattle.std.proofs.lemmas.Map.{keys-set_value}
 use Rattle.resolver_fetch.proofs.Entries.{removed-inserted}
-use Rattle.resolver.proofs.Deliveries.{Each-find}
-use Rattle.resolver.proofs.Rows.{each_found}
+use Rattle.resolver_machine.proofs.Deliveries.{Each-find}
+use Rattle.resolver_machine.proofs.Rows.{each_found}
 
 abbrev pub Entries : Type 0 → Type 0 → Type 0 → Type 0
 Entries K S V = Numbered K S V (Unit {0}) Stage
@@ -129,6 +129,16 @@ module _ {K V S : Type 0} (n : Names K S) (ts : List (K × List (S × ℕ))) (es
       ∙ ap (λ p. set_value (same_key n key) (rows_of ts es) (record { subscribers = h.subscribers; phase = p })) (sym (staged-phase stage h.entry.number h.entry.response free))
       ∙ rows-set_keys (same_key n key) ts es h.subscribers (with_state stage h.entry) a.same h.first
       ∙ ap (λ o. rows_of ts (changed_at (same_key n key) o (with_state stage) es)) (sym h.second)
+
+  -- a key that isn't judged waits
+  pub rows-rested : (key : K) (row : Row V S) (due : ℕ) → lookup (same_key n key) (rows_of ts es) ≡ Some row
+      → set_value (same_key n key) (rows_of ts es) (record { subscribers = row.subscribers; phase = Waiting due })
+      ≡ rows_of ts (changed_at (same_key n key) (lookup (same_key n key) es) (resting due) es)
+  rows-rested key row due found =
+      let h = has key row found in
+      ap (λ r. set_value (same_key n key) (rows_of ts es) (record { subscribers = r.subscribers; phase = Waiting due })) h.is
+      ∙ rows-set_keys (same_key n key) ts es h.subscribers (resting due h.entry) a.same h.first
+      ∙ ap (λ o. rows_of ts (changed_at (same_key n key) o (resting due) es)) (sym h.second)
 
   free-at : (key : K) (row : Row V S) → lookup (same_key n key) (rows_of ts es) ≡ Some row → IsIdlePhase row.phase
       → option_and_then (λ e. e.number) (lookup (same_key n key) es) ≡ None
@@ -252,6 +262,11 @@ module _ {K V S : Type 0} (n : Names K S) (ts : List (K × List (S × ℕ))) (d 
       rw is (agree-keys n.key ts d.keys (changed_at (same_key n key) (lookup (same_key n key) d.keys) (with_state stage) d.keys) agree (keys-changed (same_key n key) d.keys (with_state stage))
       (cached-changed (same_key n key) d.keys (with_state stage) (λ e cached. cached) agree.cached))
 
+  pub agree-rested : (key : K) (due : ℕ) (e : Entries K S V) → e ≡ changed n.key key (resting due) d → Agree n.key ts e.keys
+  agree-rested key due e is =
+      rw is (agree-keys n.key ts d.keys (changed_at (same_key n key) (lookup (same_key n key) d.keys) (resting due) d.keys) agree (keys-changed (same_key n key) d.keys (resting due))
+      (cached-changed (same_key n key) d.keys (resting due) (λ e cached. tt) agree.cached))
+
   pub agree-delivered : (key : K) (subscribers : List (S × ℕ)) (value : V) (e : Entries K S V) → e ≡ delivered n.key (record { key = key; subscribers = subscribers }) tt value d → Agree n.key ts e.keys
   agree-delivered key subscribers value e is =
       let change : Kept V → Kept V = λ e. numbered d.next (with_response (Some (record { name = d.next; value = value; context = tt; accepted = false })) e) in
@@ -270,11 +285,11 @@ module _ {K V S : Type 0} (n : Names K S) (ts : List (K × List (S × ℕ))) (d 
       rw (lt-ltb attempts (2 ^ 64) room, put, told, counted, is_next, moved) refl
 
   pub retry_goes : (key : K) (row : Row V S) (now due : ℕ) (before : List (Effect K V S)) (e : Entries K S V)
-      → row_of n m key ≡ Some row → IsIdlePhase row.phase → due ≡ now + delay
-      → e ≡ changed n.key key (with_state (stages.Waiting due)) d
+      → row_of n m key ≡ Some row → due ≡ now + delay
+      → e ≡ changed n.key key (resting due) d
       → onto before (quiet (retry n m now key row.subscribers)) ≡ Some (record { machine = machine_with ts e attempts delay status; effects = before })
-  retry_goes key row now due before e found idle later put =
-      let moved = rows-staged n ts d.keys agree key row (stages.Waiting (now + delay)) found idle in
+  retry_goes key row now due before e found later put =
+      let moved = rows-rested n ts d.keys agree key row (now + delay) found in
       rw (append-nil, put, later, moved) refl
 
   pub retain_goes : (laws : IsEquivalence (same_key n)) (keep : K → S → Bool) (before after : List (Effect K V S)) (us : List (K × List (S × ℕ))) (e : Entries K S V) (ks : List K)
@@ -369,17 +384,17 @@ asked-none None asked none = cc
 asked-none (Some x) asked none = cc
 
 module _ {K V S : Type 0} (n : Names K S) (ts : List (K × List (S × ℕ))) (s t : Staged K V S) (key : K) (due : ℕ) (result : Result (Unit {0}) Fault)
-    (ok : OnOk result (t ≡ record s { entries = changed n.key key (with_state (stages.Waiting due)) s.entries })) where
+    (ok : OnOk result (t ≡ record s { entries = changed n.key key (resting due) s.entries })) where
   -- a key waits, or memory was wanting and nothing changed
   pub agree-waited : OnErr result (t ≡ s) → Agree n.key ts s.entries.keys → Agree n.key ts t.entries.keys
   agree-waited err agree = at result ok err
     where
-      at : (r : Result (Unit {0}) Fault) → OnOk r (t ≡ record s { entries = changed n.key key (with_state (stages.Waiting due)) s.entries }) → OnErr r (t ≡ s) → Agree n.key ts t.entries.keys
-      at (Ok done) ok err = agree-staged n ts s.entries agree 0 0 Ended key (stages.Waiting due) t.entries (ap (λ s. s.entries) ok)
+      at : (r : Result (Unit {0}) Fault) → OnOk r (t ≡ record s { entries = changed n.key key (resting due) s.entries }) → OnErr r (t ≡ s) → Agree n.key ts t.entries.keys
+      at (Ok done) ok err = agree-rested n ts s.entries agree 0 0 Ended key due t.entries (ap (λ s. s.entries) ok)
       at (Err fault) ok err = subst (λ s. Agree n.key ts s.entries.keys) (sym err) agree
 
   pub waited_goes : (going : Option (Done K V S)) (before : List (Effect K V S)) (delay : ℕ) (status : Status) → IfErr result (λ fault. fault ≡ faults.OutOfMemory)
-      → onto before going ≡ Some (record { machine = machine_with ts (changed n.key key (with_state (stages.Waiting due)) s.entries) s.next_attempt delay status; effects = before })
+      → onto before going ≡ Some (record { machine = machine_with ts (changed n.key key (resting due) s.entries) s.next_attempt delay status; effects = before })
       → Goes going before before (machine_with ts t.entries t.next_attempt delay status) result
   waited_goes going before delay status only goes =
-      goes-told going before before (machine_with ts t.entries t.next_attempt delay status) result (t ≡ record s { entries = changed n.key key (with_state (stages.Waiting due)) s.entries }) ok only (λ told. rw told goes)
+      goes-told going before before (machine_with ts t.entries t.next_attempt delay status) result (t ≡ record s { entries = changed n.key key (resting due) s.entries }) ok only (λ told. rw told goes)

@@ -28,7 +28,7 @@ use Rattle.resolver.specs.OpaqueFound.{asked_key}
 use Rattle.resolver.specs.OpaqueListed.{listed_phase}
 use Rattle.resolver.specs.declared.opaque.rows.Phase.TheVariants as phases
 use Rattle.resolver_demand.specs.declared.delivery.entry.Response.{Response}
-use Rattle.resolver.specs.OpaqueStages.{Kept, stands_under, if_under, key_under, if_same, kept_at, IsLed}
+use Rattle.resolver.specs.OpaqueStages.{Kept, resting, stands_under, if_under, key_under, if_same, kept_at, IsLed}
 
 at-next : (next a : ℕ) → is_at (nat_cmp next) a ≡ true → next ≤ a
 at-next next a is = grind (arith, nat_tests)
@@ -331,17 +331,17 @@ module _ {K V : Type 0} {cmp : K → K → Ordering} (o : IsTotalOrder cmp) (law
         at false none = none
 
     -- a key waits
-    pub led-waits : Leaves → (due : ℕ) → IsLed cmp next left (changed_at (is_at (cmp k)) (lookup (is_at (cmp k)) es) (with_state (stages.Waiting due)) es)
+    pub led-waits : Leaves → (due : ℕ) → IsLed cmp next left (changed_at (is_at (cmp k)) (lookup (is_at (cmp k)) es) (resting due) es)
     led-waits leaves due =
-        led-changed k (option_map (λ f. (f.0, with_state (stages.Waiting due) f.1)) (kept_at cmp es k)) next next asked left es _ l
-        (subst (IsStrictlySortedBy cmp) (sym (keys-at (lookup (is_at (cmp k)) es))) l.ordered) (λ q. kept-changed k q es (with_state (stages.Waiting due)))
+        led-changed k (option_map (λ f. (f.0, resting due f.1)) (kept_at cmp es k)) next next asked left es _ l
+        (subst (IsStrictlySortedBy cmp) (sym (keys-at (lookup (is_at (cmp k)) es))) l.ordered) (λ q. kept-changed k q es (resting due))
         (λ q a. leads-left leaves q a ∙ ap (λ u. cond (same_in cmp k q) u (if_same cmp q (lookup (is_at (nat_cmp a)) asked))) (none a (kept_at cmp es k))) (fresh-left leaves)
       where
-        keys-at : (o : Option (Kept V)) → keys_of (changed_at (is_at (cmp k)) o (with_state (stages.Waiting due)) es) ≡ keys_of es
+        keys-at : (o : Option (Kept V)) → keys_of (changed_at (is_at (cmp k)) o (resting due) es) ≡ keys_of es
         keys-at None = refl
-        keys-at (Some e) = keys-set_value (is_at (cmp k)) es (with_state (stages.Waiting due) e)
+        keys-at (Some e) = keys-set_value (is_at (cmp k)) es (resting due e)
 
-        none : (a : ℕ) (p : Option (K × Kept V)) → None ≡ key_under a (option_map (λ f. (f.0, with_state (stages.Waiting due) f.1)) p)
+        none : (a : ℕ) (p : Option (K × Kept V)) → None ≡ key_under a (option_map (λ f. (f.0, resting due f.1)) p)
         none a None = refl
         none a (Some f) = refl
 

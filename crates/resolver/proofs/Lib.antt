@@ -1,4 +1,3 @@
-pub mod Mapped
 pub mod Led
 pub mod DueFirst
 pub mod Going
@@ -6,17 +5,8 @@ pub mod Running
 pub mod Dues
 pub mod Joined
 pub mod Agrees
-pub mod Deliveries
-pub mod Rows
-pub mod Tallies
 pub mod OpaqueDemand
-pub mod Marks
-pub mod Pairs
-pub mod Bridge
 pub mod OpaqueKept
 pub mod ByDue
 pub mod Closing
 pub mod Dead
-pub mod EarnsOnce
-pub mod AsksEligible
-pub mod TriesOnce

@@ -11,13 +11,13 @@ use Rattle.std.proofs.lemmas.Map.Made.{lookup-map_values}
 use Rattle.resolver_base.specs.Names.{Names, same_key}
 use Rattle.resolver_base.specs.Subscribers.{attached_all, without}
 use Rattle.resolver_base.specs.declared.root.Outcome.{Outcome}
-use Rattle.resolver.specs.declared.ruling.Ruling.{Ruling}
-use Rattle.resolver.specs.declared.ruling.Ruling.TheVariants.{Serve, Retry, Retire}
+use Rattle.resolver_machine.specs.declared.ruling.Ruling.{Ruling}
+use Rattle.resolver_machine.specs.declared.ruling.Ruling.TheVariants.{Serve, Retry, Retire}
 use Rattle.resolver.specs.declared.opaque.actor.Effect.{Effect}
 use Rattle.resolver.specs.declared.opaque.actor.Effect.TheVariants.{Start, Abort, Deliver, Cancel}
-use Rattle.resolver.specs.Verdicts.{ruling}
-use Rattle.resolver.specs.Account.{Account, Handed, Watched, Change, Adds, Keeps, Judges, Empties, Leaves, account_after, account_of}
-use Rattle.resolver.specs.Standing.{served_again, Standing, Held, Judgment, asks, asks_one, keeps, prunes, has_any, hands, closes, serves, ends, rules, ruled_out}
+use Rattle.resolver_machine.specs.Verdicts.{ruling}
+use Rattle.resolver_machine.specs.Account.{Account, Handed, Watched, Change, Adds, Keeps, Judges, Empties, Leaves, account_after, account_of}
+use Rattle.resolver_machine.specs.Standing.{served_again, Standing, Held, Judgment, asks, asks_one, keeps, prunes, has_any, hands, closes, serves, ends, rules, ruled_out}
 use Rattle.resolver.specs.Opaque.{Machine, Row, Phase, Waiting, Asked, Judged, Judging, Done, Item, Event, Fetch, Retain, Fetched, Verdict, RetriesDue, End, quiet, and_then, called_off, all_called_off, pruned, has_subscribers, retain, closed, placed, placed_if_due, waiting_by_due, end, start_again, hand_out, fetch_one, fetch, fetched_for, fetched, served, ruled, verdict_in, verdict_at, verdict_on, verdict, start_all, does, row_of, is_asked_by, with_row, with_new_row}
 use Rattle.resolver.specs.OpaqueStanding.{judgment_of, held_of, standing_of}
 use Rattle.resolver.specs.OpaqueLaws.{change_of, handed_out}
@@ -27,14 +27,15 @@ use Rattle.resolver_base.specs.declared.base.fault.Fault.TheVariants as faults
 use Rattle.resolver.specs.Opaque.{Status, Running, Ended, Failed, step_in, step_done}
 use Rattle.resolver.specs.OpaqueSteps.{Input, Runs}
 use Rattle.resolver.specs.OpaqueLaws.{taken, demanded}
-use Rattle.resolver.specs.Account.{nothing_asked}
-use Rattle.resolver.specs.Account.{table}
+use Rattle.resolver_machine.specs.Account.{nothing_asked}
+use Rattle.resolver_machine.specs.Account.{table}
 use Rattle.resolver.specs.Opaque.{opening}
-use Rattle.resolver.proofs.Tallies.{opening-tallies}
-use Rattle.resolver.proofs.Mapped.{seen, set_value-seen, insert_entry-seen, remove_entry-seen}
-use Rattle.resolver.proofs.Deliveries.{Each, Each-find, Each-lookup}
-use Rattle.resolver.proofs.Rows.{set_value-same, each_found}
-use Rattle.resolver.proofs.Tallies.{Tallies, Fits, judging_in, judging_of, stays, asks-tallies, keeps-tallies, ends-tallies, hands-tallies, closes-tallies, rules-tallies, judged_at, was_completed, remove_entry-absent}
+use Rattle.resolver_machine.proofs.Tallies.{opening-tallies}
+use Rattle.resolver_machine.proofs.Mapped.{seen, set_value-seen, insert_entry-seen, remove_entry-seen}
+use Rattle.resolver_machine.specs.Lawful.{Each}
+use Rattle.resolver_machine.proofs.Deliveries.{Each-find, Each-lookup}
+use Rattle.resolver_machine.proofs.Rows.{set_value-same, each_found}
+use Rattle.resolver_machine.proofs.Tallies.{Tallies, Fits, judging_in, judging_of, stays, asks-tallies, keeps-tallies, ends-tallies, hands-tallies, closes-tallies, rules-tallies, judged_at, was_completed, remove_entry-absent}
 
 module _ {K V S : Type 0} where
   handed_out-append : (xs ys : List (Effect K V S)) → handed_out (xs ++ ys) ≡ handed_out xs ++ handed_out ys
@@ -452,7 +453,7 @@ module _ {K V S : Type 0} (n : Names K S) where
   demanded-seen (r ∷ rs) = ap (λ d. (r.0, r.1.subscribers) ∷ d) (demanded-seen rs)
 
   -- the table of who is asked for is kept in every run
-  pub table_is_kept : IsEquivalence (same_key n) → (delay : ℕ) (inputs : List (Input K V S)) (answers : List (Result (List (Effect K V S)) Fault)) (new : Machine K V S)
-      → Runs n (opening delay) inputs answers new → new.status ≢ Failed → demanded new.rows ≡ (account_of (table n) (nothing_asked (table n)) (taken inputs answers)).demand
-  table_is_kept laws delay inputs answers new runs sound =
-      sym (demanded-seen new.rows) ∙ (runs-tallies laws inputs answers (opening delay) new (nothing_asked (table n)) (opening-tallies n) runs sound).demand
+  pub table_is_kept : IsEquivalence (same_key n) → (delay attempts : ℕ) (inputs : List (Input K V S)) (answers : List (Result (List (Effect K V S)) Fault)) (new : Machine K V S)
+      → Runs n (record (opening delay) { next_attempt = attempts }) inputs answers new → new.status ≢ Failed → demanded new.rows ≡ (account_of (table n) (nothing_asked (table n)) (taken inputs answers)).demand
+  table_is_kept laws delay attempts inputs answers new runs sound =
+      sym (demanded-seen new.rows) ∙ (runs-tallies laws inputs answers (record (opening delay) { next_attempt = attempts }) new (nothing_asked (table n)) (opening-tallies n) runs sound).demand

@@ -12,7 +12,7 @@ use Rattle.resolver.specs.declared.opaque.rows.Stage.TheVariants as stages
 use Rattle.resolver.specs.declared.opaque.actor.Status.{Status as CodeStatus}
 use Rattle.resolver.specs.declared.opaque.actor.Status.TheVariants as statuses
 use Rattle.resolver.specs.declared.opaque.actor.Actor.TheInside.{Inside}
-use Rattle.resolver.specs.Account.{Handed}
+use Rattle.resolver_machine.specs.Account.{Handed}
 use Rattle.resolver.specs.Opaque.{Machine, Row, Phase, Waiting, Asked, Judged, Status, Running, Ended, Failed}
 pub use Rattle.resolver.specs.OpaqueStages.{Kept}
 

@@ -9,9 +9,10 @@ use Rattle.resolver_base.specs.Names.{Names}
 use Rattle.resolver_base.specs.Demand.{all_pairs_of, IsSameDemand}
 use Rattle.resolver.specs.declared.opaque.actor.Effect.{Effect}
 use Rattle.resolver.specs.declared.opaque.actor.Effect.TheVariants.{Deliver}
-use Rattle.resolver.specs.Account.{Change, Adds, Keeps, Judges, Empties, Leaves, Handed, pairs, nothing_asked, account_of}
+use Rattle.resolver_machine.specs.Account.{Change, Adds, Keeps, Judges, Empties, Leaves, Handed, pairs, nothing_asked, account_of}
 use Rattle.resolver.specs.Opaque.{Machine, Row, Phase, Judged, Event, Fetch, Retain, Verdict, End, Running, Failed, opening, row_of, closed, step}
-use Rattle.resolver.specs.OpaqueSteps.{Input}
+use Rattle.resolver.specs.OpaqueSteps.{Input, Runs}
+use Rattle.resolver_machine.specs.Lawful.{Each, IsLawful}
 
 module _ {K V S : Type 0} where
   -- what an event says of the demand
@@ -40,11 +41,21 @@ module _ {K V S : Type 0} where
   demanded rows = map (λ r. (r.0, r.1.subscribers)) rows
 
 module _ {K V S : Type 0} (n : Names K S) where
-  -- Of a run from the opening state that did not fail, the rows have the pairs that were fetched and not since retired, by the inputs taken alone.
+  -- Of a run from an opening state, wherever its attempts begin, that did not fail, the rows have the pairs that were fetched and not since retired, by the inputs taken alone.
   abbrev pub KeepsDemand : (old : Machine K V S) → List (Input K V S) → List (Result (List (Effect K V S)) Fault) → (new : Machine K V S) → Type 0
   KeepsDemand old inputs answers new =
-      (delay : ℕ) → old ≡ opening delay → new.status ≢ Failed
+      (delay attempts : ℕ) → old ≡ record (opening delay) { next_attempt = attempts } → new.status ≢ Failed
       → IsSameDemand n (all_pairs_of (demanded new.rows)) (account_of (pairs n) (nothing_asked (pairs n)) (taken inputs answers)).demand
+
+  -- inputs as their types have them
+  abbrev pub AllLawful : List (Input K V S) → Type 0
+  AllLawful inputs = Each (λ input. IsLawful n (change_of input.event)) inputs
+
+-- Each run keeps the demand, by however many calls it came about.
+abbrev pub RunsKeepDemand : {K S : Type 0} → Names K S → (V : Type 0) → Type 0
+RunsKeepDemand {K} {S} n V =
+    (old : Machine K V S) (inputs : List (Input K V S)) (answers : List (Result (List (Effect K V S)) Fault)) (new : Machine K V S)
+    → AllLawful n inputs → Runs n old inputs answers new → KeepsDemand n old inputs answers new
 
 abbrev pub is_judged_under : {V : Type 0} → (number : ℕ) → Phase V → Bool
 is_judged_under number (Judged j) = number == j.number

@@ -10,7 +10,7 @@ use Rattle.resolver_base.specs.Names.{Names, names}
 use Rattle.resolver_base.specs.Demand.{Pair}
 use Rattle.resolver.specs.declared.opaque.actor.Effect.{Effect}
 use Rattle.resolver.specs.declared.opaque.actor.Effect.TheVariants.{Start, Abort, Deliver, Cancel}
-use Rattle.resolver.specs.Account.{pairs, nothing_asked, account_of}
+use Rattle.resolver_machine.specs.Account.{pairs, nothing_asked, account_of}
 use Rattle.resolver.specs.Opaque.{Machine, Row, Event, Fetch, Retain, Fetched, Verdict, RetriesDue, End, Asked, Waiting, opening, step, next_retry}
 use Rattle.resolver.specs.OpaqueSteps.{Input}
 use Rattle.resolver.specs.OpaqueLaws.{taken}

@@ -1,15 +1,16 @@
 -- The demanded keys by what was done last for them.
-use Rattle.std.specs.Prelude.{◌≡◌, ◌≤◌, ℕ, Bool, false, ◌==◌, List, [], ◌∷◌, Option, None, Some, filter, find, if◌then◌else◌}
+use Rattle.std.specs.Prelude.{◌≡◌, ◌≤◌, ◌<◌, ◌^◌, ℕ, Bool, false, ◌==◌, List, [], ◌∷◌, Option, None, Some, filter, find, if◌then◌else◌}
 use Rattle.std.specs.List.Sorted.{IsStrictlySortedBy}
 use Rattle.std.specs.Map.{keys_of, lookup}
 use Rattle.std.specs.BTreeMap.{is_at}
 use Rattle.std.specs.Ordering.{is_eq, nat_cmp}
 use Rattle.std.specs.declared.cmp.Ordering.{Ordering}
 use Rattle.resolver_base.specs.Priorities.{is_of}
-use Rattle.resolver_demand.specs.Entries.{Numbered}
+use Rattle.resolver_demand.specs.Entries.{Numbered, fresh}
 use Rattle.resolver.specs.declared.opaque.rows.Stage.{Stage}
 use Rattle.resolver.specs.declared.opaque.rows.Stage.TheVariants as stages
 use Rattle.resolver_demand.specs.declared.delivery.entry.Entry.{Entry}
+use Rattle.resolver_demand.specs.declared.delivery.entry.Response.{Response}
 
 -- what the entries keep of a key, without what was said of its response
 abbrev pub Kept : Type 0 → Type 0
@@ -52,14 +53,24 @@ abbrev pub retry_of : {K V : Type 0} → Option (K × Kept V) → List (ℕ × K
 retry_of None = []
 retry_of (Some e) = retry_at e.0 e.1.state
 
--- whether a key, if it waits, has no delivery in progress
-abbrev pub RestsAt : Stage → Option ℕ → Type 0
-RestsAt (stages.Waiting due) number = number ≡ None
-RestsAt (stages.Asked attempt) number = Unit {0}
+-- a key that waits from now on: what was known of it before is forgotten
+abbrev pub resting : {V : Type 0} → (due : ℕ) → Kept V → Kept V
+resting due e = fresh (stages.Waiting due)
+
+-- A waiting key has no delivery in progress, and no response is held for it. It is due a moment and a delay after 0, each below 2^94.
+pub record IsAtRest {V : Type 0} (due : ℕ) (number : Option ℕ) (response : Option (Response V (Unit {0}))) : Type 0 where
+  pub idle : number ≡ None
+  pub forgotten : response ≡ None
+  pub soon : due < 2 ^ 95
+
+-- whether a key, if it waits, is at rest
+abbrev pub RestsAt : {V : Type 0} → Stage → Option ℕ → Option (Response V (Unit {0})) → Type 0
+RestsAt (stages.Waiting due) number response = IsAtRest due number response
+RestsAt (stages.Asked attempt) number response = Unit {0}
 
 abbrev pub Rests : {K V : Type 0} → Option (K × Kept V) → Type 0
 Rests None = Unit {0}
-Rests (Some e) = RestsAt e.1.state e.1.number
+Rests (Some e) = RestsAt e.1.state e.1.number e.1.response
 
 -- whether a key is there that was asked for last
 abbrev pub IsAsked : Option Stage → Type 0
@@ -89,5 +100,5 @@ module _ {K V : Type 0} (cmp : K → K → Ordering) where
   pub record AreDue (retries : List (ℕ × K)) (es : List (K × Kept V)) : Type 0 where
     -- A key, as it is kept, is among them with its due, exactly where it waits.
     pub due : (key : K) → filter (is_of cmp key) retries ≡ retry_of (kept_at es key)
-    -- A waiting key has no delivery in progress.
+    -- A waiting key is at rest.
     pub rests : (key : K) → Rests (kept_at es key)

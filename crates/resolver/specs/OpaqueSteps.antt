@@ -6,7 +6,7 @@ use Rattle.resolver_base.specs.declared.base.fault.Fault.{Fault}
 use Rattle.resolver_base.specs.declared.base.fault.Fault.TheVariants as faults
 use Rattle.resolver_base.specs.Names.{Names}
 use Rattle.resolver.specs.declared.opaque.actor.Effect.{Effect}
-use Rattle.resolver.specs.Steps as steps
+use Rattle.resolver_machine.specs.Steps as steps
 use Rattle.std.specs.Prelude.{Bool, false, is_none, length, ◌==◌}
 use Rattle.std.specs.Map.{lookup}
 use Rattle.std.specs.BTreeMap.{is_at}
@@ -55,3 +55,7 @@ module _ {K V S : Type 0} (n : Names K S) where
 
   abbrev pub Runs : (old : Machine K V S) → List (Input K V S) → List (Result (List (Effect K V S)) Fault) → (new : Machine K V S) → Type 0
   Runs = steps.Runs step_on MayWant (λ m. m.status ≡ Failed)
+
+-- runs of the opaque machine go on
+abbrev pub RunsJoin : {K S : Type 0} → Names K S → (V : Type 0) → Type 0
+RunsJoin {K} {S} n V = steps.RunsJoin (step_on {K = K} {V = V} {S = S} n) MayWant (λ m. m.status ≡ Failed)

@@ -14,4 +14,3 @@ pub use resolver_mailbox::mailbox;
 pub mod laws;
 pub mod opaque;
 pub mod p2p;
-mod ruling;

@@ -7,15 +7,15 @@ ghost use Rattle.resolver.specs.declared.opaque.actor.Effect.TheVariants.{Delive
 ghost use Rattle.resolver.specs.OpaqueActor.{AreCached};
 ghost use Rattle.resolver.specs.OpaqueFound.{IsRefusal, flagged, handed_again};
 ghost use Rattle.resolver.specs.OpaqueStages.{IsAsked};
-ghost use Rattle.resolver.specs.Steps.{stops};
+ghost use Rattle.resolver_machine.specs.Steps.{stops};
 
 use super::rows::{Row, call_off_all, call_off_each, forget_each, listed};
 use super::stages::Stages;
-use crate::ruling::{Ruling, rule_on};
 use resolver_base::base::{Fault, NonEmptyVec, Numbers, Predicate};
 use resolver_base::root::{Delivery, Outcome};
 use resolver_demand::ingress::FetchKey;
 use resolver_demand::subscribers::Tracker;
+use resolver_machine::ruling::{Ruling, rule_on};
 use std::alloc::Global;
 use std::marker::{Model, PhantomData};
 
@@ -116,6 +116,7 @@ impl<K: Ord, V, S: Ord, Q> Model for Actor<K, V, S, Q> {
 impl<K: Ord + Clone, V: Clone, S: Ord + Clone, Q: Predicate<K, S> + Drop> Actor<K, V, S, Q> {
     ghost use Rattle.std.specs.Prelude.{◌==◌, Err, Some, false, find, is_none, length};
     ghost use Rattle.std.specs.List.{IsDistinct};
+    ghost use Rattle.std.specs.List.Sorted.{IsStrictlySortedBy};
     ghost use Rattle.std.specs.Map.{lookup};
     ghost use Rattle.std.specs.Ordering.{is_eq, nat_cmp};
     ghost use Rattle.std.specs.BTreeMap.{is_at};
@@ -220,15 +221,19 @@ impl<K: Ord + Clone, V: Clone, S: Ord + Clone, Q: Predicate<K, S> + Drop> Actor<
         ensures rows { IfOk result (λ rows. rows.items ≡ map listed self.now.rows) }
         ensures once { IfOk result
             (λ rows. IsDistinct (λ k l. is_eq (K.cmp k l)) (map (λ row. row.key) rows.items)) }
+        ensures ordered { IfOk result
+            (λ rows. IsStrictlySortedBy K.cmp (map (λ row. row.key) rows.items)) }
         ensures only { IfErr result (λ fault. fault ≡ Fault.OutOfMemory) }
     {
         listed(self.alloc, &self.demand, self.stages.entries())
     }
 
-    /// The earliest moment at which a waiting key is due, if a key is waiting. It takes time
-    /// logarithmic in the waiting keys.
+    /// The earliest moment at which a waiting key is due, if a key is waiting: a moment that the
+    /// actor was handed and its delay after it, so below 2^95. It takes time logarithmic in the
+    /// waiting keys.
     pub fn next_retry(&self) -> Option<u128>
-        ensures { result ≡ next_retry self.now.rows }
+        ensures value { result ≡ next_retry self.now.rows }
+        ensures soon { IfSome result (λ due. due < 2 ^ 95) }
     {
         self.stages.next_retry()
     }

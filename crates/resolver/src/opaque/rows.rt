@@ -1,6 +1,8 @@
 //! The demanded keys of the actor: who wants each, and what is being done for it.
 
 ghost use Rattle.std.specs.Prelude.{◌≡◌, ◌++◌, IfErr, IfOk, OnOk, map};
+ghost use Rattle.std.specs.List.Sorted.{IsStrictlySortedBy};
+ghost use Rattle.std.specs.Map.{keys_of};
 ghost use Rattle.resolver_base.specs.declared.base.fault.Fault.TheVariants.{OutOfMemory};
 ghost use Rattle.resolver.specs.Opaque.{called_off};
 ghost use Rattle.resolver.specs.OpaqueActor.{phase_of, rows_of};
@@ -56,6 +58,7 @@ pub fn listed<K: Ord + Clone + Drop, V: Drop, S: Ord + Clone + Drop>(
     requires subscribers_clone { (x y : S) → S.is_clone x y → y ≡ x }
     ensures rows { IfOk result
         (λ list. list.items ≡ map listed (rows_of demand.now entries.now.keys)) }
+    ensures ordered { OnOk result (IsStrictlySortedBy K.cmp (keys_of demand.now)) }
     ensures only { IfErr result (λ fault. fault ≡ OutOfMemory) }
 {
     let mut list = Vec::with_capacity(alloc, demand.len())?;

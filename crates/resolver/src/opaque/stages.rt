@@ -1,15 +1,15 @@
 //! The demanded keys of the actor, by what was done last for them.
 
-ghost use Rattle.std.specs.Prelude.{◌≡◌, ◌+◌, ℕ, [], Some, None, false, find, if◌then◌else◌, IfErr, IfOk, IsSome, IsTrue, OnErr, OnOk, option_and_then};
+ghost use Rattle.std.specs.Prelude.{◌≡◌, ◌+◌, ◌<◌, ◌^◌, ℕ, [], Some, None, false, find, if◌then◌else◌, IfErr, IfOk, IfSome, IsSome, IsTrue, OnErr, OnOk, option_and_then};
 ghost use Rattle.std.specs.BTreeMap.{is_at};
 ghost use Rattle.std.specs.Map.{keys_of, lookup};
 ghost use Rattle.std.specs.Option.{option_copied};
 ghost use Rattle.std.specs.Ordering.{is_eq, nat_cmp};
 ghost use Rattle.resolver_demand.specs.Entries.{accepted, changed, completed, delivered, inserted, is_accepted, is_tracked, number_of, redelivered, refusal_at, removed, response_changed, response_of, state_of, with_state};
-ghost use Rattle.resolver.specs.declared.opaque.rows.Stage.TheVariants.{Asked, Waiting};
+ghost use Rattle.resolver.specs.declared.opaque.rows.Stage.TheVariants.{Asked};
 ghost use Rattle.resolver.specs.OpaqueFound.{asked_key, first_due};
 ghost use Rattle.resolver.specs.OpaqueOverdue.{by_due, due_of, first_key};
-ghost use Rattle.resolver.specs.OpaqueStages.{IsAsked, attempt_in, stands_under, unstaged};
+ghost use Rattle.resolver.specs.OpaqueStages.{IsAsked, attempt_in, resting, stands_under, unstaged};
 ghost use Rattle.resolver_base.specs.declared.base.fault.Fault.TheVariants.{OutOfMemory};
 
 use super::rows::{Keys, Phase, Stage, listed_phase};
@@ -83,7 +83,8 @@ impl<K: Ord + Drop, S: Drop, V: Drop> Stages<K, S, V> {
 
     /// The earliest moment at which a waiting key is due.
     pub fn next_retry(&self) -> Option<u128>
-        ensures { result ≡ first_due self.now.entries.keys }
+        ensures value { result ≡ first_due self.now.entries.keys }
+        ensures soon { IfSome result (λ due. due < 2 ^ 95) }
     {
         let (due, _) = self.retries.iter().next()?;
         Some(*due)
@@ -151,16 +152,17 @@ impl<K: Ord + Drop, S: Drop, V: Drop> Stages<K, S, V> {
         Ok(attempt)
     }
 
-    /// A key that was asked for last waits until this moment. Where memory is wanting, nothing
-    /// changes.
+    /// A key that was asked for last waits until this moment, and its response is forgotten. Where
+    /// memory is wanting, nothing changes.
     pub fn wait(&mut self, key: &K, due: u128) -> Result<(), Fault>
     where
         K: Clone,
         requires keys_clone { (x y : K) → K.is_clone x y → y ≡ x }
         requires asked { IsAsked (state_of K.cmp self.old.entries key.now) }
         requires idle { number_of K.cmp self.old.entries key.now ≡ None }
+        requires soon { due < 2 ^ 95 }
         ensures ok { OnOk result (self.new ≡ record self.old {
-          entries = changed K.cmp key.now (with_state (Waiting due)) self.old.entries;
+          entries = changed K.cmp key.now (resting due) self.old.entries;
         }) }
         ensures err { OnErr result (self.new ≡ self.old) }
         ensures only { IfErr result (λ fault. fault ≡ OutOfMemory) }
@@ -173,6 +175,7 @@ impl<K: Ord + Drop, S: Drop, V: Drop> Stages<K, S, V> {
         };
         self.retries.put(held.clone()?, due)?;
         leave(&mut self.asked, &self.entries, key);
+        self.entries.discard_response(key);
         self.entries.set_state(key, Stage::Waiting { due });
         Ok(())
     }

@@ -37,7 +37,7 @@ returns-in-None g c =
     let f = found-key (names g.K.Ord.cmp g.S.Ord.cmp) c.self.inside.demand c.self.inside.stages.entries c.self.invariant.agree c.self.inside.stages.next_attempt c.self.inside.delay (status_of c.self.inside.status) (eq_by_cmp_equiv g.met.K.Ord.total) c.args.attempt c.in_ok-key.key (ap Some (c.requires.keys_clone _ _ c.in_ok-key.ensures.cases) ∙ c.in-Some.ensures) in
     rw (← c.self.view_is, c.in-None.is, f.at_attempt)
     (waited_goes (names g.K.Ord.cmp g.S.Ord.cmp) c.self.inside.demand c.self.inside.stages c.wait.new.self c.in_ok-key.key _ c.wait.result c.wait.ensures.ok (quiet (retry (names g.K.Ord.cmp g.S.Ord.cmp) (machine_of c.self.inside) c.args.now c.in_ok-key.key f.row.subscribers)) c.args.effects.now.items c.self.inside.delay (status_of c.self.inside.status) c.wait.ensures.only
-    (retry_goes (names g.K.Ord.cmp g.S.Ord.cmp) c.self.inside.demand c.self.inside.stages.entries c.self.invariant.agree c.self.inside.stages.next_attempt c.self.inside.delay (status_of c.self.inside.status) c.in_ok-key.key f.row c.args.now _ c.args.effects.now.items _ f.at_key f.idle refl refl))
+    (retry_goes (names g.K.Ord.cmp g.S.Ord.cmp) c.self.inside.demand c.self.inside.stages.entries c.self.invariant.agree c.self.inside.stages.next_attempt c.self.inside.delay (status_of c.self.inside.status) c.in_ok-key.key f.row c.args.now _ c.args.effects.now.items _ f.at_key refl refl))
 
 pub returns-in-Some-value : goal.returns-in-Some-value
 returns-in-Some-value g c =

@@ -7,8 +7,9 @@ use Rattle.resolver.specs.OpaqueSteps.{Runs, answer_of, step_on, MayWant}
 use Rattle.resolver.specs.Opaque.{Failed}
 use Rattle.std.proofs.lemmas.Cmp.{eq_by_cmp_equiv}
 use Rattle.resolver.proofs.OpaqueKept.{inputs-lawful, demand_is_kept}
-use Rattle.resolver.proofs.Pairs.{AnswersAlike}
-use Rattle.resolver.proofs.Running.{Runs-step, Runs-last, stops-answer_of, map-more, map-last}
+use Rattle.resolver_machine.specs.Lawful.{AnswersAlike}
+use Rattle.resolver_machine.proofs.Runs.{Runs-step, Runs-last}
+use Rattle.resolver.proofs.Running.{stops-answer_of, map-more, map-last}
 use Rattle.resolver.proofs.opaque.actor.Actor.run.Goals as goal
 
 -- the last answer, behind those so far

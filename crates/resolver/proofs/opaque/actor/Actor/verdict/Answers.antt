@@ -3,7 +3,7 @@ use Rattle.std.proofs.lemmas.Cmp.{eq_by_cmp_equiv}
 use Rattle.resolver_base.specs.Names.{names}
 use Rattle.resolver_demand.specs.Entries.{is_accepted}
 use Rattle.resolver.specs.OpaqueActor.{status_of}
-use Rattle.resolver.specs.Verdicts.{ruling}
+use Rattle.resolver_machine.specs.Verdicts.{ruling}
 use Rattle.resolver.proofs.Closing.{live, aborted_goes, canceled_goes, was-open, response-left, number-left, agree-left, retire_goes, retry_goes, served_goes, agree-gone, agree-served, agree-serve, serve_result}
 use Rattle.resolver.proofs.Going.{agree-waited, waited_goes}
 use Rattle.resolver.proofs.opaque.actor.Actor.verdict.Goals as goal

@@ -1,8 +1,9 @@
-use Rattle.std.proofs.Common.{◌∙◌, sym}
+use Rattle.std.proofs.Common.{◌∙◌, ap, refl, sym}
 use Rattle.std.proofs.lemmas.Cmp.{eq_by_cmp_equiv}
-use Rattle.resolver_demand.specs.Entries.{state_of}
+use Rattle.resolver_demand.specs.Entries.{changed, state_of, with_state}
+use Rattle.resolver.specs.declared.opaque.rows.Stage.TheVariants.{Waiting}
 use Rattle.resolver.proofs.Led.{led-waits}
-use Rattle.resolver.proofs.Dues.{asked-attempt, due-waits, idle-at, led-nowhere, led-same, stands}
+use Rattle.resolver.proofs.Dues.{asked-attempt, due-waits, led-nowhere, led-same, rested, stands}
 use Rattle.resolver.proofs.opaque.stages.Stages.wait.Goals as goal
 
 pub unreachable-requires : goal.unreachable-requires
@@ -19,8 +20,15 @@ invariant_of-self-2 g c =
     let s = stands g.met.K.Ord.total (eq_by_cmp_equiv g.met.K.Ord.total) c.self.inside.attempts c.self.inside.asked.entries c.self.inside.entries.keys c.self.invariant.0 c.args.key.now c.in-Some.attempt (sym c.in-Some.is ∙ c.attempt_of.ensures) in
     let led = led-same g.K.Ord.cmp c.args.key.now s.entry.0 c.in-Some-get.held.now _ c.in-Some-get.ensures.value s.leads in
     let own = c.requires.keys_clone _ _ c.in_ok-clone.ensures.cases ∙ led.0 in
-    rw (c.set_state.ensures, c.in_ok-put.ensures.ok, own) (
+    let forgets = rested g.K.Ord.cmp c.args.key.now c.args.due c.self.inside.entries (rw (← c.self.view_is) at c.requires.idle) in
+    let rests = c.set_state.ensures ∙ (ap (changed g.K.Ord.cmp c.args.key.now (with_state (Waiting c.args.due))) c.discard_response.ensures ∙ forgets) in
+    rw (rests, c.in_ok-put.ensures.ok, own) (
       led-waits g.met.K.Ord.total (eq_by_cmp_equiv g.met.K.Ord.total) c.args.key.now c.self.inside.attempts c.self.inside.asked.entries c.leave.new.asked.entries c.self.inside.entries.keys c.self.invariant.0 c.leave.ensures c.args.due,
-      due-waits g.met.K.Ord.total (eq_by_cmp_equiv g.met.K.Ord.total) c.args.key.now c.self.inside.retries c.self.inside.entries.keys c.self.invariant.1 s.entry c.in-Some.attempt c.args.due s.kept s.state
-          (idle-at g.met.K.Ord.total (eq_by_cmp_equiv g.met.K.Ord.total) c.args.key.now c.self.inside.entries.keys s.entry s.kept (rw (← c.self.view_is) at c.requires.idle)) led.1,
+      due-waits g.met.K.Ord.total (eq_by_cmp_equiv g.met.K.Ord.total) c.args.key.now c.self.inside.retries c.self.inside.entries.keys c.self.invariant.1 s.entry c.in-Some.attempt c.args.due s.kept s.state c.requires.soon led.1,
     )
+
+pub returns-clause-ok : goal.returns-clause-ok
+returns-clause-ok g c =
+    let forgets = rested g.K.Ord.cmp c.args.key.now c.args.due c.self.inside.entries (rw (← c.self.view_is) at c.requires.idle) in
+    let rests = c.set_state.ensures ∙ (ap (changed g.K.Ord.cmp c.args.key.now (with_state (Waiting c.args.due))) c.discard_response.ensures ∙ forgets) in
+    rw (← c.self.view_is, rests) refl

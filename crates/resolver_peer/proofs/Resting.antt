@@ -1,0 +1,219 @@
+-- What an event leaves of the keys that wait and of the peers to try, where it leaves the waiter.
+use Rattle.std.proofs.Common.{◌≡◌, refl, ap, sym, ◌∙◌, subst, ◌⊎◌, inl, inr, ℕ, ◌^◌, Bool, true, false, cond, ◌==◌, List, [], ◌∷◌, ◌++◌, Option, None, Some, filter, filter_map, if◌then◌else◌}
+use Rattle.std.specs.Prelude.{option_map, option_and_then, nat_lt, ⊤}
+use Rattle.std.specs.Cmp.{IsTotalOrder}
+use Rattle.std.specs.List.{cons_option}
+use Rattle.std.specs.Map.{lookup, remove_entry, set_value}
+use Rattle.std.specs.BTreeMap.{is_at}
+use Rattle.resolver_base.specs.declared.root.Outcome.{Outcome}
+use Rattle.resolver_base.specs.declared.root.Outcome.TheVariants.{Invalid, Resolved, Unresolved, Ignored}
+use Rattle.resolver_base.specs.Subscribers.{attached_all, without}
+use Rattle.resolver_request.specs.declared.score.Averages.{Averages}
+use Rattle.resolver_request.specs.declared.requests.request.Request.{Request}
+use Rattle.resolver_request.specs.Requests.{overdue}
+use Rattle.resolver_request.specs.declared.wire.Payload.{Payload}
+use Rattle.resolver_request.specs.declared.wire.Payload.TheVariants as payloads
+use Rattle.resolver_fetch.specs.Known.{is_eligible}
+use Rattle.resolver_fetch.specs.Snapshot.{eligible, known}
+use Rattle.resolver_fetch.specs.Waiting.{Waiting, in_order}
+use Rattle.resolver_fetch.specs.FetcherLaws.{IsAmong}
+use Rattle.resolver_fetch.proofs.OneOf.{IsOneOf}
+use Rattle.resolver_machine.specs.declared.ruling.Ruling.{Ruling}
+use Rattle.resolver_machine.specs.declared.ruling.Ruling.TheVariants as rulings
+use Rattle.resolver_machine.specs.Verdicts.{ruling}
+use Rattle.resolver_peer.specs.Parties.{Parties, orders_of}
+use Rattle.resolver_peer.specs.PeerRows.{Row, Phase, Waits, Asked, Judged, Judging, Source, change_entry, waiting_in, waiting_of}
+use Rattle.resolver_peer.specs.Peer.{Machine, Open, Serve, Done, Item, Event, Fetch, Retain, PeerSet, Blocked, ActiveDue, PendingDue, Verdict, Served, Net, End, quiet, snapshot, closed, served_by, observe, row_of, is_key, fetch, fetch_one, times_out, hand_out, account_for, serves_rest, ruled, ruled_in, ruled_at, targets_with, verdict_on, responds, misses, answered, receive, does, without_row, is_newer}
+use Rattle.resolver_peer.proofs.InOrder.{rests-removed, waits-removed}
+
+module _ {P : Type 0} (may : P → Bool) (test : P → Bool) (v : Averages) where
+  -- whom a filter by name leaves is the same with other averages
+  pub names-set : (p : P) (ps : List (P × Averages)) → IsOneOf p (filter (λ q. may q.0) (set_value test ps v)) → IsOneOf p (filter (λ q. may q.0) ps)
+  names-set p [] i = i
+  names-set p (q ∷ ps) i = at (test q.0) (may q.0) refl i (names-set p ps) where
+    more : (b : Bool) (r s : P × Averages) (rs ss : List (P × Averages)) → r.0 ≡ s.0 → (IsOneOf p rs → IsOneOf p ss) → IsOneOf p (cond b (r ∷ rs) rs) → IsOneOf p (cond b (s ∷ ss) ss)
+    more true r s rs ss same rest (x, inl e) = (s.1, inl (ap (λ n. (n, s.1)) (ap (λ (y : P × Averages). y.0) e ∙ same)))
+    more true r s rs ss same rest (x, inr j) = let found = rest (x, j) in (found.0, inr found.1)
+    more false r s rs ss same rest found = rest found
+
+    at : (b c : Bool) → may q.0 ≡ c → IsOneOf p (filter (λ q. may q.0) (cond b ((q.0, v) ∷ ps) (q ∷ set_value test ps v)))
+        → (IsOneOf p (filter (λ q. may q.0) (set_value test ps v)) → IsOneOf p (filter (λ q. may q.0) ps)) → IsOneOf p (filter (λ q. may q.0) (q ∷ ps))
+    at true c is found rest = more (may q.0) (q.0, v) q (filter (λ q. may q.0) ps) (filter (λ q. may q.0) ps) refl (λ j. j) found
+    at false c is found rest = more (may q.0) q q (filter (λ q. may q.0) (set_value test ps v)) (filter (λ q. may q.0) ps) refl rest found
+
+module _ {K S P : Type 0} where
+  -- a row with the same phase, targets and retries waits alike
+  waits-alike : (key : K) (old new : Row K S P) → new.phase ≡ old.phase → new.targets ≡ old.targets → new.retries ≡ old.retries → waiting_of (key, new) ≡ waiting_of (key, old)
+  waits-alike key old new same targets retries = ap (waiting_in key new) same ∙ at old.phase where
+    at : (phase : Phase K P) → waiting_in key new phase ≡ waiting_in key old phase
+    at (Waits place) = rw (targets, retries) refl
+    at (Asked id request) = refl
+    at (Judged j) = refl
+
+  waits-changed : (test : K → Bool) (f : Row K S P → Row K S P) (row : Row K S P) → ((key : K) → waiting_of (key, f row) ≡ waiting_of (key, row))
+      → (rows : List (K × Row K S P)) → lookup test rows ≡ Some row → filter_map waiting_of (change_entry test f rows) ≡ filter_map waiting_of rows
+  waits-changed test f row same [] found = refl
+  waits-changed test f row same (r ∷ rows) found = at (test r.0) found (waits-changed test f row same rows) where
+    at : (b : Bool) → cond b (Some r.1) (lookup test rows) ≡ Some row
+        → (lookup test rows ≡ Some row → filter_map waiting_of (change_entry test f rows) ≡ filter_map waiting_of rows)
+        → filter_map waiting_of (cond b ((r.0, f r.1) ∷ rows) (r ∷ change_entry test f rows)) ≡ filter_map waiting_of (r ∷ rows)
+    at true here rest =
+        let is : r.1 ≡ row = cc in
+        let e : waiting_of (r.0, f r.1) ≡ waiting_of (r.0, r.1) = subst (λ (x : Row K S P). waiting_of (r.0, f x) ≡ waiting_of (r.0, x)) (sym is) (same r.0) in
+        ap (λ o. cons_option o (filter_map waiting_of rows)) e
+    at false here rest = ap (cons_option (waiting_of r)) (rest here)
+
+module _ {K S P : Type 0} (a : Parties K S P) (total : IsTotalOrder a.key) where
+  -- no key waits that didn't, and no peer is eligible that wasn't
+  abbrev pub IsStill : (m n : Machine K S P) → Type 0
+  IsStill m n = (n.waiter ≡ m.waiter)
+      × ((w : K × Waiting P) → IsAmong w (snapshot a n).waiting → IsAmong w (snapshot a m).waiting)
+      × ((targets : Option (List P)) (p : P) → IsOneOf p (eligible (orders_of a) (snapshot a n) targets) → IsOneOf p (eligible (orders_of a) (snapshot a m) targets))
+
+  -- or the waiter is clear
+  abbrev pub IsResting : (m n : Machine K S P) → Type 0
+  IsResting m n = (n.waiter ≡ None) ⊎ IsStill m n
+
+  abbrev pub IsRestingIfDone : Machine K S P → Option (Done K S P) → Type 0
+  IsRestingIfDone m None = ⊤
+  IsRestingIfDone m (Some d) = IsResting m d.machine
+
+  resting-through : (l m n : Machine K S P) → IsResting l m → IsResting m n → IsResting l n
+  resting-through l m n first (inl clear) = inl clear
+  resting-through l m n (inl clear) (inr still) = inl (still.0 ∙ clear)
+  resting-through l m n (inr first) (inr second) =
+      inr (second.0 ∙ first.0, λ w i. first.1 w (second.1 w i), λ targets p i. first.2 targets p (second.2 targets p i))
+
+  itself : (m : Machine K S P) → IsResting m m
+  itself m = inr (refl, λ w i. i, λ targets p i. i)
+
+  resting-if : (m : Machine K S P) (b : Bool) (d : Done K S P) → IsResting m d.machine → IsRestingIfDone m (if b then Some d else None)
+  resting-if m true d rests = rests
+  resting-if m false d rests = tt
+
+  resting-either : (m : Machine K S P) (b : Bool) (o : Option (Done K S P)) → IsRestingIfDone m o → IsRestingIfDone m (if b then o else Some (quiet m))
+  resting-either m true o rests = rests
+  resting-either m false o rests = itself m
+
+  resting-and : (m : Machine K S P) (d : Done K S P) (o : Option (Done K S P)) → IsResting m d.machine → IsRestingIfDone d.machine o
+      → IsRestingIfDone m (option_map (λ e. record { machine = e.machine; effects = d.effects ++ e.effects }) o)
+  resting-and m d None first second = tt
+  resting-and m d (Some e) first second = resting-through m d.machine e.machine first second
+
+  -- the first row of a key is gone
+  gone-resting : (m : Machine K S P) (key : K) → IsResting m (without_row a m key)
+  gone-resting m key = inr (refl, λ w i. waits-removed a total key w m.rows i, λ targets p i. i)
+
+  handed-resting : (m : Machine K S P) (key : K) (subscribers : List (S × ℕ)) (j : Judging P) → IsRestingIfDone m (hand_out a m key subscribers j)
+  handed-resting m key subscribers j =
+      resting-if m (nat_lt j.number (2 ^ 64)) _ (inr (refl, (λ w i. waits-removed a total key w m.rows (same w i)), λ targets p i. i)) where
+        same : (w : K × Waiting P) → IsAmong w (in_order (orders_of a) (filter_map waiting_of (change_entry (is_key a key) (λ row. record row { subscribers = subscribers; phase = Judged j }) m.rows)))
+            → IsAmong w (in_order (orders_of a) (filter_map waiting_of (remove_entry (is_key a key) m.rows)))
+        same w i = subst (λ (ws : List (K × Waiting P)). IsAmong w (in_order (orders_of a) ws)) (rests-removed a total (is_key a key) (λ row. record row { subscribers = subscribers; phase = Judged j }) (λ k row. refl) m.rows) i
+
+  abbrev joined : Item K S P → Row K S P → Row K S P
+  joined item old = record old { subscribers = attached_all a.subscriber old.subscribers item.subscribers; targets = targets_with a old.targets item.targets }
+
+  -- subscribers alone are new, and targets for a key that any peer may be asked for
+  joined-resting : (m : Machine K S P) (item : Item K S P) (row : Row K S P) → row_of a m item.key ≡ Some row
+      → (there given : Option (List P)) → row.targets ≡ there → item.targets ≡ given → IsResting m (fetch_one a m 0 item (Some row))
+  joined-resting m item row found None (Some given) is_there is_given =
+      inr (rw (is_there, is_given) refl, (λ w i. subst (λ (ws : List (K × Waiting P)). IsAmong w (in_order (orders_of a) ws)) same i), λ targets p i. i) where
+        same : filter_map waiting_of (fetch_one a m 0 item (Some row)).rows ≡ filter_map waiting_of m.rows
+        same = waits-changed (is_key a item.key) (joined item) row (λ key. waits-alike key row (joined item row) refl (ap (λ t. targets_with a t item.targets) is_there ∙ sym is_there) refl) m.rows found
+  joined-resting m item row found (Some there) (Some given) is_there is_given = inl (rw is_there refl)
+  joined-resting m item row found (Some there) None is_there is_given = inl (rw is_there refl)
+  joined-resting m item row found None None is_there is_given = inl (rw (is_there, is_given) refl)
+
+  fetch_one-resting : (m : Machine K S P) (now : ℕ) (item : Item K S P) (row : Option (Row K S P)) → row_of a m item.key ≡ row → IsResting m (fetch_one a m now item row)
+  fetch_one-resting m now item None found = inl refl
+  fetch_one-resting m now item (Some row) found = joined-resting m item row found row.targets item.targets refl refl
+
+  fetch-resting : (m : Machine K S P) (now : ℕ) (items : List (Item K S P)) → IsResting m (fetch a m now items)
+  fetch-resting m now [] = itself m
+  fetch-resting m now (item ∷ items) =
+      let n : Machine K S P = fetch_one a m now item (row_of a m item.key) in
+      resting-through m n (fetch a n now items) (fetch_one-resting m now item (row_of a m item.key) refl) (fetch-resting n now items)
+
+  peers-resting : (m n : Machine K S P) (b : Bool) → n.waiter ≡ None → IsResting m (if b then n else m)
+  peers-resting m n true clear = inl clear
+  peers-resting m n false clear = itself m
+
+  times_out-resting : (m : Machine K S P) (now : ℕ) (r : Option (ℕ × Request K P)) → IsResting m (times_out a m now r)
+  times_out-resting m now None = itself m
+  times_out-resting m now (Some r) = inl refl
+
+  misses-resting : (m : Machine K S P) (now : ℕ) (r : Option (Request K P)) → IsResting m (misses a m now r)
+  misses-resting m now None = itself m
+  misses-resting m now (Some r) = inl refl
+
+  served-resting : (m : Machine K S P) (serve : ℕ) (bytes : Option (List ℕ)) (s : Option (Serve P)) → IsResting m (served_by m serve bytes s).machine
+  served-resting m serve bytes None = itself m
+  served-resting m serve bytes (Some s) = inr (refl, λ w i. i, λ targets p i. i)
+
+  observe-resting : (m : Machine K S P) (source : Source P) → IsResting m (observe a m source)
+  observe-resting m source =
+      inr (refl, (λ w i. i), λ targets p i. names-set (is_eligible a.peer (known (snapshot a m)) targets) (is_at (a.peer source.peer)) _ p m.peers i)
+
+  account-resting : (m : Machine K S P) (h : Open K S P) (accepted : Bool) (outcome : Option Outcome) → IsResting m (account_for a m h accepted outcome).machine
+  account-resting m h true outcome = itself m
+  account-resting m h false None = itself m
+  account-resting m h false (Some (Resolved resolution)) = observe-resting m h.source
+  account-resting m h false (Some Invalid) = itself m
+  account-resting m h false (Some Unresolved) = itself m
+  account-resting m h false (Some Ignored) = itself m
+
+  rest-resting : (m : Machine K S P) (h : Open K S P) (value : List ℕ) (accepted : Bool) (rest : List (S × ℕ)) → IsRestingIfDone m (serves_rest a m h value accepted rest)
+  rest-resting m h value accepted [] = gone-resting m h.handed.key
+  rest-resting m h value accepted (s ∷ rest) = handed-resting m h.handed.key (s ∷ rest) _
+
+  ruled-resting : (m : Machine K S P) (now : ℕ) (h : Open K S P) (row : Row K S P) (value : List ℕ) (rule : Ruling) → IsRestingIfDone m (ruled a m now h row value rule)
+  ruled-resting m now h row value (rulings.Serve accepted) = rest-resting m h value accepted (without a.subscriber h.handed.subscribers row.subscribers)
+  ruled-resting m now h row value rulings.Retry = inl refl
+  ruled-resting m now h row value rulings.Retire = gone-resting m h.handed.key
+
+  in-resting : (m : Machine K S P) (now number : ℕ) (h : Open K S P) (outcome : Option Outcome) (row : Row K S P) (phase : Phase K P) → IsRestingIfDone m (ruled_in a m now number h outcome row phase)
+  in-resting m now number h outcome row (Waits place) = itself m
+  in-resting m now number h outcome row (Asked id request) = itself m
+  in-resting m now number h outcome row (Judged j) = resting-either m (number == j.number) (ruled a m now h row j.value (ruling h.accepted outcome)) (ruled-resting m now h row j.value (ruling h.accepted outcome))
+
+  at-resting : (m : Machine K S P) (now number : ℕ) (h : Open K S P) (outcome : Option Outcome) (row : Option (Row K S P)) → IsRestingIfDone m (ruled_at a m now number h outcome row)
+  at-resting m now number h outcome None = itself m
+  at-resting m now number h outcome (Some row) = in-resting m now number h outcome row row.phase
+
+  -- without one of its deliveries
+  closed-resting : (m n : Machine K S P) (number : ℕ) → IsResting (closed m number) n → IsResting m n
+  closed-resting m n number (inl clear) = inl clear
+  closed-resting m n number (inr still) = inr still
+
+  verdict-resting : (m : Machine K S P) (now number : ℕ) (outcome : Option Outcome) (o : Option (Open K S P)) → IsRestingIfDone m (verdict_on a m now number outcome o)
+  verdict-resting m now number outcome None = itself m
+  verdict-resting m now number outcome (Some h) =
+      let d : Done K S P = account_for a (closed m number) h h.accepted outcome in
+      resting-and m d (ruled_at a d.machine now number h outcome (row_of a d.machine h.handed.key))
+      (closed-resting m d.machine number (account-resting (closed m number) h h.accepted outcome))
+      (at-resting d.machine now number h outcome (row_of a d.machine h.handed.key))
+
+  responds-resting : (m : Machine K S P) (now : ℕ) (value : List ℕ) (r : Option (Request K P)) (row : Option (Row K S P)) → IsRestingIfDone m (responds a m now value r row)
+  responds-resting m now value None row = itself m
+  responds-resting m now value (Some q) None = itself m
+  responds-resting m now value (Some q) (Some row) = handed-resting m q.key row.subscribers _
+
+  receive-resting : (m : Machine K S P) (now : ℕ) (peer : P) (id : ℕ) (payload : Payload K) → IsRestingIfDone m (receive a m now peer id payload)
+  receive-resting m now peer id (payloads.Request key) = resting-if m (nat_lt m.next_serve (2 ^ 64)) _ (inr (refl, λ w i. i, λ targets p i. i))
+  receive-resting m now peer id (payloads.Response value) = responds-resting m now value (answered a m peer id) (option_and_then (λ r. row_of a m r.key) (answered a m peer id))
+  receive-resting m now peer id payloads.Error = misses-resting m now (answered a m peer id)
+
+  -- an event clears the waiter, or leaves no more to be tried
+  pub does-resting : (m : Machine K S P) (now : ℕ) (event : Event K S P) → IsRestingIfDone m (does a m now event)
+  does-resting m now (Fetch items) = fetch-resting m now items
+  does-resting m now (Retain keep) = inl refl
+  does-resting m now (PeerSet index peers) = peers-resting m _ (is_newer m.last_index index) refl
+  does-resting m now (Blocked peers) = inl refl
+  does-resting m now ActiveDue = times_out-resting m now (overdue (snapshot a m).asked now)
+  does-resting m now PendingDue = itself m
+  does-resting m now (Verdict number outcome) = verdict-resting m now number outcome (lookup (λ n. number == n) m.deliveries)
+  does-resting m now (Served serve bytes) = served-resting m serve bytes (lookup (λ n. serve == n) m.serves)
+  does-resting m now (Net peer None) = itself m
+  does-resting m now (Net peer (Some message)) = receive-resting m now peer message.id message.payload
+  does-resting m now End = inr (refl, (λ w i. absurd i), λ targets p i. i)

@@ -1,0 +1,12 @@
+pub mod Parties
+pub mod PeerRows
+pub mod Peer
+pub mod PeerRuns
+pub mod PeerRun
+pub mod PeerStanding
+pub mod PeerSteps
+pub mod PeerAccount
+pub mod PeerAwake
+pub mod PeerLaws
+pub mod PeerDemandRows
+pub mod PeerRunLaws

@@ -1,0 +1,5 @@
+//! The machine that fetches from peers, as a definition: one map from keys to rows, the peers and their
+//! scores, and what each input makes of them. It stands in `specs/Peer.antt`; here is what holds of it.
+#![tactic(auto)]
+
+pub mod laws;
