@@ -95,7 +95,17 @@ fn joins_many_without_repeats(rt: HostRuntime) -> Result<(), Fail> {
     assert_eq!(rt; peers.as_slice(), [5, 9, 8, 7, 6, 4, 3].as_slice());
 
     let mut subscribers = NonEmptyVec::new(alloc, (5u8, 1u64))?;
-    let more = [(9u8, 0u64), (8, 1), (7, 2), (6, 3), (5, 4), (4, 5), (3, 6), (4, 7), (5, 8)];
+    let more = [
+        (9u8, 0u64),
+        (8, 1),
+        (7, 2),
+        (6, 3),
+        (5, 4),
+        (4, 5),
+        (3, 6),
+        (4, 7),
+        (5, 8),
+    ];
     let more = NonEmptyVec::try_from(more.to_vec(alloc)?);
     subscribers.join_subscribers(alloc, more.ok().ok_or("nine items")?)?;
     assert_eq!(rt;

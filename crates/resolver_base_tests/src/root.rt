@@ -52,7 +52,10 @@ fn fetches_compare_by_key_and_subscriber(rt: HostRuntime) {
     assert!(rt; fetch(2, 0, 0) > fetch(1, 11, 9));
     assert!(rt; laws::are_equal_fetches(&fetch(1, 10, 7), &fetch(1, 10, 8)));
     assert!(rt; laws::is_fetch_below(&fetch(1, 10, 7), &fetch(1, 11, 0)));
-    assert_eq!(rt; laws::order_of_fetches(&fetch(2, 0, 0), &fetch(1, 11, 9)), Ordering::Greater);
+    assert_eq!(rt;
+        laws::order_of_fetches(&fetch(2, 0, 0), &fetch(1, 11, 9)),
+        Ordering::Greater
+    );
 }
 
 #[test]

@@ -1,7 +1,7 @@
 -- Subscribers that are put into an ordered map, and taken back.
-use Rattle.std.proofs.Common.{◌≡◌, ◌∙◌, sym, ap, refl, ℕ, true, false, cond, List, [], ◌∷◌, ◌++◌, Some, is_some, append_assoc}
+use Rattle.std.proofs.Common.{◌≡◌, ◌+◌, ◌∙◌, sym, ap, refl, ℕ, true, false, cond, List, [], ◌∷◌, ◌++◌, Some, is_some, append_assoc, arith, length, get_or, suc}
 use Rattle.std.specs.Cmp.{IsTotalOrder}
-use Rattle.std.specs.List.{AllByRecursion}
+use Rattle.std.specs.List.{AllAdjacentBelow, AllByRecursion}
 use Rattle.std.specs.List.Sorted.{IsStrictlySortedBy}
 use Rattle.std.specs.Map.{keys_of, lookup, remove_entry}
 use Rattle.std.specs.BTreeMap.{insert_entry, is_at}
@@ -81,3 +81,13 @@ module _ {S : Type 0} (cmp : S → S → Ordering) (total : IsTotalOrder cmp) wh
   pub placed-next : (list es rest : List (S × ℕ)) (s : S × ℕ) → es ++ s ∷ rest ≡ list → IsStrictlySortedBy cmp (keys_of list) → insert_entry cmp es s.0 s.1 ++ rest ≡ list
   placed-next list es rest s is h =
       ap (λ some. some ++ rest) (inserted-last es rest s (rw is h)) ∙ append_assoc es (s ∷ []) rest ∙ is
+
+  -- where each is below the next one, they stand in their order
+  pub sorted-from-adjacent : (ts : List (S × ℕ)) → AllAdjacentBelow (λ s t. cmp s.0 t.0 ≡ Less) ts (length ts) → IsStrictlySortedBy cmp (keys_of ts)
+  unfolding IsStrictlySortedBy
+  sorted-from-adjacent [] all = tt
+  sorted-from-adjacent (s ∷ []) all = (tt, tt)
+  sorted-from-adjacent (s ∷ t ∷ ts) all =
+      let rest : IsStrictlySortedBy cmp (keys_of (t ∷ ts)) = sorted-from-adjacent (t ∷ ts) (λ k d h. let on : suc k + 1 ≡ suc (k + 1) = omega arith in ap (λ j. cmp (get_or (t ∷ ts) k d).0 (get_or (s ∷ t ∷ ts) j d).0) (sym on) ∙ all (suc k) d (omega (arith, h))) in
+      let first : cmp s.0 t.0 ≡ Less = all 0 s (omega arith) in
+      ((first, above-all s.0 t.0 (keys_of ts) first rest.0), rest)

@@ -31,8 +31,8 @@ use std::marker::Model;
 /// The keys that someone waits for, in their order, each with its subscribers in theirs.
 ///
 /// A key that is there has at least one subscriber. Of equal keys and of equal subscribers the
-/// first one stays. A call on one key takes time logarithmic in the number of keys; to add or to
-/// remove one subscriber takes time logarithmic in the number of the key's own.
+/// first one stays. A call on one key takes time logarithmic in the number of keys; to add one
+/// subscriber, logarithmic in the number of the key's own; to answer them, linear.
 #[derive(Debug, Drop)]
 pub struct Tracker<K: Ord, S: Ord> {
     demand: BTreeMap<K, Subscribers<S>>,
@@ -214,12 +214,37 @@ impl<K: Ord + Clone + Drop, S: Ord + Clone + Drop> Tracker<K, S> {
         requires subscribers_clone { (x y : S) → S.is_clone x y → y ≡ x }
         ensures same { IfOk result (λ tracker. tracker ≡ self.now) }
     {
+        Clone::clone(self)
+    }
+}
+
+impl<K: Ord + Clone + Drop, S: Ord + Clone + Drop> Clone for Tracker<K, S> {
+    ghost is_clone = { λ tracker copy. ((x y : K) → K.is_clone x y → y ≡ x) → ((x y : S) → S.is_clone x y → y ≡ x) → copy ≡ tracker };
+
+    /// Clones of the keys and subscribers, with the marks. Where clones don't equal their sources
+    /// and so don't stand in order, it is refused.
+    fn clone(&self) -> Result<Self, AllocError> {
         let demand = self.demand.clone()?;
+        if !are_listed(&demand) {
+            return Err(AllocError);
+        }
         Ok(Tracker {
             demand,
             alloc: self.alloc,
         })
     }
+}
+
+/// Whether each key has subscribers in their order, each once.
+fn are_listed<K: Ord, S: Ord>(demand: &BTreeMap<K, Subscribers<S>>) -> bool
+    ensures { IsTrue result → AreListed S.cmp demand.now.entries }
+{
+    for (_, subscribers) in demand {
+        if !subscribers.is_listed() {
+            return false;
+        }
+    }
+    true
 }
 
 /// Attaches subscribers to a key that is there.

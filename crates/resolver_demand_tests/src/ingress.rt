@@ -16,7 +16,10 @@ fn fetch_of_one_subscriber(rt: HostRuntime) -> Result<(), Fail> {
         subscriber: 20u16,
         mark: 7,
     };
-    let item: FetchKey<u16, u16, Option<NonEmptyVec<u16>>> = FetchKey::from_fetch(rt.alloc(), fetch)?;
+    let item: FetchKey<u16, u16, Option<NonEmptyVec<u16>>> = FetchKey::from_fetch(
+        rt.alloc(),
+        fetch,
+    )?;
     assert_eq!(rt; item.key, 1);
     assert_eq!(rt; item.subscribers.as_slice(), [(20, 7)].as_slice());
     assert!(rt; item.metadata.is_none());

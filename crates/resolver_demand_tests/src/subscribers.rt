@@ -5,7 +5,7 @@ use crate::counting::{Counting, Tally};
 use resolver_base::base::{Fault, NonEmptyVec};
 use resolver_demand::ingress::Predicate;
 use resolver_demand::subscribers::Tracker;
-use std::alloc::Global;
+use std::alloc::{AllocError, Global};
 use std::cell::Cell;
 use std::test::Fail;
 
@@ -108,7 +108,10 @@ fn holds_a_thousand_keys(rt: HostRuntime) -> Result<(), Fail> {
     let mut keys = 0;
     for (key, subscribers) in same.iter() {
         assert_eq!(rt; subscribers.len(), 1);
-        assert_eq!(rt; subscribers.copied(alloc)?.as_slice(), [(*key, 1)].as_slice());
+        assert_eq!(rt;
+            subscribers.copied(alloc)?.as_slice(),
+            [(*key, 1)].as_slice()
+        );
         keys = *key;
     }
     assert_eq!(rt; keys, 999);
@@ -120,6 +123,10 @@ fn holds_a_thousand_keys(rt: HostRuntime) -> Result<(), Fail> {
     assert!(rt; tracker.is_empty());
     assert!(rt; same.contains(&500));
     Ok(())
+}
+
+fn copied<T: Clone>(value: &T) -> Result<T, AllocError> {
+    value.clone()
 }
 
 /// So many subscribers, the last one first, of which each has its name as its mark.
@@ -155,7 +162,7 @@ fn many_subscribers_stand_in_order(rt: HostRuntime) -> Result<(), Fail> {
     assert_eq!(rt; all.len(), 41);
     assert!(rt; are_ascending(all.as_slice()));
 
-    let same = tracker.clone()?;
+    let same = copied(&tracker)?;
     let rest = tracker.remove_delivered(&1, &list(alloc, &[(40, 0), (39, 0), (50, 0)])?)?;
     assert_eq!(rt; rest.ok_or("39 are left")?.len(), 39);
     assert!(rt; are_ascending(pending(&tracker, 1)?.as_slice()));

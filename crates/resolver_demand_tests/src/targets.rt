@@ -73,7 +73,10 @@ fn queued(alloc: Global, fetches: &[&[u16]]) -> Result<Option<Told>, Fail> {
 fn overflow_targets(rt: HostRuntime) -> Result<(), Fail> {
     let alloc = rt.alloc();
     let joined = peers(queued(alloc, &[&[2, 3], &[3, 4]])?);
-    assert_eq!(rt; joined.ok_or("targets that are named")?.as_slice(), [2, 3, 4].as_slice());
+    assert_eq!(rt;
+        joined.ok_or("targets that are named")?.as_slice(),
+        [2, 3, 4].as_slice()
+    );
 
     let any = queued(alloc, &[&[2], &[], &[3]])?;
     assert!(rt; any.is_some());
@@ -90,7 +93,10 @@ fn targets_are_copied(rt: HostRuntime) -> Result<(), Fail> {
     assert!(rt; targets(alloc, &[])?.copy()?.is_none());
 
     let copy = peers(Some(fetch(alloc, &[2, 3])?.copy(alloc)?));
-    assert_eq!(rt; copy.ok_or("targets that are named")?.as_slice(), [2, 3].as_slice());
+    assert_eq!(rt;
+        copy.ok_or("targets that are named")?.as_slice(),
+        [2, 3].as_slice()
+    );
     Ok(())
 }
 
