@@ -7,6 +7,7 @@ pub mod draws;
 pub mod faithful;
 pub mod fault;
 pub mod feedback;
+mod joining;
 pub mod non_empty_vec;
 pub mod numbers;
 pub mod predicate;

@@ -1,5 +1,7 @@
 //! What a resolver is asked for, what it hands out, and what is said of that.
 
+pub mod laws;
+
 ghost use Rattle.std.specs.Prelude.{◌≡◌, IfOk, map};
 ghost use Rattle.std.specs.Ordering.{on};
 ghost use Rattle.std.specs.Cmp.Lexicographic.{slice_cmp, pointwise, lists_ties};

@@ -1,5 +1,6 @@
 use resolver_base::base::Fault;
 use std::alloc::{AllocError, AllocFailed};
+use std::test::Fail;
 
 #[test]
 fn has_a_number_and_a_name(rt: HostRuntime) {
@@ -27,4 +28,26 @@ fn has_a_number_and_a_name(rt: HostRuntime) {
 fn says_that_memory_is_wanting(rt: HostRuntime) {
     assert_eq!(rt; Fault::from(AllocError), Fault::OutOfMemory);
     assert_eq!(rt; Fault::from(AllocFailed { value: 5u8 }), Fault::OutOfMemory);
+}
+
+#[test]
+fn says_why(rt: HostRuntime) -> Result<(), Fail> {
+    for (fault, text) in [
+        (Fault::OutOfMemory, "out of memory"),
+        (Fault::Failed, "the machine failed in an earlier step"),
+        (Fault::Ended, "the machine has ended"),
+        (Fault::Busy, "a scan expects an answer"),
+        (Fault::Unasked, "no scan expects this answer"),
+        (Fault::OutOfRange, "a drawn number is out of range"),
+        (Fault::Exhausted, "no number is left"),
+        (Fault::EndOfBuffer, "too few bytes"),
+        (Fault::InvalidTag, "no such tag"),
+        (Fault::InvalidVarint, "a length is misspelled"),
+        (Fault::ExtraData, "bytes are left over"),
+        (Fault::Key, "the bytes are no key"),
+        (Fault::Uneven, "the book says otherwise"),
+    ] {
+        assert_eq!(rt; fault.to_string(rt.alloc())?.as_str(), text);
+    }
+    Ok(())
 }

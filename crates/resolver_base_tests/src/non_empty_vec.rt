@@ -76,12 +76,41 @@ fn joins_without_repeats(rt: HostRuntime) -> Result<(), Fail> {
     let alloc = rt.alloc();
     let mut peers = NonEmptyVec::new(alloc, 5u8)?;
     let more = NonEmptyVec::try_from([6u8, 5, 6].to_vec(alloc)?);
-    peers.join(more.ok().ok_or("three items")?)?;
+    peers.join(alloc, more.ok().ok_or("three items")?)?;
     assert_eq!(rt; peers.as_slice(), [5, 6].as_slice());
 
     let mut subscribers = NonEmptyVec::new(alloc, (5u8, 1u64))?;
     let more = NonEmptyVec::try_from([(4u8, 2u64), (5, 3), (4, 4)].to_vec(alloc)?);
-    subscribers.join_subscribers(more.ok().ok_or("three items")?)?;
+    subscribers.join_subscribers(alloc, more.ok().ok_or("three items")?)?;
     assert_eq!(rt; subscribers.as_slice(), [(5, 1), (4, 2)].as_slice());
+    Ok(())
+}
+
+#[test]
+fn joins_many_without_repeats(rt: HostRuntime) -> Result<(), Fail> {
+    let alloc = rt.alloc();
+    let mut peers = NonEmptyVec::new(alloc, 5u8)?;
+    let more = NonEmptyVec::try_from([9u8, 8, 7, 6, 5, 4, 3, 4, 5, 6].to_vec(alloc)?);
+    peers.join(alloc, more.ok().ok_or("ten items")?)?;
+    assert_eq!(rt; peers.as_slice(), [5, 9, 8, 7, 6, 4, 3].as_slice());
+
+    let mut subscribers = NonEmptyVec::new(alloc, (5u8, 1u64))?;
+    let more = [
+        (9u8, 0u64),
+        (8, 1),
+        (7, 2),
+        (6, 3),
+        (5, 4),
+        (4, 5),
+        (3, 6),
+        (4, 7),
+        (5, 8),
+    ];
+    let more = NonEmptyVec::try_from(more.to_vec(alloc)?);
+    subscribers.join_subscribers(alloc, more.ok().ok_or("nine items")?)?;
+    assert_eq!(rt;
+        subscribers.as_slice(),
+        [(5, 1), (9, 0), (8, 1), (7, 2), (6, 3), (4, 5), (3, 6)].as_slice()
+    );
     Ok(())
 }

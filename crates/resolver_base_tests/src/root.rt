@@ -1,5 +1,5 @@
 use resolver_base::base::NonEmptyVec;
-use resolver_base::root::{Delivery, Fetch, Outcome, Resolution};
+use resolver_base::root::{Delivery, Fetch, Outcome, Resolution, laws};
 use std::alloc::{AllocError, Global};
 use std::cmp::Ordering;
 use std::test::Fail;
@@ -50,6 +50,21 @@ fn fetches_compare_by_key_and_subscriber(rt: HostRuntime) {
     assert!(rt; fetch(1, 10, 7) == fetch(1, 10, 8));
     assert!(rt; fetch(1, 10, 7) < fetch(1, 11, 0));
     assert!(rt; fetch(2, 0, 0) > fetch(1, 11, 9));
+    assert!(rt; laws::are_equal_fetches(&fetch(1, 10, 7), &fetch(1, 10, 8)));
+    assert!(rt; laws::is_fetch_below(&fetch(1, 10, 7), &fetch(1, 11, 0)));
+    assert_eq!(rt;
+        laws::order_of_fetches(&fetch(2, 0, 0), &fetch(1, 11, 9)),
+        Ordering::Greater
+    );
+}
+
+#[test]
+fn deliveries_compare_whatever_their_marks(rt: HostRuntime) -> Result<(), Fail> {
+    let one = delivery(rt.alloc(), 1, &[(10, 7)])?;
+    let other = delivery(rt.alloc(), 1, &[(10, 8)])?;
+    assert!(rt; laws::are_equal_deliveries(&one, &other));
+    assert_eq!(rt; laws::order_of_deliveries(&one, &other), Ordering::Equal);
+    Ok(())
 }
 
 fn copied<T: Clone>(value: &T) -> Result<T, AllocError> {

@@ -1,6 +1,7 @@
-//! `resolver-bench` drives the opaque actor, a full mailbox and the fetcher with many keys, and
-//! prints how many steps that took and what they had. With a number of keys as its argument it
-//! prints nanoseconds a step too. It is no part of the product.
+//! `resolver-bench` drives the opaque actor, a full mailbox and the fetcher with many keys, and one
+//! key with many subscribers, and prints how many steps that took and what they had. With a number
+//! of keys as its argument, and of that key's subscribers, it prints nanoseconds a step too. It is no
+//! part of the product.
 #![tactic(auto)]
 
 mod actor;
@@ -8,6 +9,7 @@ mod fault;
 mod fetcher;
 mod mailbox;
 mod spent;
+mod tracker;
 mod workload;
 
 use fault::Fault;
@@ -44,6 +46,9 @@ fn run<R: AllocGlobal + Clock + Env + Print + Wait + RandomSource + Copy + Drop>
         print(rt, one, size.is_some())?;
     }
     for one in &fetcher::run(rt, keys)? {
+        print(rt, one, size.is_some())?;
+    }
+    for one in &tracker::run(rt, keys)? {
         print(rt, one, size.is_some())?;
     }
     Ok(())

@@ -14,6 +14,9 @@ pub enum Kind {
     Wake,
     Scan,
     Respond,
+    Attach,
+    Together,
+    Merge,
 }
 
 impl Kind {
@@ -25,6 +28,7 @@ impl Kind {
             Kind::Wait | Kind::Respond => "keys",
             Kind::Idle | Kind::Scan => "questions",
             Kind::Wake => "moments",
+            Kind::Attach | Kind::Together | Kind::Merge => "subscribers",
         }
     }
 
@@ -42,12 +46,15 @@ impl Kind {
             Kind::Wake => "wake-up",
             Kind::Scan => "scan",
             Kind::Respond => "respond",
+            Kind::Attach => "attach",
+            Kind::Together => "attach together",
+            Kind::Merge => "merge",
         }
     }
 }
 
-/// What the steps of one kind took, and how many effects of the actor, fetches of the mailbox, or
-/// keys, questions or moments of the fetcher they had.
+/// What the steps of one kind took, and how many effects of the actor, fetches of the mailbox,
+/// keys, questions or moments of the fetcher, or subscribers of a key they had.
 #[derive(Clone, Copy, Debug)]
 pub struct Spent {
     pub kind: Kind,

@@ -1,4 +1,4 @@
-//! Keys and fetches that both workloads have in common.
+//! Keys and fetches that the workloads have in common.
 
 ghost use Rattle.std.specs.Prelude.{true};
 ghost use Rattle.std.proofs.Common.{rules};
@@ -12,10 +12,10 @@ use std::alloc::Global;
 #[derive(Clone, Copy, Debug)]
 pub struct All;
 
-impl Predicate<u64, u16> for All {
+impl<S: Eq> Predicate<u64, S> for All {
     ghost keeps = { λ _ _ _. true };
 
-    fn keep(&self, _: &u64, _: &u16) -> bool {
+    fn keep(&self, _: &u64, _: &S) -> bool {
         true
     }
 

@@ -1,9 +1,13 @@
 -- The keys that a test leaves without subscribers, and those that it keeps.
-use Rattle.std.proofs.Common.{◌≡◌, Bool, true, false, ℕ, List, [], ◌∷◌, length, filter, nat_lt, arith, rules, subst}
+use Rattle.std.proofs.Common.{◌≡◌, Bool, true, false, ℕ, List, [], ◌∷◌, length, filter, map, not, cond, nat_lt, arith, rules, subst}
 use Rattle.std.proofs.lemmas.Grind.{common_steps}
-use Rattle.std.specs.List.{list_any}
+use Rattle.std.specs.List.Sorted.{IsStrictlySortedBy}
+use Rattle.std.specs.declared.cmp.Ordering.{Ordering}
+use Rattle.std.specs.declared.cmp.Ordering.TheVariants.{Less}
+use Rattle.std.specs.List.{AllByRecursion, list_any}
+use Rattle.std.specs.Map.{keys_of}
 use Rattle.std.specs.Map.Calls.{RetainsPairs}
-use Rattle.resolver_base.specs.Table.{kept, emptied}
+use Rattle.resolver_base.specs.Table.{kept, emptied, has_subscribers, pruned}
 
 -- a test finds an item exactly where the filter has one
 pub list_any-filter : {X : Type 0} (p : X → Bool) (xs : List X) → nat_lt 0 (length (filter p xs)) ≡ list_any p xs
@@ -28,3 +32,18 @@ module _ {K S : Type 0} (keep : K → S → Bool) where
       let a = h e.0 e.1 b w f' t in
       let more : rest ≡ kept keep es = kept-from_retain T f h es rest (subst (λ u. RetainsPairs T u es rest) a.2 r) in
       rw (is, a.0, a.1, more)
+
+  below-emptied : (P : K → Type 0) (d : List (K × List (S × ℕ))) → AllByRecursion P (keys_of d) → AllByRecursion P (emptied keep d)
+  below-emptied P [] all = tt
+  below-emptied P (e ∷ d) all =
+      let more : AllByRecursion P (emptied keep d) = below-emptied P d all.1 in
+      elim (has_subscribers (pruned keep e)) as (λ b. AllByRecursion P (keys_of (cond (not b) (pruned keep e ∷ filter (λ e. not (has_subscribers e)) (map (pruned keep) d)) (filter (λ e. not (has_subscribers e)) (map (pruned keep) d))))) [ true ↦ more | false ↦ (all.0, more) ]
+
+  -- the keys that are left without subscribers stay in their order
+  pub emptied-ordered : (cmp : K → K → Ordering) (d : List (K × List (S × ℕ))) → IsStrictlySortedBy cmp (keys_of d) → IsStrictlySortedBy cmp (emptied keep d)
+  unfolding IsStrictlySortedBy
+  emptied-ordered cmp [] h = tt
+  emptied-ordered cmp (e ∷ d) h =
+      let more : IsStrictlySortedBy cmp (emptied keep d) = emptied-ordered cmp d h.1 in
+      let below : AllByRecursion (λ y. cmp e.0 y ≡ Less) (emptied keep d) = below-emptied (λ y. cmp e.0 y ≡ Less) d h.0 in
+      elim (has_subscribers (pruned keep e)) as (λ b. IsStrictlySortedBy cmp (keys_of (cond (not b) (pruned keep e ∷ filter (λ e. not (has_subscribers e)) (map (pruned keep) d)) (filter (λ e. not (has_subscribers e)) (map (pruned keep) d))))) [ true ↦ more | false ↦ (below, more) ]

@@ -6,3 +6,4 @@ pub mod Queue
 pub mod Pruned
 pub mod Drained
 pub mod Fetched
+pub mod Placed

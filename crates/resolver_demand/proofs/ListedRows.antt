@@ -44,7 +44,8 @@ module _ {S : Type 0} (cmp : S → S → Ordering) (total : IsTotalOrder cmp) wh
       ] in
       split (cmp s.0 t.0) refl
 
-  sorted-nil : IsStrictlySortedBy cmp []
+  -- no subscriber
+  pub sorted-nil : IsStrictlySortedBy cmp []
   unfolding IsStrictlySortedBy
   sorted-nil = tt
 

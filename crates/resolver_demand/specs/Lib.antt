@@ -2,3 +2,5 @@ pub mod Entries
 pub mod Rows
 pub mod Backlog
 pub mod Fetched
+pub mod Listed
+pub mod Undone

@@ -2,7 +2,9 @@
 //!
 //! `Tracker` is the demand: the keys, and for each of them its subscribers with their marks.
 
+mod few;
 mod listed;
+mod many;
 mod named;
 
 ghost use Rattle.std.specs.Prelude.{◌≡◌, ◌<◌, ◌↔◌, not, [], length, IsTrue, IfOk, OnOk, OnErr, IfErr, IfSome};
@@ -30,7 +32,7 @@ use std::marker::Model;
 ///
 /// A key that is there has at least one subscriber. Of equal keys and of equal subscribers the
 /// first one stays. A call on one key takes time logarithmic in the number of keys; to add one
-/// subscriber takes time linear in the number of the key's own.
+/// subscriber, logarithmic in the number of the key's own; to answer them, linear.
 #[derive(Debug, Drop)]
 pub struct Tracker<K: Ord, S: Ord> {
     demand: BTreeMap<K, Subscribers<S>>,
@@ -69,6 +71,9 @@ impl<K: Ord + Drop, S: Ord + Drop> Tracker<K, S> {
     /// Adds subscribers of a key, and answers whether the key is new. A subscriber that is there
     /// keeps its mark. Where memory is wanting, nothing changes.
     pub fn insert(&mut self, key: K, subscribers: NonEmptyVec<(S, u64)>) -> Result<bool, Fault>
+    where
+        S: Clone,
+        requires subscribers_clone { (x y : S) → S.is_clone x y → y ≡ x }
         ensures ok { OnOk result
             (self.new ≡ asked_one (names K.cmp S.cmp) self.old (key, subscribers)) }
         ensures is_new { IfOk result
@@ -77,11 +82,11 @@ impl<K: Ord + Drop, S: Ord + Drop> Tracker<K, S> {
         ensures only { IfErr result (λ fault. fault ≡ OutOfMemory) }
     {
         if self.demand.contains_key(&key) {
-            attach_to(&mut self.demand, &key, subscribers.into_vec())?;
+            attach_to(self.alloc, &mut self.demand, &key, subscribers.into_vec())?;
             return Ok(false);
         }
         let mut fresh = Subscribers::new(self.alloc);
-        fresh.attach_all(subscribers.into_vec())?;
+        fresh.attach_all(self.alloc, subscribers.into_vec())?;
         self.demand.insert(key, fresh)?;
         Ok(true)
     }
@@ -109,6 +114,7 @@ impl<K: Ord + Drop, S: Ord + Drop> Tracker<K, S> {
         requires keys_clone { (x y : K) → K.is_clone x y → y ≡ x }
         ensures ok { OnOk result (self.new ≡ kept (Q.keeps keep.now) self.old) }
         ensures emptied { IfOk result (λ keys. keys.items ≡ emptied (Q.keeps keep.now) self.old) }
+        ensures ordered { IfOk result (λ keys. IsStrictlySortedBy K.cmp keys.items) }
         ensures err { OnErr result (self.new ≡ self.old) }
         ensures only { IfErr result (λ fault. fault ≡ OutOfMemory) }
     {
@@ -208,7 +214,20 @@ impl<K: Ord + Clone + Drop, S: Ord + Clone + Drop> Tracker<K, S> {
         requires subscribers_clone { (x y : S) → S.is_clone x y → y ≡ x }
         ensures same { IfOk result (λ tracker. tracker ≡ self.now) }
     {
+        Clone::clone(self)
+    }
+}
+
+impl<K: Ord + Clone + Drop, S: Ord + Clone + Drop> Clone for Tracker<K, S> {
+    ghost is_clone = { λ tracker copy. ((x y : K) → K.is_clone x y → y ≡ x) → ((x y : S) → S.is_clone x y → y ≡ x) → copy ≡ tracker };
+
+    /// Clones of the keys and subscribers, with the marks. Where clones don't equal their sources
+    /// and so don't stand in order, it is refused.
+    fn clone(&self) -> Result<Self, AllocError> {
         let demand = self.demand.clone()?;
+        if !are_listed(&demand) {
+            return Err(AllocError);
+        }
         Ok(Tracker {
             demand,
             alloc: self.alloc,
@@ -216,12 +235,27 @@ impl<K: Ord + Clone + Drop, S: Ord + Clone + Drop> Tracker<K, S> {
     }
 }
 
+/// Whether each key has subscribers in their order, each once.
+fn are_listed<K: Ord, S: Ord>(demand: &BTreeMap<K, Subscribers<S>>) -> bool
+    ensures { IsTrue result → AreListed S.cmp demand.now.entries }
+{
+    for (_, subscribers) in demand {
+        if !subscribers.is_listed() {
+            return false;
+        }
+    }
+    true
+}
+
 /// Attaches subscribers to a key that is there.
-fn attach_to<K: Ord, S: Ord + Drop>(
+fn attach_to<K: Ord, S: Ord + Clone + Drop>(
+    alloc: Global,
     demand: &mut BTreeMap<K, Subscribers<S>>,
     key: &K,
     more: Vec<(S, u64)>,
 ) -> Result<(), AllocError>
+    requires subscribers_clone { (x y : S) → S.is_clone x y → y ≡ x }
+    requires listed { AreListed S.cmp demand.old.entries }
     ensures ok { OnOk result (IfSome (get K.cmp demand.old key.now)
         (λ subscribers. demand.new.entries
         ≡ set_value (is_at (K.cmp key.now)) demand.old.entries
@@ -229,7 +263,7 @@ fn attach_to<K: Ord, S: Ord + Drop>(
     ensures err { OnErr result (demand.new.entries ≡ demand.old.entries) }
 {
     if let Some(subscribers) = demand.get_mut(key) {
-        subscribers.attach_all(more)?;
+        subscribers.attach_all(alloc, more)?;
     }
     Ok(())
 }
@@ -257,7 +291,9 @@ fn emptied_keys<K: Ord + Clone + Drop, S: Ord, Q: Predicate<K, S>>(
     keep: &Q,
 ) -> Result<Vec<K>, AllocError>
     requires keys_clone { (x y : K) → K.is_clone x y → y ≡ x }
-    ensures { IfOk result (λ keys. keys.items ≡ emptied (Q.keeps keep.now) demand.now.entries) }
+    ensures emptied { IfOk result
+        (λ keys. keys.items ≡ emptied (Q.keeps keep.now) demand.now.entries) }
+    ensures ordered { IfOk result (λ keys. IsStrictlySortedBy K.cmp keys.items) }
 {
     let mut emptied = Vec::new(alloc);
     for (key, subscribers) in demand {

@@ -1,45 +1,13 @@
-ghost use Rattle.std.specs.Prelude.{[], Some, true};
-ghost use Rattle.std.specs.declared.cmp.Ordering.TheVariants.{Equal};
+ghost use Rattle.std.specs.Prelude.{true};
 ghost use Rattle.std.proofs.Common.{rules};
 
+use crate::counting::{Counting, Tally};
 use resolver_base::base::{Fault, NonEmptyVec};
 use resolver_base::root::Fetch;
-use resolver_demand::ingress::{FetchKey, Message, Metadata, Pending, Predicate, laws};
+use resolver_demand::ingress::{FetchKey, Message, Pending, Predicate, laws};
 use std::alloc::{AllocError, Global};
 use std::cell::Cell;
-use std::cmp::Ordering;
-use std::hash::{Hash, Hasher};
 use std::test::Fail;
-
-type Targets = Option<NonEmptyVec<u16>>;
-
-fn targets(alloc: Global, peers: &[u16]) -> Result<Targets, Fail> {
-    Ok(NonEmptyVec::try_from(peers.to_vec(alloc)?).ok())
-}
-
-fn merged<M: Metadata + Drop>(earlier: M, later: M) -> Result<M, Fail> {
-    let mut all = earlier;
-    all.merge(later)?;
-    Ok(all)
-}
-
-#[test]
-fn overflow_targets(rt: HostRuntime) -> Result<(), Fail> {
-    let alloc = rt.alloc();
-    let joined = merged(targets(alloc, &[2, 3])?, targets(alloc, &[3, 4])?)?;
-    let joined = joined.ok_or("targets that are named")?;
-    assert_eq!(rt; joined.as_slice(), [2, 3, 4].as_slice());
-
-    let any = merged(targets(alloc, &[2])?, None)?;
-    assert!(rt; merged(any, targets(alloc, &[3])?)?.is_none());
-    Ok(())
-}
-
-#[test]
-fn nothing_said_stays(rt: HostRuntime) -> Result<(), Fail> {
-    assert_eq!(rt; merged((), ())?, ());
-    Ok(())
-}
 
 #[test]
 fn fetch_of_one_subscriber(rt: HostRuntime) -> Result<(), Fail> {
@@ -48,7 +16,10 @@ fn fetch_of_one_subscriber(rt: HostRuntime) -> Result<(), Fail> {
         subscriber: 20u16,
         mark: 7,
     };
-    let item: FetchKey<u16, u16, Targets> = FetchKey::from_fetch(rt.alloc(), fetch)?;
+    let item: FetchKey<u16, u16, Option<NonEmptyVec<u16>>> = FetchKey::from_fetch(
+        rt.alloc(),
+        fetch,
+    )?;
     assert_eq!(rt; item.key, 1);
     assert_eq!(rt; item.subscribers.as_slice(), [(20, 7)].as_slice());
     assert!(rt; item.metadata.is_none());
@@ -104,74 +75,6 @@ fn message_is_copied(rt: HostRuntime) -> Result<(), Fail> {
     };
     assert!(rt; is_test);
     Ok(())
-}
-
-/// Counts how often it is compared or hashed. All of them are equal.
-#[derive(Clone, Copy)]
-struct Tally<'a>(&'a Cell<u32>);
-
-impl Tally<'_> {
-    fn count(&self) {
-        self.0.set(self.0.get().wrapping_add(1));
-    }
-}
-
-impl PartialEq for Tally<'_> {
-    ghost eq = { λ one other. true };
-
-    ghost laws = { Prim.search rules };
-
-    fn eq(&self, _other: &Self) -> bool {
-        self.count();
-        true
-    }
-}
-
-impl Eq for Tally<'_> {
-    ghost laws = { Prim.search rules };
-}
-
-impl PartialOrd for Tally<'_> {
-    ghost partial_cmp = { λ one other. Some Equal };
-
-    ghost laws = { Prim.search rules };
-
-    fn partial_cmp(&self, _other: &Self) -> Option<Ordering> {
-        self.count();
-        Some(Ordering::Equal)
-    }
-}
-
-impl Ord for Tally<'_> {
-    ghost cmp = { λ one other. Equal };
-
-    ghost total = { Prim.search rules };
-
-    ghost matches_partial_cmp = { Prim.search rules };
-
-    ghost matches_eq = { Prim.search rules };
-
-    fn cmp(&self, _other: &Self) -> Ordering {
-        self.count();
-        Ordering::Equal
-    }
-}
-
-impl Hash for Tally<'_> {
-    ghost hash_input = { λ one. [] };
-
-    ghost respects_eq = { Prim.search rules };
-
-    fn hash<H: Hasher>(&self, _state: &mut H) {
-        self.count();
-    }
-}
-
-/// A key that counts how often such keys are compared or hashed, first of all.
-#[derive(Clone, Copy, PartialEq, Eq, PartialOrd, Ord, Hash)]
-struct Counting<'a> {
-    tally: Tally<'a>,
-    name: u16,
 }
 
 /// Puts a fetch of each of 10,000 keys, one by one.

@@ -6,6 +6,8 @@
 #[cfg(test)]
 mod completion;
 #[cfg(test)]
+mod counting;
+#[cfg(test)]
 mod entries;
 #[cfg(test)]
 mod ingress;
@@ -13,3 +15,5 @@ mod ingress;
 mod pending;
 #[cfg(test)]
 mod subscribers;
+#[cfg(test)]
+mod targets;

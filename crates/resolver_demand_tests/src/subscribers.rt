@@ -1,10 +1,12 @@
 ghost use Rattle.std.specs.Prelude.{◌==◌, ◌%◌};
 ghost use Rattle.std.proofs.Common.{rules};
 
-use resolver_base::base::NonEmptyVec;
+use crate::counting::{Counting, Tally};
+use resolver_base::base::{Fault, NonEmptyVec};
 use resolver_demand::ingress::Predicate;
 use resolver_demand::subscribers::Tracker;
-use std::alloc::Global;
+use std::alloc::{AllocError, Global};
+use std::cell::Cell;
 use std::test::Fail;
 
 /// Keeps the even subscribers.
@@ -105,7 +107,11 @@ fn holds_a_thousand_keys(rt: HostRuntime) -> Result<(), Fail> {
     let same = tracker.clone()?;
     let mut keys = 0;
     for (key, subscribers) in same.iter() {
-        assert_eq!(rt; subscribers.as_slice(), [(*key, 1)].as_slice());
+        assert_eq!(rt; subscribers.len(), 1);
+        assert_eq!(rt;
+            subscribers.copied(alloc)?.as_slice(),
+            [(*key, 1)].as_slice()
+        );
         keys = *key;
     }
     assert_eq!(rt; keys, 999);
@@ -116,5 +122,81 @@ fn holds_a_thousand_keys(rt: HostRuntime) -> Result<(), Fail> {
     tracker.clear();
     assert!(rt; tracker.is_empty());
     assert!(rt; same.contains(&500));
+    Ok(())
+}
+
+fn copied<T: Clone>(value: &T) -> Result<T, AllocError> {
+    value.clone()
+}
+
+/// So many subscribers, the last one first, of which each has its name as its mark.
+fn descending(alloc: Global, count: u16) -> Result<NonEmptyVec<(u16, u64)>, Fail> {
+    let mut subscribers = Vec::new(alloc);
+    for name in 0..count {
+        subscribers.push((name, u64::from(name)))?;
+    }
+    subscribers.reverse();
+    list(alloc, subscribers.as_slice())
+}
+
+/// Whether these are the subscribers from 0 on, with their names as their marks.
+fn are_ascending(subscribers: &[(u16, u64)]) -> bool {
+    let mut next: u16 = 0;
+    for (name, mark) in subscribers {
+        if *name != next || *mark != u64::from(next) {
+            return false;
+        }
+        next = next.wrapping_add(1);
+    }
+    true
+}
+
+#[test]
+fn many_subscribers_stand_in_order(rt: HostRuntime) -> Result<(), Fail> {
+    let alloc = rt.alloc();
+    let mut tracker = Tracker::new(alloc);
+    assert!(rt; insert(&mut tracker, alloc, 1, &[(7, 7), (3, 3)])?);
+    assert!(rt; !tracker.insert(1, descending(alloc, 40)?)?);
+    assert!(rt; !insert(&mut tracker, alloc, 1, &[(7, 99), (40, 40)])?);
+    let all = pending(&tracker, 1)?;
+    assert_eq!(rt; all.len(), 41);
+    assert!(rt; are_ascending(all.as_slice()));
+
+    let same = copied(&tracker)?;
+    let rest = tracker.remove_delivered(&1, &list(alloc, &[(40, 0), (39, 0), (50, 0)])?)?;
+    assert_eq!(rt; rest.ok_or("39 are left")?.len(), 39);
+    assert!(rt; are_ascending(pending(&tracker, 1)?.as_slice()));
+    assert_eq!(rt; tracker.retain(&Even)?.len(), 0);
+    assert_eq!(rt; pending(&tracker, 1)?.len(), 20);
+    assert_eq!(rt; pending(&same, 1)?.len(), 41);
+    Ok(())
+}
+
+/// Puts each of 10,000 subscribers of one key into a tracker, one by one.
+fn put_each<'a>(
+    alloc: Global,
+    tracker: &mut Tracker<u16, Counting<'a>>,
+    looks: &'a Cell<u32>,
+) -> Result<(), Fault> {
+    for name in 0..10_000u16 {
+        let subscriber = Counting {
+            tally: Tally(looks),
+            name,
+        };
+        tracker.insert(1, NonEmptyVec::new(alloc, (subscriber, 0))?)?;
+    }
+    Ok(())
+}
+
+#[test]
+fn a_subscriber_is_compared_with_few_others(rt: HostRuntime) -> Result<(), Fail> {
+    let alloc = rt.alloc();
+    let looks = Cell::new(0u32);
+    let mut tracker = Tracker::new(alloc);
+    put_each(alloc, &mut tracker, &looks)?;
+    assert!(rt; 0 < looks.get());
+    assert!(rt; looks.replace(0) <= 1_000_000);
+    put_each(alloc, &mut tracker, &looks)?;
+    assert!(rt; looks.get() <= 1_000_000);
     Ok(())
 }

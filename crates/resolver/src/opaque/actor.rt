@@ -269,6 +269,7 @@ impl<K: Ord + Clone, V: Clone, S: Ord + Clone, Q: Predicate<K, S> + Drop> Actor<
         effects: &mut Vec<Effect<K, V, S>>,
     ) -> Result<(), Fault>
         requires clones { (x y : K) → K.is_clone x y → y ≡ x }
+        requires subscribers_clone { (x y : S) → S.is_clone x y → y ≡ x }
         ensures { Goes (fetch (names K.cmp S.cmp) self.old (map item_of items.items))
             effects.old.items effects.new.items self.new result }
     {
@@ -284,6 +285,7 @@ impl<K: Ord + Clone, V: Clone, S: Ord + Clone, Q: Predicate<K, S> + Drop> Actor<
         effects: &mut Vec<Effect<K, V, S>>,
     ) -> Result<(), Fault>
         requires clones { (x y : K) → K.is_clone x y → y ≡ x }
+        requires subscribers_clone { (x y : S) → S.is_clone x y → y ≡ x }
         ensures { Goes (fetch_one (names K.cmp S.cmp) self.old (item_of item)
             (row_of (names K.cmp S.cmp) self.old item.key))
             effects.old.items effects.new.items self.new result }
@@ -307,6 +309,7 @@ impl<K: Ord + Clone, V: Clone, S: Ord + Clone, Q: Predicate<K, S> + Drop> Actor<
         effects: &mut Vec<Effect<K, V, S>>,
     ) -> Result<(), Fault>
         requires clones { (x y : K) → K.is_clone x y → y ≡ x }
+        requires subscribers_clone { (x y : S) → S.is_clone x y → y ≡ x }
         requires absent { row_of (names K.cmp S.cmp) self.old key ≡ None }
         ensures { Goes (start_new (names K.cmp S.cmp) self.old key
             (attached_all S.cmp [] subscribers))

@@ -14,7 +14,7 @@ use super::stages::Stages;
 use resolver_base::base::{Fault, NonEmptyVec};
 use resolver_demand::delivery::{Entries, Entry};
 use resolver_demand::subscribers::Tracker;
-use std::alloc::{AllocError, Global};
+use std::alloc::Global;
 
 /// What is being done for a demanded key.
 #[derive(Clone, Copy, Debug, PartialEq, Eq)]
@@ -67,7 +67,7 @@ pub fn listed<K: Ord + Clone + Drop, V: Drop, S: Ord + Clone + Drop>(
         let Some((_, entry)) = rest.next() else {
             return Ok(list);
         };
-        let subscribers = copied(alloc, subscribers.as_slice())?;
+        let subscribers = subscribers.copied(alloc)?;
         let Ok(subscribers) = NonEmptyVec::try_from(subscribers) else {
             unreachable!()
         };
@@ -78,14 +78,6 @@ pub fn listed<K: Ord + Clone + Drop, V: Drop, S: Ord + Clone + Drop>(
         })?;
     }
     Ok(list)
-}
-
-/// Clones of the subscribers, with their marks.
-fn copied<S: Clone>(alloc: Global, list: &[(S, u64)]) -> Result<Vec<(S, u64)>, AllocError>
-    requires subscribers_clone { (x y : S) → S.is_clone x y → y ≡ x }
-    ensures { IfOk result (λ copy. copy.items ≡ list.now) }
-{
-    Vec::from_clones(alloc, list)
 }
 
 /// What is being done for a key.

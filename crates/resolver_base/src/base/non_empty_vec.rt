@@ -3,16 +3,19 @@
 ghost use Rattle.std.specs.Prelude.{◌≡◌, ◌<◌, ◌≤◌, ◌-◌, insert, [], ◌∷◌, ◌++◌, length, IfOk, IfErr, OnOk, OnErr, slice_get, Some, IsOk, MatchBool};
 ghost use Rattle.std.specs.Iterator.Adapters.{IterYieldsInOrder};
 ghost use Rattle.std.specs.List.{list_any};
-ghost use Rattle.std.specs.Ordering.{is_eq};
 ghost use Rattle.std.specs.Slice.Iter.{iter_rest};
 ghost use Rattle.resolver_base.specs.Joined.{joined};
 ghost use Rattle.resolver_base.specs.Mapped.{MapsInTurn};
 ghost use Rattle.resolver_base.specs.Subscribers.{all_kept, joined_subscribers, keeps_any};
 
+use crate::base::joining;
 use crate::base::predicate::Predicate;
 use std::alloc::{AllocError, AllocFailed, Global};
 use std::marker::Model;
 use std::slice::Iter;
+
+/// Up to so many items are each sought among those that are there; more of them by an index.
+const FEW: usize = 8;
 
 /// A list with at least one item. Contracts see it as that list.
 #[derive(Clone, Debug, Drop)]
@@ -98,20 +101,21 @@ impl<T: Drop> NonEmptyVec<T> {
     }
 
     /// Puts those of these items last, in their order, that aren't there yet. Where memory is
-    /// wanting, nothing changes. It takes time in proportion to both lengths.
-    pub fn join(&mut self, more: NonEmptyVec<T>) -> Result<(), AllocError>
+    /// wanting, nothing changes. It takes time in proportion to both lengths, and where many are
+    /// put, times their logarithm.
+    pub fn join(&mut self, alloc: Global, more: NonEmptyVec<T>) -> Result<(), AllocError>
     where
-        T: PartialEq,
+        T: Ord + Clone,
+        requires items_clone { (x y : T) → T.is_clone x y → y ≡ x }
         ensures ok { OnOk result (self.new ≡ joined T.eq self.old more) }
         ensures err { OnErr result (self.new ≡ self.old) }
     {
         self.items.reserve(more.len())?;
-        for item in more.items {
-            if !has(&self.items, &item) {
-                self.items.push_reserved(item);
-            }
+        if more.len() <= FEW {
+            joining::join_few(&mut self.items, more.items);
+            return Ok(());
         }
-        Ok(())
+        joining::join_many(alloc, &mut self.items, more.items)
     }
 
     /// What `f` gives for each item, in order. The new list's memory is made before the first
@@ -144,21 +148,25 @@ impl<T: Drop> NonEmptyVec<T> {
     }
 }
 
-impl<S: Ord + Drop> NonEmptyVec<(S, u64)> {
+impl<S: Ord + Clone + Drop> NonEmptyVec<(S, u64)> {
     /// Puts those of these subscribers last, in their order, that aren't there yet. One that is
     /// there keeps its mark. Where memory is wanting, nothing changes. It takes time in proportion
-    /// to both lengths.
-    pub fn join_subscribers(&mut self, more: NonEmptyVec<(S, u64)>) -> Result<(), AllocError>
+    /// to both lengths, and where many are put, times their logarithm.
+    pub fn join_subscribers(
+        &mut self,
+        alloc: Global,
+        more: NonEmptyVec<(S, u64)>,
+    ) -> Result<(), AllocError>
+        requires subscribers_clone { (x y : S) → S.is_clone x y → y ≡ x }
         ensures ok { OnOk result (self.new ≡ joined_subscribers S.cmp self.old more) }
         ensures err { OnErr result (self.new ≡ self.old) }
     {
         self.items.reserve(more.len())?;
-        for one in more.items {
-            if !is_listed(&self.items, &one.0) {
-                self.items.push_reserved(one);
-            }
+        if more.len() <= FEW {
+            joining::join_few_subscribers(&mut self.items, more.items);
+            return Ok(());
         }
-        Ok(())
+        joining::join_many_subscribers(alloc, &mut self.items, more.items)
     }
 }
 
@@ -211,18 +219,4 @@ impl<T: Clone> NonEmptyVec<T> {
         let items = self.items.clone()?;
         Ok(NonEmptyVec { items })
     }
-}
-
-/// Whether an item equals this one.
-fn has<T: PartialEq>(items: &[T], item: &T) -> bool
-    ensures { result ≡ list_any (λ other. T.eq other item.now) items.now }
-{
-    items.contains(item)
-}
-
-/// Whether this subscriber is one of these.
-fn is_listed<S: Ord>(list: &[(S, u64)], subscriber: &S) -> bool
-    ensures { result ≡ list_any (λ one. is_eq (S.cmp subscriber.now one.0)) list.now }
-{
-    list.iter().any(|one| subscriber.cmp(&one.0).is_eq())
 }

@@ -18,6 +18,7 @@ use std::mem;
 
 /// A fetch of what both ask for, the earlier one first.
 pub(super) fn merged<K: Clone + Drop, S: Ord + Clone + Drop, M: Metadata + Drop>(
+    alloc: Global,
     earlier: &FetchKey<K, S, M>,
     later: FetchKey<K, S, M>,
 ) -> Result<FetchKey<K, S, M>, AllocError>
@@ -28,9 +29,9 @@ pub(super) fn merged<K: Clone + Drop, S: Ord + Clone + Drop, M: Metadata + Drop>
 {
     let key = earlier.key.clone()?;
     let mut subscribers = earlier.subscribers.clone()?;
-    subscribers.join_subscribers(later.subscribers)?;
+    subscribers.join_subscribers(alloc, later.subscribers)?;
     let mut metadata = earlier.metadata.copy()?;
-    metadata.merge(later.metadata)?;
+    metadata.merge(alloc, later.metadata)?;
     Ok(FetchKey {
         key,
         subscribers,
@@ -42,6 +43,7 @@ pub(super) fn merged<K: Clone + Drop, S: Ord + Clone + Drop, M: Metadata + Drop>
 /// answered with its place, or nothing where the key is new. Where memory is wanting, nothing
 /// changes.
 pub(super) fn put<K: Ord + Hash + Clone + Drop, S: Ord + Clone + Drop, M: Metadata + Drop>(
+    alloc: Global,
     batch: &mut Vec<FetchKey<K, S, M>>,
     places: &mut IndexSet<K>,
     item: FetchKey<K, S, M>,
@@ -63,7 +65,7 @@ pub(super) fn put<K: Ord + Hash + Clone + Drop, S: Ord + Clone + Drop, M: Metada
         batch.push_reserved(item);
         return Ok(None);
     };
-    let both = merged(&batch[place], item)?;
+    let both = merged(alloc, &batch[place], item)?;
     let was = mem::replace(&mut batch[place], both);
     Ok(Some((place, was)))
 }
@@ -88,7 +90,7 @@ pub(super) fn put_all<K: Ord + Hash + Clone + Drop, S: Ord + Clone + Drop, M: Me
     let count = places.len();
     let mut changes = Vec::with_capacity(alloc, items.len())?;
     for item in items {
-        match put(batch, places, item) {
+        match put(alloc, batch, places, item) {
             Ok(change) => changes.push_reserved(change),
             Err(error) => {
                 take_back(batch, changes);

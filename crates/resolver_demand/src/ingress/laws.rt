@@ -9,7 +9,8 @@ ghost use Rattle.resolver_demand.specs.Fetched.{fetched_targets};
 use crate::ingress::metadata::Metadata;
 use resolver_base::base::Predicate;
 
-/// On every demand, what waits after a message is taken does what waited and then the message do.
+/// On every demand, what waits after a message is taken does what waited and then the message do,
+/// where each key stood once, as `Pending::law` says that it does.
 pub fn handling_is_right<K: Ord, S: Ord, M: Metadata, Q: Predicate<K, S>>()
     ensures { (backlog : Backlog K S M Q) (message : Told K S M Q)
         → IsApart (names K.cmp S.cmp) backlog.batch
@@ -18,7 +19,8 @@ pub fn handling_is_right<K: Ord, S: Ord, M: Metadata, Q: Predicate<K, S>>()
 {}
 
 /// A machine that takes the fetches that wait after a message as one fetch ends with the same
-/// targets as one that takes, as one fetch, those that waited before and then the message's.
+/// targets as one that takes, as one fetch, those that waited before and then the message's, where
+/// each key stood once, as `Pending::law` says that it does.
 pub fn targets_stay<K: Ord, S: Ord, P: Eq>()
     ensures { (batch items : List (Item K S (Option (List P))))
         (key : K) (was : Option (Option (List P)))

@@ -4,7 +4,7 @@ ghost use Rattle.std.specs.Prelude.{◌≡◌, IfOk, OnOk, OnErr};
 ghost use Rattle.resolver_base.specs.Targets.{merged_targets};
 
 use resolver_base::base::{Faithful, NonEmptyVec};
-use std::alloc::AllocError;
+use std::alloc::{AllocError, Global};
 
 /// What is said of a fetch: it merges with what a later fetch of the key says.
 pub trait Metadata {
@@ -16,7 +16,7 @@ pub trait Metadata {
         ensures same { IfOk result (λ copy. copy ≡ self.now) };
 
     /// Takes what a later fetch of the key says. Where memory is wanting, nothing changes.
-    fn merge(&mut self, later: Self) -> Result<(), AllocError>
+    fn merge(&mut self, alloc: Global, later: Self) -> Result<(), AllocError>
         ensures ok { OnOk result (self.new ≡ merged self.old later) }
         ensures err { OnErr result (self.new ≡ self.old) };
 }
@@ -29,14 +29,14 @@ impl Metadata for () {
         Ok(())
     }
 
-    fn merge(&mut self, _later: ()) -> Result<(), AllocError> {
+    fn merge(&mut self, _alloc: Global, _later: ()) -> Result<(), AllocError> {
         Ok(())
     }
 }
 
 /// The targets of a fetch; none means that any peer may be asked. That stays so for good once it
 /// is said. Two lists are joined in their order: a target that is listed isn't listed again.
-impl<P: PartialEq + Faithful + Drop> Metadata for Option<NonEmptyVec<P>> {
+impl<P: Ord + Faithful + Drop> Metadata for Option<NonEmptyVec<P>> {
     ghost merged = { merged_targets P.eq };
 
     fn copy(&self) -> Result<Option<NonEmptyVec<P>>, AllocError> {
@@ -46,13 +46,13 @@ impl<P: PartialEq + Faithful + Drop> Metadata for Option<NonEmptyVec<P>> {
         Ok(Some(targets.clone()?))
     }
 
-    fn merge(&mut self, later: Option<NonEmptyVec<P>>) -> Result<(), AllocError> {
+    fn merge(&mut self, alloc: Global, later: Option<NonEmptyVec<P>>) -> Result<(), AllocError> {
         let Some(more) = later else {
             *self = None;
             return Ok(());
         };
         if let Some(targets) = self {
-            targets.join(more)?;
+            targets.join(alloc, more)?;
         }
         Ok(())
     }

@@ -4,7 +4,7 @@ ghost use Rattle.std.specs.Prelude.{◌≡◌, ◌∷◌, ◌++◌, [], map, len
 ghost use Rattle.resolver_base.specs.declared.base.fault.Fault.TheVariants.{OutOfMemory};
 ghost use Rattle.std.specs.Option.{option_to_list};
 ghost use Rattle.resolver_base.specs.Names.{names};
-ghost use Rattle.resolver_demand.specs.Backlog.{Drains, Fetches, HandsBack, Retains, IsRight, batch_told, behind_first, handled, item_of, no_backlog, told_of, waiting};
+ghost use Rattle.resolver_demand.specs.Backlog.{IsApart, Drains, Fetches, HandsBack, Retains, IsRight, batch_told, behind_first, handled, item_of, no_backlog, told_of, waiting};
 
 use crate::ingress::batch::{kept_places, prune_all, put_all};
 use crate::ingress::drain::{drain_retains, offer_batch};
@@ -65,14 +65,21 @@ impl<
         self.retains.is_empty() && self.batch.is_empty()
     }
 
+    /// In the batch each key stands once. This does nothing.
+    pub fn law(&self)
+        ensures { IsApart (names K.cmp S.cmp) self.now.batch }
+    {
+        let _count = self.batch.len();
+    }
+
     /// Takes a message. Where memory is wanting, nothing changes, and the message is dropped.
     ///
     /// A fetch joins the one of its key that waits: new subscribers go last, those that are there
     /// keep their mark, and what else is said of both merges. A new key goes last. A test prunes
     /// the fetches that wait at once, and is then queued.
     ///
-    /// Keys are compared by hash, and the subscribers of a fetch with those of its key. To join a
-    /// fetch takes memory for the subscribers of both; a test takes linear time.
+    /// Keys are compared by hash. To join a fetch takes time and memory for the subscribers and the
+    /// targets of both, and where it has many, times their logarithm; a test takes linear time.
     pub fn handle(&mut self, message: Message<K, S, M, Q>) -> Result<(), Fault>
         requires keys_clone { (x y : K) → K.is_clone x y → y ≡ x }
         requires subscribers_clone { (x y : S) → S.is_clone x y → y ≡ x }

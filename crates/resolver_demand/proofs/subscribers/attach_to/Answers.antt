@@ -2,6 +2,7 @@ use Rattle.std.proofs.Common.{rules, ◌≡◌, ◌∙◌, ap, Some}
 use Rattle.std.specs.Map.{lookup, set_value}
 use Rattle.std.specs.BTreeMap.{is_at}
 use Rattle.std.proofs.lemmas.Map.Steps.{set_value_same}
+use Rattle.resolver_demand.proofs.ListedRows.{listed-of}
 use Rattle.resolver_demand.proofs.subscribers.attach_to.Goals as goal
 
 pub returns-in_err-attach_all-clause-err : goal.returns-in_err-attach_all-clause-err
@@ -12,3 +13,7 @@ returns-in_err-attach_all-clause-err g c =
     ∙ ap (λ w. set_value (is_at (g.K.Ord.cmp c.args.key.now)) c.args.demand.now.entries w) c.in_err-attach_all.ensures.err
     ∙ set_value_same _ c.args.demand.now.entries c.in-Some.subscribers.now there in
     search (rules, same)
+
+pub attach_all-requires-clause-ordered : goal.attach_all-requires-clause-ordered
+attach_all-requires-clause-ordered g c =
+    (listed-of g.S.Ord.cmp (is_at (g.K.Ord.cmp c.args.key.now)) c.args.demand.now.entries c.in-Some.subscribers.now c.requires.listed (search rules)).ordered

@@ -1,7 +1,9 @@
 use Rattle.std.proofs.Common.{◌≡◌, ◌∙◌, sym, ap, true, false, ◌∷◌, ◌++◌, [], rules, append_assoc}
 use Rattle.std.specs.List.{list_any}
+use Rattle.std.specs.List.Sorted.{IsStrictlySortedBy}
+use Rattle.std.specs.Map.{keys_of}
 use Rattle.resolver_base.specs.Table.{emptied}
-use Rattle.resolver_demand.proofs.Emptied.{emptied-kept, emptied-gone}
+use Rattle.resolver_demand.proofs.Emptied.{emptied-gone, emptied-kept, emptied-ordered}
 use Rattle.resolver_demand.proofs.subscribers.emptied_keys.Goals as goal
 
 pub loop-key-preserved-in_ok-push : goal.loop-key-preserved-in_ok-push
@@ -19,3 +21,9 @@ loop-key-preserved g c =
     ap (λ keys. c.loop-key.emptied.items ++ keys) (sym (emptied-kept (g.Q.Predicate.keeps c.args.keep.now) c.in-Some.key.now c.in-Some.subscribers.now c.next.new.self stays))
     ∙ sym (ap (λ es. c.loop-key.emptied.items ++ emptied (g.Q.Predicate.keeps c.args.keep.now) es) c.in-Some.ensures.steps)
     ∙ c.loop-key.invariant
+
+pub returns-clause-ordered : goal.returns-clause-ordered
+returns-clause-ordered g c =
+    let all : c.loop-key.emptied.items ≡ emptied (g.Q.Predicate.keeps c.args.keep.now) c.args.demand.now.entries = search rules in
+    let ordered : IsStrictlySortedBy g.K.Ord.cmp (keys_of c.args.demand.now.entries) = search rules in
+    rw all (emptied-ordered (g.Q.Predicate.keeps c.args.keep.now) g.K.Ord.cmp c.args.demand.now.entries ordered)

@@ -9,7 +9,7 @@ pub loop-key-preserved : goal.loop-key-preserved
 loop-key-preserved g c =
     let so_far = c.loop-key.list.items in
     let shown : Row _ _ = record { key = c.in-Some.key.now; subscribers = c.in-Some.subscribers.now; phase = listed_phase (phase_of c.in-Some-next.entry.now) } in
-    let subscribers = c.in-Ok.ensures.ok ∙ (c.in_ok-subscribers.ensures ∙ c.as_slice.ensures) in
+    let subscribers = c.in-Ok.ensures.ok ∙ c.in_ok-subscribers.ensures in
     let pushed : c.push.new.self.items ≡ so_far ++ shown ∷ [] =
     rw (c.in_ok-push.ensures.items, c.requires.keys_clone _ _ c.in_ok-clone.ensures.cases, subscribers, c.listed_phase.ensures) refl in
     record {

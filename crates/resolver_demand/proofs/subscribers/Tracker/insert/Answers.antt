@@ -2,8 +2,11 @@ use Rattle.std.proofs.Common.{◌≡◌, true, is_some, rules, refl}
 use Rattle.std.specs.Map.{lookup}
 use Rattle.std.specs.BTreeMap.{is_at}
 use Rattle.resolver_demand.specs.Rows.{IsListed}
-use Rattle.resolver_demand.proofs.ListedRows.{attached_all-listed-new, all-attached, all-insert}
+use Rattle.resolver_demand.proofs.ListedRows.{attached_all-listed-new, all-attached, all-insert, sorted-nil}
 use Rattle.resolver_demand.proofs.subscribers.Tracker.insert.Goals as goal
+
+pub attach_all-requires-clause-ordered : goal.attach_all-requires-clause-ordered
+attach_all-requires-clause-ordered g c = rw c.new-fresh.ensures (sorted-nil g.S.Ord.cmp g.met.S.Ord.total)
 
 pub invariant_of-self-then-contains_key : goal.invariant_of-self-then-contains_key
 invariant_of-self-then-contains_key g c =

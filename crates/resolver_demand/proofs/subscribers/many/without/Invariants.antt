@@ -1,0 +1,7 @@
+use Rattle.std.proofs.Common.{◌≡◌, ◌++◌}
+use Rattle.resolver_base.specs.Subscribers.{without}
+use Rattle.resolver_demand.proofs.subscribers.many.without.Given as goal
+
+-- the rest so far, with what is kept of those that are left
+abbrev pub invariant-loop-one : goal.invariant-loop-one
+invariant-loop-one g l = l.rest.items ++ without g.S.Ord.cmp l.named.list.now l.one-iterator ≡ without g.S.Ord.cmp l.named.list.now l.map.entries
