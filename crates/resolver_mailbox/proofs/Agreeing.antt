@@ -1,6 +1,6 @@
 -- A book that is read call by call.
 use Rattle.std.proofs.Common.{◌≡◌, ℕ, zero, suc, ◌+◌, ◌<◌, ◌≤◌, Bool, true, false, nat_eq, cond, List, [], ◌∷◌, ◌++◌, length, map, take, drop, slice_index_or, Option, None, Some, is_some, subst, refl, sym, ◌∙◌, ap, arith}
-use Rattle.std.specs.Prelude.{◌↔◌, Result, Ok, Err, IfOk}
+use Rattle.std.specs.Prelude.{◌↔◌, Result, Ok, Err, IfOk, IfErr, OnErr}
 use Rattle.std.specs.List.{All}
 use Rattle.std.specs.Option.{option_map_or}
 use Rattle.std.proofs.lemmas.List.{append-nil, length-map, length-take-le, map-append, take_more, take_all}
@@ -13,6 +13,7 @@ use Rattle.resolver_base.specs.Names.{Names}
 use Rattle.resolver_demand.specs.Backlog.{Told, told_of, waiting}
 use Rattle.resolver_mailbox.specs.Book.{Call, IsBook, call_of, closes, puts_of}
 use Rattle.resolver_mailbox.specs.Desk.{Book, Desk, IsKept, calls_of}
+use Rattle.resolver_mailbox.specs.Shares.{Differs, Share}
 use Rattle.resolver_mailbox.proofs.Calls.{closes-append}
 
 first : {A : Type 0} → A → List A → A
@@ -156,3 +157,11 @@ module _ {K S M Q : Type 0} (n : Names K S) (keeps : Q → K → S → Bool) whe
       → IsBook n keeps calls → IfOk copied (λ copy. IsBook n keeps (calls_of copy))
   copied-book calls_of (Ok copy) was calls same is book = subst (IsBook n keeps) (sym (same ∙ is)) book
   copied-book calls_of (Err fault) was calls same is book = same
+
+module _ {K S M Q : Type 0} where
+  -- a book that was refused differs, and so does the empty one if it is that
+  pub differs-empty : {A E : Type 0} (agreed : Result A E) (fact : E → Type 0) (book : List (Call K S M Q)) (given taken : List (Told K S M Q)) (shares : List (Share K S M Q)) → book ≡ [] → given ≡ taken
+      → OnErr agreed (Differs book given shares) → IfErr agreed (λ fault. fact fault → Differs [] taken shares)
+  differs-empty (Ok same) fact book given taken shares is listed differs = differs
+  differs-empty (Err fault) fact book given taken shares is listed differs =
+      λ known. subst (λ calls. Differs calls taken shares) is (subst (λ messages. Differs book messages shares) listed differs)

@@ -47,6 +47,10 @@ module _ {K S M Q : Type 0} where
   abbrev pub has_room : Desk K S M Q → Bool
   has_room desk = nat_lt (length desk.ready) desk.capacity
 
+  -- it was closed, and nothing is left to be taken
+  abbrev pub IsOver : Desk K S M Q → Type 0
+  IsOver desk = (desk.is_closed ≡ true) × (desk.ready ≡ []) × (waiting desk.backlog ≡ [])
+
   abbrev pub feedback_of : Desk K S M Q → Feedback
   feedback_of desk = if desk.is_closed then feedbacks.Closed else if has_room desk then feedbacks.Ok else feedbacks.Backoff
 

@@ -2,9 +2,8 @@
 use Rattle.std.specs.Prelude.{◌≡◌, ◌<◌, ℕ, ◌+◌, ◌-◌, ◌^◌, Bool, false, true, List, [], ◌∷◌, ◌++◌, length, Option, MatchOption}
 use Rattle.std.specs.List.{All}
 use Rattle.std.specs.Option.{option_map_or}
-use Rattle.resolver_base.specs.Names.{Names}
 use Rattle.resolver_demand.specs.Backlog.{Told}
-use Rattle.resolver_mailbox.specs.Book.{Call, IsBook, closes, puts, puts_of, takes}
+use Rattle.resolver_mailbox.specs.Book.{Call, closes, puts, puts_of, takes}
 use Rattle.resolver_mailbox.specs.Desk.{Desk, calls_of}
 
 -- the messages that a handle put, in their order, and whether it was answered Closed since
@@ -38,6 +37,10 @@ module _ {K S M Q : Type 0} where
   abbrev pub Agrees : List (Call K S M Q) → List (Told K S M Q) → List (Share K S M Q) → Type 0
   Agrees calls taken shares = (takes calls ≡ taken) × All (AgreesWith calls) shares
 
+  -- The book doesn't agree with what was taken and the shares.
+  abbrev pub Differs : List (Call K S M Q) → List (Told K S M Q) → List (Share K S M Q) → Type 0
+  Differs calls taken shares = Agrees calls taken shares → ⊥
+
   -- how many puts a desk's book has
   abbrev pub puts_in : Desk K S M Q → ℕ
   puts_in desk = length (puts (calls_of desk))
@@ -53,7 +56,3 @@ module _ {K S M Q : Type 0} where
   -- The totals are those of the book, and there is a part for each handle that may still come.
   abbrev pub IsCounted : ℕ → ℕ → ℕ → Desk K S M Q → Type 0
   IsCounted put taken spare desk = (put ≡ puts_in desk) × (taken ≡ takes_in desk) × (spare + numbered desk ≡ 2 ^ 64 - 1)
-
--- A book that is legal, or empty where the mailbox isn't recorded, doesn't agree with what was taken and the shares.
-abbrev pub Differs : {K S M Q : Type 0} → Names K S → (Q → K → S → Bool) → Bool → List (Told K S M Q) → List (Share K S M Q) → Type 0
-Differs {K = K} {S = S} {M = M} {Q = Q} n keeps is_recorded taken shares = (calls : List (Call K S M Q)) × (is_recorded ≡ true → IsBook n keeps calls) × (is_recorded ≡ false → calls ≡ []) × (Agrees calls taken shares → ⊥)

@@ -1,103 +1,64 @@
-ghost use Rattle.std.specs.Prelude.{true};
-ghost use Rattle.std.proofs.Common.{rules};
-
-use resolver_base::base::Feedback;
-use resolver_base::root::Fetch;
-use resolver_demand::ingress::{FetchKey, Message, Predicate};
-use resolver_mailbox::mailbox::{Desk, Entry};
+use crate::calls::{All, fetch, spell, spelled};
+use resolver_mailbox::mailbox::Desk;
 use std::alloc::Global;
+use std::fmt::Write;
 use std::test::Fail;
 
-/// Keeps every subscriber.
-#[derive(Clone, Copy)]
-struct All;
+/// Puts a fetch of a key for one subscriber with its mark. Writes the answer, and gives the
+/// handle's number then.
+fn put(
+    text: &mut String,
+    desk: &mut Desk<u16, u16, (), All>,
+    handle: Option<u64>,
+    told: (u16, u16, u64),
+) -> Result<Option<u64>, Fail> {
+    let alloc = *text.allocator();
+    let (feedback, number) = desk.put(handle, fetch(alloc, told.0, told.1, told.2)?)?;
+    writeln!(text, "{feedback:?} {number:?}")?;
+    Ok(number)
+}
 
-impl Predicate<u16, u16> for All {
-    ghost keeps = { λ _ _ _. true };
-
-    fn keep(&self, _key: &u16, _subscriber: &u16) -> bool {
-        true
+/// Takes, and writes what was taken.
+fn take(text: &mut String, desk: &mut Desk<u16, u16, (), All>) -> Result<(), Fail> {
+    match desk.take()? {
+        Some(message) => spell(text, &message)?,
+        None => write!(text, " none")?,
     }
-
-    ghost alike = { λ q k l s t same_key same_subscriber. Prim.search rules };
+    writeln!(text)?;
+    Ok(())
 }
 
-type Told = Message<u16, u16, (), All>;
-
-/// A fetch of a key for one subscriber.
-fn fetch(alloc: Global, key: u16, subscriber: u16) -> Result<Told, Fail> {
-    let fetch = Fetch {
-        key,
-        subscriber,
-        mark: 0,
-    };
-    let mut items = Vec::new(alloc);
-    items.push(FetchKey::from_fetch(alloc, fetch)?)?;
-    Ok(Message::Fetch(items))
-}
-
-/// The keys of a message, each with how many subscribers it has.
-fn listed(alloc: Global, told: Option<Told>) -> Result<Vec<(u16, usize)>, Fail> {
-    let mut keys = Vec::new(alloc);
-    if let Some(Message::Fetch(items)) = told {
-        for item in items {
-            keys.push((item.key, item.subscribers.len()))?;
-        }
-    }
-    Ok(keys)
-}
-
-/// Three puts of two handles, three takes, a close and a put. Gives the numbers that were answered.
-fn row(alloc: Global, desk: &mut Desk<u16, u16, (), All>) -> Result<Vec<Option<u64>>, Fail> {
-    let mut numbers = Vec::new(alloc);
-    let (feedback, first) = desk.put(None, fetch(alloc, 1, 10)?)?;
-    let is_ok = feedback == Feedback::Ok;
-    numbers.push(first)?;
-    let (feedback, again) = desk.put(first, fetch(alloc, 2, 20)?)?;
-    let is_backoff = feedback == Feedback::Backoff;
-    numbers.push(again)?;
-    let (feedback, second) = desk.put(None, fetch(alloc, 2, 21)?)?;
-    let is_backoff = is_backoff && feedback == Feedback::Backoff;
-    numbers.push(second)?;
-    let taken = listed(alloc, desk.take()?)?;
-    let is_first = taken.as_slice() == [(1, 1)].as_slice();
-    let taken = listed(alloc, desk.take()?)?;
-    let is_batch = taken.as_slice() == [(2, 2)].as_slice();
-    let is_empty = desk.take()?.is_none();
+/// Three puts of two handles, three takes, a close and a put: their answers as lines.
+fn row(alloc: Global, desk: &mut Desk<u16, u16, (), All>) -> Result<String, Fail> {
+    let mut text = String::new(alloc);
+    let first = put(&mut text, desk, None, (1, 10, 7))?;
+    put(&mut text, desk, first, (2, 20, 8))?;
+    put(&mut text, desk, None, (2, 21, 9))?;
+    take(&mut text, desk)?;
+    take(&mut text, desk)?;
+    take(&mut text, desk)?;
     desk.close();
     desk.close();
-    let (feedback, last) = desk.put(first, fetch(alloc, 3, 30)?)?;
-    numbers.push(last)?;
-    if is_ok && is_backoff && is_first && is_batch && is_empty && feedback == Feedback::Closed {
-        Ok(numbers)
-    } else {
-        Err("an answer of the desk".into())
-    }
+    put(&mut text, desk, first, (3, 30, 5))?;
+    Ok(text)
 }
 
 #[test]
 fn mailbox_book(rt: HostRuntime) -> Result<(), Fail> {
     let alloc = rt.alloc();
     let mut desk = Desk::recorded(alloc, 1)?;
-    let numbers = row(alloc, &mut desk)?;
+    let answers = row(alloc, &mut desk)?;
+    let puts = "Ok Some(0)\nBackoff Some(0)\nBackoff Some(1)\n";
+    let takes = " 1 10:7\n 2 20:8 21:9\n none\n";
     assert_eq!(rt;
-        numbers.as_slice(),
-        [Some(0), Some(0), Some(1), Some(0)].as_slice()
+        answers,
+        format!(in alloc; "{puts}{takes}Closed Some(0)\n")?
     );
+    let book = spelled(alloc, desk.calls())?;
+    let puts = "put 0 0 true 1 10:7\nput 0 1 false 2 20:8\nput 1 0 false 2 21:9\n";
+    let takes = "take 1 10:7\ntake 2 20:8 21:9\n";
+    assert_eq!(rt; book, format!(in alloc; "{puts}{takes}close\n")?);
     assert!(rt; desk.is_closed());
-    let mut places = Vec::new(alloc);
-    let mut takes = 0usize;
-    let mut closes = 0usize;
-    for call in desk.calls() {
-        match call {
-            Entry::Put(posted) => places.push((posted.handle, posted.place, posted.is_ok))?,
-            Entry::Take(_) => takes = takes.wrapping_add(1),
-            Entry::Close => closes = closes.wrapping_add(1),
-        }
-    }
-    let expected = [(0, 0, true), (0, 1, false), (1, 0, false)];
-    assert_eq!(rt; places.as_slice(), expected.as_slice());
-    assert_eq!(rt; (takes, closes), (2, 1));
     Ok(())
 }
 
@@ -105,8 +66,10 @@ fn mailbox_book(rt: HostRuntime) -> Result<(), Fail> {
 fn mailbox_book_not_recorded(rt: HostRuntime) -> Result<(), Fail> {
     let alloc = rt.alloc();
     let mut desk = Desk::new(alloc, 1)?;
-    let numbers = row(alloc, &mut desk)?;
-    assert_eq!(rt; numbers.as_slice(), [None, None, None, None].as_slice());
+    let answers = row(alloc, &mut desk)?;
+    let puts = "Ok None\nBackoff None\nBackoff None\n";
+    let takes = " 1 10:7\n 2 20:8 21:9\n none\n";
+    assert_eq!(rt; answers, format!(in alloc; "{puts}{takes}Closed None\n")?);
     assert!(rt; desk.calls().is_empty());
     Ok(())
 }

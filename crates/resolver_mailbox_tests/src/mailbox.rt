@@ -1,58 +1,17 @@
 ghost use Rattle.std.specs.Prelude.{◌≡◌, ◌<◌, true};
-ghost use Rattle.std.proofs.Common.{rules};
 
+use crate::calls::{All, Told, fetch, spell, spell_all, spelled};
 use futures::Stream;
 use futures::task::Poll;
 use futures::test::MockTask;
-use resolver_base::base::{Faithful, Fault, Feedback, Predicate};
-use resolver_base::root::Fetch;
-use resolver_demand::ingress::{FetchKey, Message};
-use resolver_mailbox::mailbox::{
-    Entry, Exact, Naming, Pages, Receiver, Sender, Share, new, recorded,
-};
+use resolver_base::base::Fault;
+use resolver_mailbox::mailbox::{Entry, Naming, Pages, Receiver, Sender, Share, new, recorded};
 use std::alloc::{AllocError, Global};
+use std::fmt::Write;
 use std::marker::Brand;
 use std::sync::Wait;
 use std::test::Fail;
 use std::thread::{self, JoinHandle, Threads};
-
-/// Keeps every subscriber.
-#[derive(Clone, Copy)]
-struct All;
-
-impl Predicate<u16, u16> for All {
-    ghost keeps = { λ _ _ _. true };
-
-    fn keep(&self, _key: &u16, _subscriber: &u16) -> bool {
-        true
-    }
-
-    ghost alike = { λ q k l s t same_key same_subscriber. Prim.search rules };
-}
-
-impl Faithful for All {
-    ghost clones = { Prim.search rules };
-}
-
-impl Exact for All {
-    fn is_same(&self, _other: &All) -> bool {
-        true
-    }
-}
-
-type Told = Message<u16, u16, (), All>;
-
-/// A fetch of a key for one subscriber.
-fn fetch(alloc: Global, key: u16, subscriber: u16) -> Result<Told, Fault> {
-    let fetch = Fetch {
-        key,
-        subscriber,
-        mark: 0,
-    };
-    let mut items = Vec::new(alloc);
-    items.push(FetchKey::from_fetch(alloc, fetch)?)?;
-    Ok(Message::Fetch(items))
-}
 
 /// What the next poll of a receiver gives.
 fn next<N: Naming, R: Wait + Drop>(
@@ -62,37 +21,15 @@ fn next<N: Naming, R: Wait + Drop>(
     task.enter(|cx| receiver.poll_next(cx))
 }
 
-/// The keys of the next message, each with how many subscribers it has; none where there is none.
-fn listed<N: Naming, R: Wait + Drop>(
-    alloc: Global,
-    task: &MockTask,
-    receiver: &mut Receiver<u16, u16, (), All, N, R>,
-) -> Result<Vec<(u16, usize)>, Fault> {
-    let mut keys = Vec::new(alloc);
-    let Poll::Ready(Some(message)) = next(task, receiver) else {
-        return Ok(keys);
-    };
-    if let Message::Fetch(items) = message? {
-        for item in items {
-            keys.push((item.key, item.subscribers.len()))?;
-        }
-    }
-    Ok(keys)
-}
-
-/// How many puts, takes and closes a book has.
-fn counts(book: &[Entry<u16, u16, (), All>]) -> (u64, u64, u64) {
+/// How many puts a book has.
+fn puts_in(book: &[Entry<u16, u16, (), All>]) -> u64 {
     let mut puts = 0u64;
-    let mut takes = 0u64;
-    let mut closes = 0u64;
     for entry in book {
-        match entry {
-            Entry::Put(_) => puts = puts.wrapping_add(1),
-            Entry::Take(_) => takes = takes.wrapping_add(1),
-            Entry::Close => closes = closes.wrapping_add(1),
+        if let Entry::Put(_) = entry {
+            puts = puts.wrapping_add(1);
         }
     }
-    (puts, takes, closes)
+    puts
 }
 
 /// The shares of some handles.
@@ -116,7 +53,7 @@ fn put_many<N: Naming, R: Wait>(
     first: u16,
 ) -> Result<(), Fault> {
     for i in 0..250 {
-        handle.enqueue(fetch(alloc, first.wrapping_add(i), 1)?)?;
+        handle.enqueue(fetch(alloc, first.wrapping_add(i), 1, 0)?)?;
     }
     Ok(())
 }
@@ -168,7 +105,7 @@ where
     }
     let shares = shares_of(alloc, handles.as_slice())?;
     let book = receiver.book(alloc, shares.as_slice())?;
-    Ok((counts(book.as_slice()).0, shares.len()))
+    Ok((puts_in(book.as_slice()), shares.len()))
 }
 
 #[test]
@@ -179,38 +116,73 @@ fn the_book_holds_what_four_threads_put(rt: HostRuntime) -> Result<(), Fail> {
     Ok(())
 }
 
-/// Two handles put, the receiver takes, the mailbox is closed, and the first handle puts again.
+/// Puts a fetch of a key for one subscriber with its mark, and writes the answer.
+fn put<N: Naming, R: Wait>(
+    text: &mut String,
+    handle: &mut Sender<u16, u16, (), All, N, R>,
+    told: (u16, u16, u64),
+) -> Result<(), Fail> {
+    let message = fetch(*text.allocator(), told.0, told.1, told.2)?;
+    writeln!(text, "{:?}", handle.enqueue(message)?)?;
+    Ok(())
+}
+
+/// Polls, and writes what the poll gives.
+fn poll<N: Naming, R: Wait + Drop>(
+    text: &mut String,
+    task: &MockTask,
+    receiver: &mut Receiver<u16, u16, (), All, N, R>,
+) -> Result<(), Fail> {
+    match next(task, receiver) {
+        Poll::Ready(Some(message)) => spell(text, &message?)?,
+        Poll::Ready(None) => write!(text, " end")?,
+        Poll::Pending => write!(text, " pending")?,
+    }
+    writeln!(text)?;
+    Ok(())
+}
+
+/// Writes the share of a handle: its number, its mark, and its messages.
+fn spell_share<N: Naming, R>(
+    text: &mut String,
+    handle: &Sender<u16, u16, (), All, N, R>,
+) -> Result<(), Fail> {
+    match handle.share() {
+        Some(share) => {
+            writeln!(text, "share {} {}", share.handle(), share.is_closed())?;
+            spell_all(text, share.puts())
+        }
+        None => Ok(writeln!(text, "none")?),
+    }
+}
+
+/// Two handles put, the receiver takes, the mailbox is closed, and the first handle puts again:
+/// the answers, and then the shares and what was taken.
 fn row<N: Naming, R: Wait + Drop>(
     alloc: Global,
     task: &MockTask,
     first: &mut Sender<u16, u16, (), All, N, R>,
     second: &mut Sender<u16, u16, (), All, N, R>,
     receiver: &mut Receiver<u16, u16, (), All, N, R>,
-) -> Result<bool, Fault> {
-    let is_ok = first.enqueue(fetch(alloc, 1, 10)?)? == Feedback::Ok;
-    let is_full = first.enqueue(fetch(alloc, 2, 20)?)? == Feedback::Backoff;
-    let is_full = is_full && second.enqueue(fetch(alloc, 2, 21)?)? == Feedback::Backoff;
-    let taken = listed(alloc, task, receiver)?;
-    let is_first = taken.as_slice() == [(1, 1)].as_slice();
-    let taken = listed(alloc, task, receiver)?;
-    let is_batch = taken.as_slice() == [(2, 2)].as_slice();
-    let is_pending = match next(task, receiver) {
-        Poll::Pending => true,
-        Poll::Ready(_) => false,
-    };
+) -> Result<String, Fail> {
+    let mut text = String::new(alloc);
+    put(&mut text, first, (1, 10, 7))?;
+    put(&mut text, first, (2, 20, 8))?;
+    put(&mut text, second, (2, 21, 9))?;
+    poll(&mut text, task, receiver)?;
+    poll(&mut text, task, receiver)?;
+    poll(&mut text, task, receiver)?;
     first.close();
-    let is_closed = first.enqueue(fetch(alloc, 3, 30)?)? == Feedback::Closed;
-    Ok(is_ok && is_full && is_first && is_batch && is_pending && is_closed)
+    put(&mut text, first, (3, 30, 5))?;
+    spell_share(&mut text, first)?;
+    spell_share(&mut text, second)?;
+    writeln!(text, "taken")?;
+    spell_all(&mut text, receiver.taken())?;
+    Ok(text)
 }
 
-/// The share of a handle: its number, how many puts, and whether it is marked.
-fn told<N: Naming, R>(handle: &Sender<u16, u16, (), All, N, R>) -> Option<(u64, usize, bool)> {
-    let share = handle.share()?;
-    Some((share.handle(), share.puts().len(), share.is_closed()))
-}
-
-/// The row in a recorded mailbox of capacity 1. Says whether each answer was as it is to be.
-fn recorded_row<N, R>(rt: R, alloc: Global, pages: Pages, task: &MockTask) -> Result<bool, Fault>
+/// The row in a recorded mailbox of capacity 1, and then its book.
+fn recorded_row<N, R>(rt: R, alloc: Global, pages: Pages, task: &MockTask) -> Result<String, Fail>
 where
     N: Naming,
     R: Wait + Copy + Drop,
@@ -220,23 +192,32 @@ where
 {
     let (mut first, mut receiver) = recorded::<u16, u16, (), All, N, R>(rt, alloc, pages, 1)?;
     let mut second = first.clone()?;
-    let is_so = told(&first).is_none() && receiver.taken().is_empty();
-    let is_so = row(alloc, task, &mut first, &mut second, &mut receiver)? && is_so;
-    let is_so = is_so && told(&first) == Some((0, 2, true));
-    let is_so = is_so && told(&second) == Some((1, 1, false));
-    let is_so = is_so && receiver.taken().len() == 2;
+    let mut text = String::new(alloc);
+    spell_share(&mut text, &first)?;
+    spell_share(&mut text, &second)?;
+    let answers = row(alloc, task, &mut first, &mut second, &mut receiver)?;
     let mut handles = Vec::new(alloc);
     handles.push(first)?;
     handles.push(second)?;
     let shares = shares_of(alloc, handles.as_slice())?;
     let book = receiver.book(alloc, shares.as_slice())?;
-    Ok(is_so && counts(book.as_slice()) == (3, 2, 1))
+    let book = spelled(alloc, book.as_slice())?;
+    write!(text, "{answers}{book}")?;
+    Ok(text)
 }
 
 #[test]
 fn mailbox_book(rt: HostRuntime) -> Result<(), Fail> {
     let task = MockTask::new(&rt)?;
-    assert!(rt; recorded_row::<Brand, _>(rt, rt.alloc(), Pages::new(), &task)?);
+    let alloc = rt.alloc();
+    let text = recorded_row::<Brand, _>(rt, alloc, Pages::new(), &task)?;
+    let answers = "Ok\nBackoff\nBackoff\n 1 10:7\n 2 20:8 21:9\n pending\nClosed\n";
+    let shares = "share 0 true\n 1 10:7\n 2 20:8\nshare 1 false\n 2 21:9\n";
+    let taken = "taken\n 1 10:7\n 2 20:8 21:9\n";
+    let puts = "put 0 0 true 1 10:7\nput 0 1 false 2 20:8\nput 1 0 false 2 21:9\n";
+    let takes = "take 1 10:7\ntake 2 20:8 21:9\n";
+    let row = format!(in alloc; "none\nnone\n{answers}{shares}{taken}{puts}{takes}close\n")?;
+    assert_eq!(rt; text, row);
     Ok(())
 }
 
@@ -246,11 +227,64 @@ fn mailbox_book_not_recorded(rt: HostRuntime) -> Result<(), Fail> {
     let task = MockTask::new(&rt)?;
     let (mut first, mut receiver) = new::<u16, u16, (), All, _>(rt, alloc, 1)?;
     let mut second = first.clone()?;
-    assert!(rt; row(alloc, &task, &mut first, &mut second, &mut receiver)?);
-    assert_eq!(rt; told(&first), None);
-    assert_eq!(rt; told(&second), None);
-    assert!(rt; receiver.taken().is_empty());
+    let text = row(alloc, &task, &mut first, &mut second, &mut receiver)?;
+    let answers = "Ok\nBackoff\nBackoff\n 1 10:7\n 2 20:8 21:9\n pending\nClosed\n";
+    assert_eq!(rt; text, format!(in alloc; "{answers}none\nnone\ntaken\n")?);
     assert!(rt; receiver.book(alloc, &[])?.is_empty());
+    Ok(())
+}
+
+/// Three puts, a close, and polls until the mailbox has ended: the answers.
+fn shut<N: Naming, R: Wait + Drop>(
+    alloc: Global,
+    task: &MockTask,
+    handle: &mut Sender<u16, u16, (), All, N, R>,
+    receiver: &mut Receiver<u16, u16, (), All, N, R>,
+) -> Result<String, Fail> {
+    let mut text = String::new(alloc);
+    put(&mut text, handle, (1, 10, 7))?;
+    put(&mut text, handle, (2, 20, 8))?;
+    put(&mut text, handle, (3, 30, 9))?;
+    handle.close();
+    poll(&mut text, task, receiver)?;
+    poll(&mut text, task, receiver)?;
+    poll(&mut text, task, receiver)?;
+    poll(&mut text, task, receiver)?;
+    poll(&mut text, task, receiver)?;
+    Ok(text)
+}
+
+/// What a mailbox of capacity 2 answers then.
+const SHUT: &str = "Ok\nOk\nBackoff\n 1 10:7\n 2 20:8\n 3 30:9\n end\n end\n";
+
+/// The same in a recorded mailbox of capacity 2.
+fn recorded_shut<N, R>(rt: R, alloc: Global, pages: Pages, task: &MockTask) -> Result<String, Fail>
+where
+    N: Naming,
+    R: Wait + Copy + Drop,
+    requires recorded { N.is_recorded ≡ true }
+    requires puts { pages.puts.name ≡ N.puts }
+    requires takes { pages.takes.name ≡ N.takes }
+{
+    let (mut handle, mut receiver) = recorded::<u16, u16, (), All, N, R>(rt, alloc, pages, 2)?;
+    shut(alloc, task, &mut handle, &mut receiver)
+}
+
+#[test]
+fn what_waits_is_given_after_the_close(rt: HostRuntime) -> Result<(), Fail> {
+    let task = MockTask::new(&rt)?;
+    let text = recorded_shut::<Brand, _>(rt, rt.alloc(), Pages::new(), &task)?;
+    assert_eq!(rt; text.as_str(), SHUT);
+    Ok(())
+}
+
+#[test]
+fn what_waits_is_given_after_the_close_not_recorded(rt: HostRuntime) -> Result<(), Fail> {
+    let alloc = rt.alloc();
+    let task = MockTask::new(&rt)?;
+    let (mut handle, mut receiver) = new::<u16, u16, (), All, _>(rt, alloc, 2)?;
+    let text = shut(alloc, &task, &mut handle, &mut receiver)?;
+    assert_eq!(rt; text.as_str(), SHUT);
     Ok(())
 }
 
@@ -263,7 +297,7 @@ fn wakes<N: Naming, R: Wait + Drop>(
 ) -> Result<[bool; 4], Fault> {
     let _ = next(task, receiver);
     let asleep = task.is_woken();
-    handle.enqueue(fetch(alloc, 1, 10)?)?;
+    handle.enqueue(fetch(alloc, 1, 10, 7)?)?;
     let put = task.is_woken();
     let _ = next(task, receiver);
     let _ = next(task, receiver);

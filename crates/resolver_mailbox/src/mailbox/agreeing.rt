@@ -1,15 +1,16 @@
 //! Whether a book says what handles and the receiver say.
 
-ghost use Rattle.std.specs.Prelude.{◌≡◌, ◌<◌, ◌↔◌, map, IfOk, IsTrue};
+ghost use Rattle.std.specs.Prelude.{◌≡◌, ◌<◌, ◌↔◌, map, IfOk, IfErr, IsTrue, OnErr};
 ghost use Rattle.resolver_demand.specs.Backlog.{item_of, told_of};
 ghost use Rattle.resolver_mailbox.specs.Book.{call_of, closes, puts_of, takes};
-ghost use Rattle.resolver_mailbox.specs.Shares.{Agrees, AgreesWith};
+ghost use Rattle.resolver_base.specs.declared.base.fault.Fault.TheVariants.{Uneven};
+ghost use Rattle.resolver_mailbox.specs.Shares.{Agrees, AgreesWith, Differs};
 
 use crate::mailbox::entry::{Entry, Posted};
 use crate::mailbox::exact::Exact;
 use crate::mailbox::naming::Names;
 use crate::mailbox::share::Share;
-use resolver_base::base::Faithful;
+use resolver_base::base::{Faithful, Fault};
 use resolver_demand::ingress::{FetchKey, Message, Metadata};
 use std::alloc::{AllocError, Global};
 
@@ -136,7 +137,7 @@ fn agrees_with<K: Exact, S: Exact, M: Exact, Q: Exact, N: Names>(
 }
 
 /// Whether a book agrees with what was taken and with all of these shares.
-pub(super) fn agrees<K: Exact, S: Exact, M: Exact, Q: Exact, N: Names>(
+fn agrees<K: Exact, S: Exact, M: Exact, Q: Exact, N: Names>(
     book: &[Entry<K, S, M, Q>],
     taken: &[Message<K, S, M, Q>],
     shares: &[&Share<K, S, M, Q, N>],
@@ -153,6 +154,25 @@ pub(super) fn agrees<K: Exact, S: Exact, M: Exact, Q: Exact, N: Names>(
         }
     }
     true
+}
+
+/// This book, where it agrees with what was taken and with all of these shares; else `Uneven`.
+pub(super) fn agreed<K: Exact + Drop, S: Exact + Drop, M: Exact + Drop, Q: Exact + Drop, N: Names>(
+    book: Vec<Entry<K, S, M, Q>>,
+    taken: &[Message<K, S, M, Q>],
+    shares: &[&Share<K, S, M, Q, N>],
+) -> Result<Vec<Entry<K, S, M, Q>>, Fault>
+    ensures same { IfOk result (λ given. given ≡ book) }
+    ensures agrees { IfOk result (λ given. Agrees (map call_of given.items)
+        (map told_of taken.now) (map (λ share. share.now) shares.now)) }
+    ensures uneven { OnErr result (Differs (map call_of book.items) (map told_of taken.now)
+        (map (λ share. share.now) shares.now)) }
+    ensures only { IfErr result (λ fault. fault ≡ Uneven) }
+{
+    if !agrees(book.as_slice(), taken, shares) {
+        return Err(Fault::Uneven);
+    }
+    Ok(book)
 }
 
 /// The same calls again.

@@ -1,19 +1,19 @@
 //! What lies under a mailbox's lock.
 
-ghost use Rattle.std.specs.Prelude.{◌≡◌, ◌≢◌, ◌+◌, ◌++◌, ◌^◌, ◌-◌, [], false, true, is_some, map, None, IfOk, IfErr, OnOk, OnErr};
-ghost use Rattle.std.specs.Option.{ForSome, option_map, option_to_list};
+ghost use Rattle.std.specs.Prelude.{◌≡◌, ◌≢◌, ◌<◌, ◌↔◌, ◌++◌, [], false, true, is_some, map, None, Some, IsTrue, IfOk, IfErr, OnOk, OnErr};
+ghost use Rattle.std.specs.Option.{ForSome, option_copied, option_map, option_to_list};
 ghost use Rattle.resolver_base.specs.declared.base.fault.Fault.TheVariants.{Exhausted, OutOfMemory};
 ghost use Rattle.resolver_base.specs.declared.base.feedback.Feedback.TheVariants.{Closed};
 ghost use Rattle.resolver_demand.specs.Backlog.{told_of};
 ghost use Rattle.resolver_base.specs.Names.{names};
 ghost use Rattle.resolver_mailbox.specs.Book.{IsBook, call_of};
-ghost use Rattle.resolver_mailbox.specs.Desk.{calls_of, desk_closed, desk_put, desk_taken, empty_book, feedback_of};
+ghost use Rattle.resolver_mailbox.specs.Desk.{IsOver, calls_of, desk_closed, desk_put, desk_taken, empty_book, empty_desk, feedback_of};
 ghost use Rattle.resolver_mailbox.specs.Shares.{IsAdded, IsCounted, marked};
 
 use crate::mailbox::agreeing::copied;
 use crate::mailbox::desk::Desk;
 use crate::mailbox::entry::Entry;
-use crate::mailbox::naming::{Names, Naming, Puts, Takes};
+use crate::mailbox::naming::{Names, Naming, Pages, Puts, Takes};
 use crate::mailbox::share::Share;
 use crate::mailbox::taken::Taken;
 use futures::task::Waker;
@@ -21,14 +21,55 @@ use resolver_base::base::{Faithful, Fault, Feedback, Predicate};
 use resolver_demand::ingress::{Message, Metadata};
 use std::alloc::{AllocError, Global};
 use std::hash::Hash;
+use std::marker::{Model, PhantomData};
 use std::sync::ledger;
+
+/// Where a handle keeps its share, if it has one. A put needs one.
+///
+/// It is made of the handle's runtime, by value. So a call that has its handle and can't copy the
+/// runtime has one seat, and can put under no other. Contracts see the share, or none.
+#[derive(Drop)]
+pub(super) struct Seat<K, S, M, Q, N: Names, R> {
+    rt: R,
+    share: Option<Share<K, S, M, Q, N>>,
+}
+
+impl<K, S, M, Q, N: Names, R> Model for Seat<K, S, M, Q, N, R> {
+    ghost use Rattle.std.specs.Prelude.{Option};
+    ghost use Rattle.resolver_mailbox.specs.Shares.{Share};
+
+    ghost Value = { Option (Share K S M Q) };
+
+    ghost view = { λ a. a.share };
+}
+
+impl<K, S, M, Q, N: Names, R> Seat<K, S, M, Q, N, R> {
+    /// Of a handle that has put nothing.
+    pub(super) fn new(rt: R) -> Self
+        ensures { result ≡ None }
+    {
+        Seat { rt, share: None }
+    }
+
+    /// The handle's runtime.
+    pub(super) fn rt(&self) -> &R {
+        &self.rt
+    }
+
+    /// The share.
+    pub(super) fn share(&self) -> Option<&Share<K, S, M, Q, N>>
+        ensures { option_copied result ≡ self.now }
+    {
+        self.share.as_ref()
+    }
+}
 
 /// The totals of a recorded desk, and the parts that no handle has so far.
 #[derive(Drop)]
-pub(super) struct Totals<N: Names> {
-    pub(super) puts: ledger::Book<Puts<N>>,
-    pub(super) takes: ledger::Book<Takes<N>>,
-    pub(super) spare: ledger::Share<Puts<N>>,
+struct Totals<N: Names> {
+    puts: ledger::Book<Puts<N>>,
+    takes: ledger::Book<Takes<N>>,
+    spare: ledger::Share<Puts<N>>,
     ghost unused: { spare.amount ≡ 0 },
 }
 
@@ -36,10 +77,11 @@ pub(super) struct Totals<N: Names> {
 ///
 /// Between its calls the totals are the numbers of puts and takes in the desk's book.
 #[derive(Drop)]
-pub(super) struct Counted<K: Ord + Hash, S: Ord, M: Metadata, Q: Predicate<K, S>, N: Naming> {
+pub(super) struct Counted<K: Ord + Hash, S: Ord, M: Metadata, Q: Predicate<K, S>, N: Naming, R> {
     desk: Desk<K, S, M, Q>,
     totals: Option<Totals<N>>,
     pub(super) waker: Option<Waker>,
+    seats: PhantomData<R>,
     ghost recorded: { is_some desk.book ≡ N.is_recorded },
     ghost totaled: { is_some totals ≡ N.is_recorded },
     ghost counted: { ForSome totals
@@ -52,57 +94,75 @@ impl<
     M: Metadata + Drop,
     Q: Predicate<K, S> + Faithful + Drop,
     N: Naming,
-> Counted<K, S, M, Q, N> {
-    /// With this desk, which isn't recorded.
-    pub(super) fn unrecorded(desk: Desk<K, S, M, Q>) -> Self
-        requires desk { desk.book ≡ None }
+    R,
+> Counted<K, S, M, Q, N, R> {
+    /// With a new desk, which isn't recorded and has room for this many ready messages.
+    pub(super) fn unrecorded(alloc: Global, capacity: usize) -> Result<Self, AllocError>
+        requires some { 0 < capacity }
         requires kind { N.is_recorded ≡ false }
+        ensures { IfOk result (λ state. state.desk ≡ empty_desk capacity None) }
     {
-        Counted {
-            desk,
+        Ok(Counted {
+            desk: Desk::new(alloc, capacity)?,
             totals: None,
             waker: None,
-        }
+            seats: PhantomData,
+        })
     }
 
-    /// With this desk, which is recorded and new.
-    pub(super) fn recorded(desk: Desk<K, S, M, Q>, totals: Totals<N>) -> Self
-        requires desk { desk.book ≡ Some empty_book }
+    /// With a new desk, which is recorded and has room for this many ready messages, and the part
+    /// of its takes. Its puts and takes are counted in these two ledgers.
+    pub(super) fn recorded(
+        alloc: Global,
+        capacity: usize,
+        pages: Pages,
+    ) -> Result<(Self, ledger::Share<Takes<N>>), AllocError>
+        requires some { 0 < capacity }
         requires kind { N.is_recorded ≡ true }
-        requires puts { totals.puts.total ≡ 0 }
-        requires takes { totals.takes.total ≡ 0 }
-        requires parts { totals.spare.parts ≡ 2 ^ 64 - 1 }
+        requires puts { pages.puts.name ≡ N.puts }
+        requires takes { pages.takes.name ≡ N.takes }
+        ensures desk { IfOk result
+            (λ made. made.0.desk ≡ empty_desk capacity (Some empty_book)) }
+        ensures whole { IfOk result (λ made. (made.1.parts ≡ 1) × (made.1.amount ≡ 0)) }
     {
-        Counted {
+        let desk = Desk::recorded(alloc, capacity)?;
+        let Pages { puts, takes } = pages;
+        let (puts, spare) = puts.open::<Puts<N>>();
+        let (takes, part) = takes.open::<Takes<N>>();
+        let state = Counted {
             desk,
-            totals: Some(totals),
+            totals: Some(Totals { puts, takes, spare }),
             waker: None,
-        }
+            seats: PhantomData,
+        };
+        Ok((state, part))
     }
 
-    /// Puts a message of the handle with this share. Where memory or a number is wanting, nothing
-    /// changes.
+    /// Puts a message of the handle with this seat. Where memory or a number is wanting, nothing
+    /// changes. A closed desk takes no memory.
     pub(super) fn put(
         &mut self,
         alloc: Global,
-        share: &mut Option<Share<K, S, M, Q, N>>,
+        seat: &mut Seat<K, S, M, Q, N, R>,
         message: Message<K, S, M, Q>,
     ) -> Result<Feedback, Fault>
         ensures feedback { IfOk result (λ feedback. feedback ≡ feedback_of self.old.desk) }
         ensures desk { OnOk result (self.new.desk ≡ desk_put (names K.cmp S.cmp) M.merged Q.keeps
-            (option_map (λ s. s.handle) share.old) (told_of message) self.old.desk) }
+            (option_map (λ s. s.handle) seat.old) (told_of message) self.old.desk) }
         ensures added { N.is_recorded ≡ true → IfOk result (λ feedback. feedback ≢ Closed
-            → IsAdded (told_of message) share.old share.new) }
+            → IsAdded (told_of message) seat.old seat.new) }
         ensures unrecorded { N.is_recorded ≡ false → IfOk result (λ feedback. feedback ≢ Closed
-            → share.new ≡ share.old) }
+            → seat.new ≡ seat.old) }
         ensures closed { IfOk result (λ feedback. feedback ≡ Closed
-            → share.new ≡ option_map marked share.old) }
-        ensures err { OnErr result (share.new ≡ share.old) }
+            → seat.new ≡ option_map marked seat.old) }
+        ensures err { OnErr result (seat.new ≡ seat.old) }
         ensures err_desk { OnErr result (self.new.desk ≡ self.old.desk) }
+        ensures shut { OnErr result (self.old.desk.is_closed ≡ false) }
         ensures only { IfErr result (λ fault. fault ≢ OutOfMemory → fault ≡ Exhausted) }
         ensures exhausted { IfErr result (λ fault. fault ≡ Exhausted
-            → (N.is_recorded ≡ true) × (share.old ≡ None)) }
+            → (N.is_recorded ≡ true) × (seat.old ≡ None)) }
     {
+        let share = &mut seat.share;
         if self.desk.is_closed() {
             if let Some(share) = share {
                 share.mark();
@@ -170,10 +230,10 @@ impl<
         self.desk.close();
     }
 
-    /// Whether the desk was closed.
-    pub(super) fn is_closed(&self) -> bool
-        ensures { result ≡ self.now.desk.is_closed }
+    /// Whether the desk was closed and nothing is left to be taken.
+    pub(super) fn is_over(&self) -> bool
+        ensures { IsTrue result ↔ IsOver self.now.desk }
     {
-        self.desk.is_closed()
+        self.desk.is_over()
     }
 }

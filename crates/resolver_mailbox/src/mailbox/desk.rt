@@ -1,13 +1,13 @@
 //! What is ready to be taken, and what waits behind it.
 
-ghost use Rattle.std.specs.Prelude.{◌≡◌, ◌≤◌, ◌<◌, ◌∷◌, ◌++◌, [], map, take, nat_lt, None, Some, is_some, true, false, IfOk, IfErr, OnOk, OnErr, MatchOption, ◌≢◌, ◌+◌, ◌^◌, if◌then◌else◌, length};
+ghost use Rattle.std.specs.Prelude.{◌≡◌, ◌≤◌, ◌<◌, ◌∷◌, ◌++◌, ◌↔◌, [], map, take, nat_lt, None, Some, is_some, true, false, IsTrue, IfOk, IfErr, OnOk, OnErr, MatchOption, ◌≢◌, ◌+◌, ◌^◌, if◌then◌else◌, length};
 ghost use Rattle.std.specs.Option.{ForSome, option_copied, option_map};
 ghost use Rattle.std.specs.VecDeque.{deque_capacity};
 ghost use Rattle.resolver_base.specs.declared.base.fault.Fault.TheVariants.{Exhausted, OutOfMemory};
 ghost use Rattle.resolver_base.specs.Names.{names};
 ghost use Rattle.resolver_demand.specs.Backlog.{IsRight, behind_first, handled, told_of, waiting};
 ghost use Rattle.resolver_mailbox.specs.Book.{Close, Take, call_of, closes};
-ghost use Rattle.resolver_mailbox.specs.Desk.{IsKept, answered, book_of, calls_of, desk_closed, desk_put, desk_taken, empty_book, empty_desk, feedback_of, has_room, with_call};
+ghost use Rattle.resolver_mailbox.specs.Desk.{IsKept, IsOver, answered, book_of, calls_of, desk_closed, desk_put, desk_taken, empty_book, empty_desk, feedback_of, has_room, with_call};
 
 use crate::mailbox::book::Book;
 use crate::mailbox::entry::Entry;
@@ -158,6 +158,13 @@ impl<
         ensures { result ≡ self.now.is_closed }
     {
         self.is_closed
+    }
+
+    /// Whether the desk was closed and nothing is left to be taken.
+    pub(super) fn is_over(&self) -> bool
+        ensures { IsTrue result ↔ IsOver self.now }
+    {
+        self.ready.is_empty() && self.is_closed
     }
 
     /// The calls so far, in their order. There are none where the desk isn't recorded.

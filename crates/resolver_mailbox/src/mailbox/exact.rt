@@ -2,6 +2,7 @@
 
 ghost use Rattle.std.specs.Prelude.{◌≡◌, ◌↔◌, IsTrue};
 
+use bytes::Bytes;
 use resolver_base::base::NonEmptyVec;
 
 /// A type whose values are said to be the same exactly where they are.
@@ -41,9 +42,27 @@ impl Exact for u64 {
     }
 }
 
+impl Exact for Bytes {
+    fn is_same(&self, other: &Bytes) -> bool {
+        are_same(self.as_slice(), other.as_slice())
+    }
+}
+
+impl<T: Exact, const N: usize> Exact for [T; N] {
+    fn is_same(&self, other: &[T; N]) -> bool {
+        are_same(self, other)
+    }
+}
+
 impl<A: Exact, B: Exact> Exact for (A, B) {
     fn is_same(&self, other: &(A, B)) -> bool {
         self.0.is_same(&other.0) && self.1.is_same(&other.1)
+    }
+}
+
+impl<A: Exact, B: Exact, C: Exact> Exact for (A, B, C) {
+    fn is_same(&self, other: &(A, B, C)) -> bool {
+        self.0.is_same(&other.0) && self.1.is_same(&other.1) && self.2.is_same(&other.2)
     }
 }
 

@@ -3,9 +3,8 @@
 ghost use Rattle.std.specs.Prelude.{◌≡◌, ◌<◌, [], false, true, None, IfOk, IfErr};
 ghost use Rattle.resolver_base.specs.declared.base.fault.Fault.TheVariants.{OutOfMemory};
 
-use crate::mailbox::counted::{Counted, Totals};
-use crate::mailbox::desk::Desk;
-use crate::mailbox::naming::{Naming, Pages, Puts, Takes, Unrecorded};
+use crate::mailbox::counted::{Counted, Seat};
+use crate::mailbox::naming::{Naming, Pages, Unrecorded};
 use crate::mailbox::receiver::Receiver;
 use crate::mailbox::sender::{Sender, Shared};
 use crate::mailbox::taken::Taken;
@@ -39,8 +38,7 @@ pub fn new<
     ensures taken { IfOk result (λ ends. ends.1.taken ≡ []) }
     ensures only { IfErr result (λ fault. fault ≡ OutOfMemory) }
 {
-    let desk = Desk::new(alloc, capacity)?;
-    let state = Counted::unrecorded(desk);
+    let state = Counted::unrecorded(alloc, capacity)?;
     ends(rt, alloc, state, Taken::unrecorded(alloc))
 }
 
@@ -67,12 +65,7 @@ pub fn recorded<
     ensures taken { IfOk result (λ ends. ends.1.taken ≡ []) }
     ensures only { IfErr result (λ fault. fault ≡ OutOfMemory) }
 {
-    let Pages { puts, takes } = pages;
-    let (puts, spare) = puts.open::<Puts<N>>();
-    let (takes, part) = takes.open::<Takes<N>>();
-    let desk = Desk::recorded(alloc, capacity)?;
-    let totals = Totals { puts, takes, spare };
-    let state = Counted::recorded(desk, totals);
+    let (state, part) = Counted::recorded(alloc, capacity, pages)?;
     ends(rt, alloc, state, Taken::new(alloc, part))
 }
 
@@ -87,7 +80,7 @@ fn ends<
 >(
     rt: R,
     alloc: Global,
-    state: Counted<K, S, M, Q, N>,
+    state: Counted<K, S, M, Q, N, R>,
     taken: Taken<K, S, M, Q, N>,
 ) -> Result<(Sender<K, S, M, Q, N, R>, Receiver<K, S, M, Q, N, R>), Fault>
     requires { taken ≡ [] }
@@ -101,10 +94,9 @@ fn ends<
     };
     let shared = Arc::new(alloc, shared)?;
     let sender = Sender {
-        rt,
         alloc,
         shared: Arc::try_clone(&shared)?,
-        share: None,
+        seat: Seat::new(rt),
     };
     let receiver = Receiver {
         rt,

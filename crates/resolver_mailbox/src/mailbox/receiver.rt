@@ -10,7 +10,7 @@ ghost use Rattle.resolver_mailbox.specs.Book.{IsBook, call_of};
 ghost use Rattle.resolver_mailbox.specs.Given.{given};
 ghost use Rattle.resolver_mailbox.specs.Shares.{Agrees, Differs};
 
-use crate::mailbox::agreeing::agrees;
+use crate::mailbox::agreeing::agreed;
 use crate::mailbox::entry::Entry;
 use crate::mailbox::exact::Exact;
 use crate::mailbox::naming::Naming;
@@ -34,7 +34,7 @@ use std::sync::{Arc, Wait};
 pub struct Receiver<K: Ord + Hash, S: Ord, M: Metadata, Q: Predicate<K, S>, N: Naming, R> {
     pub(super) rt: R,
     pub(super) alloc: Global,
-    pub(super) shared: Arc<Shared<K, S, M, Q, N>>,
+    pub(super) shared: Arc<Shared<K, S, M, Q, N, R>>,
     pub(super) taken: Taken<K, S, M, Q, N>,
 }
 
@@ -99,9 +99,8 @@ impl<
         Q: Exact,
         ensures agrees { IfOk result (λ book. Agrees (map call_of book.items) self.now.taken
             (map (λ share. share.now) shares.now)) }
-        ensures uneven { IfErr result (λ fault. fault ≡ Uneven
-            → Differs {M = M} (names K.cmp S.cmp) Q.keeps N.is_recorded self.now.taken
-            (map (λ share. share.now) shares.now)) }
+        ensures uneven { N.is_recorded ≡ false → IfErr result (λ fault. fault ≡ Uneven
+            → Differs {M = M} [] self.now.taken (map (λ share. share.now) shares.now)) }
         ensures legal { N.is_recorded ≡ true → IfOk result
             (λ book. IsBook (names K.cmp S.cmp) Q.keeps (map call_of book.items)) }
         ensures none { N.is_recorded ≡ false → IfOk result
@@ -111,10 +110,7 @@ impl<
         let guard = self.shared.state.lock(&self.rt);
         let book = guard.calls(alloc)?;
         drop(guard);
-        if !agrees(book.as_slice(), self.taken.as_slice(), shares) {
-            return Err(Fault::Uneven);
-        }
-        Ok(book)
+        agreed(book, self.taken.as_slice(), shares)
     }
 }
 
@@ -150,7 +146,7 @@ impl<
             Err(fault) => Poll::Ready(Some(Err(fault))),
             Ok(Some(message)) => Poll::Ready(Some(Ok(message))),
             Ok(None) => {
-                if state.is_closed() {
+                if state.is_over() {
                     Poll::Ready(None)
                 } else {
                     cx.register(&self.shared.arrived, &mut state.waker)

@@ -7,7 +7,7 @@ ghost use Rattle.resolver_base.specs.declared.base.feedback.Feedback.TheVariants
 ghost use Rattle.resolver_demand.specs.Backlog.{told_of};
 ghost use Rattle.resolver_mailbox.specs.Shares.{IsAdded, marked};
 
-use crate::mailbox::counted::Counted;
+use crate::mailbox::counted::{Counted, Seat};
 use crate::mailbox::naming::Naming;
 use crate::mailbox::share::Share;
 use futures::task::Source;
@@ -21,9 +21,9 @@ use std::sync::{Arc, Mutex, Wait};
 /// What senders and receiver have in common: a desk under one lock, and where a message or a close
 /// is awaited.
 #[derive(Drop)]
-pub(super) struct Shared<K: Ord + Hash, S: Ord, M: Metadata, Q: Predicate<K, S>, N: Naming> {
+pub(super) struct Shared<K: Ord + Hash, S: Ord, M: Metadata, Q: Predicate<K, S>, N: Naming, R> {
     pub(super) arrived: Source,
-    pub(super) state: Mutex<Counted<K, S, M, Q, N>>,
+    pub(super) state: Mutex<Counted<K, S, M, Q, N, R>>,
 }
 
 impl<
@@ -32,9 +32,10 @@ impl<
     M: Metadata + Drop,
     Q: Predicate<K, S> + Faithful + Drop,
     N: Naming,
-> Shared<K, S, M, Q, N> {
+    R: Wait,
+> Shared<K, S, M, Q, N, R> {
     /// Closes the desk, and wakes who waits once the lock is free.
-    pub(super) fn close<R: Wait>(&self, rt: &R) {
+    pub(super) fn close(&self, rt: &R) {
         let mut guard = self.state.lock(rt);
         let state = &mut *guard;
         state.close();
@@ -50,10 +51,9 @@ impl<
 /// Contracts see its share, or none. Dropping a handle closes nothing.
 #[derive(Drop)]
 pub struct Sender<K: Ord + Hash, S: Ord, M: Metadata, Q: Predicate<K, S>, N: Naming, R> {
-    pub(super) rt: R,
     pub(super) alloc: Global,
-    pub(super) shared: Arc<Shared<K, S, M, Q, N>>,
-    pub(super) share: Option<Share<K, S, M, Q, N>>,
+    pub(super) shared: Arc<Shared<K, S, M, Q, N, R>>,
+    pub(super) seat: Seat<K, S, M, Q, N, R>,
 }
 
 impl<K: Ord + Hash, S: Ord, M: Metadata, Q: Predicate<K, S>, N: Naming, R> Model
@@ -63,7 +63,7 @@ impl<K: Ord + Hash, S: Ord, M: Metadata, Q: Predicate<K, S>, N: Naming, R> Model
 
     ghost Value = { Option (Share K S M Q) };
 
-    ghost view = { λ a. a.share };
+    ghost view = { λ a. a.seat };
 }
 
 impl<K: Ord + Hash, S: Ord, M: Metadata, Q: Predicate<K, S>, N: Naming, R> Sender<
@@ -79,7 +79,7 @@ impl<K: Ord + Hash, S: Ord, M: Metadata, Q: Predicate<K, S>, N: Naming, R> Sende
     pub fn share(&self) -> Option<&Share<K, S, M, Q, N>>
         ensures { option_copied result ≡ self.now }
     {
-        self.share.as_ref()
+        self.seat.share()
     }
 }
 
@@ -95,11 +95,11 @@ impl<K: Ord + Hash, S: Ord, M: Metadata, Q: Predicate<K, S>, N: Naming, R: Copy>
     pub fn clone(&self) -> Result<Self, AllocError>
         ensures { IfOk result (λ handle. handle ≡ None) }
     {
+        let shared = Arc::try_clone(&self.shared)?;
         Ok(Sender {
-            rt: self.rt,
             alloc: self.alloc,
-            shared: Arc::try_clone(&self.shared)?,
-            share: None,
+            shared,
+            seat: Seat::new(*self.seat.rt()),
         })
     }
 }
@@ -132,14 +132,14 @@ impl<
         ensures exhausted { IfErr result (λ fault. fault ≡ Exhausted
             → (N.is_recorded ≡ true) × (self.old ≡ None)) }
     {
-        if let Some(share) = &self.share {
+        if let Some(share) = self.seat.share() {
             if share.is_closed() {
                 return Ok(Feedback::Closed);
             }
         }
-        let mut guard = self.shared.state.lock(&self.rt);
+        let mut guard = self.shared.state.lock(self.seat.rt());
         let state = &mut *guard;
-        let answer = state.put(self.alloc, &mut self.share, message);
+        let answer = state.put(self.alloc, &mut self.seat, message);
         let woken = state.waker.take();
         drop(guard);
         drop(woken);
@@ -150,6 +150,6 @@ impl<
     pub fn close(&mut self)
         ensures { self.new ≡ self.old }
     {
-        self.shared.close(&self.rt);
+        self.shared.close(self.seat.rt());
     }
 }

@@ -1,0 +1,111 @@
+//! Messages of the tests, and calls on desks and mailboxes as lines.
+
+ghost use Rattle.std.specs.Prelude.{true};
+ghost use Rattle.std.proofs.Common.{rules};
+
+use resolver_base::base::{Faithful, Fault, Predicate};
+use resolver_base::root::Fetch;
+use resolver_demand::ingress::{FetchKey, Message};
+use resolver_mailbox::mailbox::{Entry, Exact};
+use std::alloc::Global;
+use std::fmt::Write;
+use std::test::Fail;
+
+/// Keeps every subscriber.
+#[derive(Clone, Copy)]
+pub struct All;
+
+impl Predicate<u16, u16> for All {
+    ghost keeps = { λ _ _ _. true };
+
+    fn keep(&self, _key: &u16, _subscriber: &u16) -> bool {
+        true
+    }
+
+    ghost alike = { λ q k l s t same_key same_subscriber. Prim.search rules };
+}
+
+impl Faithful for All {
+    ghost clones = { Prim.search rules };
+}
+
+impl Exact for All {
+    fn is_same(&self, _other: &All) -> bool {
+        true
+    }
+}
+
+pub type Told = Message<u16, u16, (), All>;
+
+/// A fetch of a key for one subscriber, with this mark.
+pub fn fetch(alloc: Global, key: u16, subscriber: u16, mark: u64) -> Result<Told, Fault> {
+    let fetch = Fetch {
+        key,
+        subscriber,
+        mark,
+    };
+    let mut items = Vec::new(alloc);
+    items.push(FetchKey::from_fetch(alloc, fetch)?)?;
+    Ok(Message::Fetch(items))
+}
+
+/// Writes a fetch: its key, and each subscriber with its mark.
+fn spell_item(text: &mut String, item: &FetchKey<u16, u16, ()>) -> Result<(), Fail> {
+    write!(text, " {}", item.key)?;
+    for (subscriber, mark) in item.subscribers.as_slice() {
+        write!(text, " {subscriber}:{mark}")?;
+    }
+    Ok(())
+}
+
+/// Writes a message: its fetches.
+pub fn spell(text: &mut String, message: &Told) -> Result<(), Fail> {
+    match message {
+        Message::Fetch(items) => {
+            for item in items {
+                spell_item(text, item)?;
+            }
+        }
+        Message::Retain(_) => write!(text, " retain")?,
+    }
+    Ok(())
+}
+
+/// Writes messages, each on its line.
+pub fn spell_all(text: &mut String, messages: &[Told]) -> Result<(), Fail> {
+    for message in messages {
+        spell(text, message)?;
+        writeln!(text)?;
+    }
+    Ok(())
+}
+
+/// Writes a call of a book.
+fn spell_entry(text: &mut String, entry: &Entry<u16, u16, (), All>) -> Result<(), Fail> {
+    match entry {
+        Entry::Put(posted) => {
+            write!(
+                text,
+                "put {} {} {}",
+                posted.handle, posted.place, posted.is_ok
+            )?;
+            spell(text, &posted.message)?;
+        }
+        Entry::Take(message) => {
+            write!(text, "take")?;
+            spell(text, message)?;
+        }
+        Entry::Close => write!(text, "close")?,
+    }
+    writeln!(text)?;
+    Ok(())
+}
+
+/// A book as lines.
+pub fn spelled(alloc: Global, book: &[Entry<u16, u16, (), All>]) -> Result<String, Fail> {
+    let mut text = String::new(alloc);
+    for entry in book {
+        spell_entry(&mut text, entry)?;
+    }
+    Ok(text)
+}
