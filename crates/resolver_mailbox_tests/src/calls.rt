@@ -101,11 +101,10 @@ fn spell_entry(text: &mut String, entry: &Entry<u16, u16, (), All>) -> Result<()
     Ok(())
 }
 
-/// A book as lines.
-pub fn spelled(alloc: Global, book: &[Entry<u16, u16, (), All>]) -> Result<String, Fail> {
-    let mut text = String::new(alloc);
+/// Writes a book, each call on its line.
+pub fn spell_book(text: &mut String, book: &[Entry<u16, u16, (), All>]) -> Result<(), Fail> {
     for entry in book {
-        spell_entry(&mut text, entry)?;
+        spell_entry(text, entry)?;
     }
-    Ok(text)
+    Ok(())
 }

@@ -1,4 +1,4 @@
-use crate::calls::{All, fetch, spell, spelled};
+use crate::calls::{All, fetch, spell, spell_book};
 use resolver_mailbox::mailbox::Desk;
 use std::alloc::Global;
 use std::fmt::Write;
@@ -28,48 +28,54 @@ fn take(text: &mut String, desk: &mut Desk<u16, u16, (), All>) -> Result<(), Fai
     Ok(())
 }
 
-/// Three puts of two handles, three takes, a close and a put: their answers as lines.
-fn row(alloc: Global, desk: &mut Desk<u16, u16, (), All>) -> Result<String, Fail> {
+/// Three puts of two handles, three takes, a close and a put: writes their answers, and then the
+/// book.
+fn row(text: &mut String, desk: &mut Desk<u16, u16, (), All>) -> Result<(), Fail> {
+    let first = put(text, desk, None, (1, 10, 7))?;
+    put(text, desk, first, (2, 20, 8))?;
+    put(text, desk, None, (2, 21, 9))?;
+    take(text, desk)?;
+    take(text, desk)?;
+    take(text, desk)?;
+    desk.close();
+    desk.close();
+    put(text, desk, first, (3, 30, 5))?;
+    spell_book(text, desk.calls())
+}
+
+/// The row on a recorded desk.
+fn recorded_row(alloc: Global) -> Result<String, Fail> {
     let mut text = String::new(alloc);
-    let first = put(&mut text, desk, None, (1, 10, 7))?;
-    put(&mut text, desk, first, (2, 20, 8))?;
-    put(&mut text, desk, None, (2, 21, 9))?;
-    take(&mut text, desk)?;
-    take(&mut text, desk)?;
-    take(&mut text, desk)?;
-    desk.close();
-    desk.close();
-    put(&mut text, desk, first, (3, 30, 5))?;
+    row(&mut text, &mut Desk::recorded(alloc, 1)?)?;
+    Ok(text)
+}
+
+/// The row on a desk that isn't recorded.
+fn unrecorded_row(alloc: Global) -> Result<String, Fail> {
+    let mut text = String::new(alloc);
+    row(&mut text, &mut Desk::new(alloc, 1)?)?;
     Ok(text)
 }
 
 #[test]
 fn mailbox_book(rt: HostRuntime) -> Result<(), Fail> {
-    let alloc = rt.alloc();
-    let mut desk = Desk::recorded(alloc, 1)?;
-    let answers = row(alloc, &mut desk)?;
-    let puts = "Ok Some(0)\nBackoff Some(0)\nBackoff Some(1)\n";
-    let takes = " 1 10:7\n 2 20:8 21:9\n none\n";
+    let text = recorded_row(rt.alloc())?;
     assert_eq!(rt;
-        answers,
-        format!(in alloc; "{puts}{takes}Closed Some(0)\n")?
+        text.as_str(),
+        "Ok Some(0)\nBackoff Some(0)\nBackoff Some(1)\n 1 10:7\n 2 20:8 21:9\n none\n\
+        Closed Some(0)\n\
+        put 0 0 true 1 10:7\nput 0 1 false 2 20:8\nput 1 0 false 2 21:9\n\
+        take 1 10:7\ntake 2 20:8 21:9\nclose\n"
     );
-    let book = spelled(alloc, desk.calls())?;
-    let puts = "put 0 0 true 1 10:7\nput 0 1 false 2 20:8\nput 1 0 false 2 21:9\n";
-    let takes = "take 1 10:7\ntake 2 20:8 21:9\n";
-    assert_eq!(rt; book, format!(in alloc; "{puts}{takes}close\n")?);
-    assert!(rt; desk.is_closed());
     Ok(())
 }
 
 #[test]
 fn mailbox_book_not_recorded(rt: HostRuntime) -> Result<(), Fail> {
-    let alloc = rt.alloc();
-    let mut desk = Desk::new(alloc, 1)?;
-    let answers = row(alloc, &mut desk)?;
-    let puts = "Ok None\nBackoff None\nBackoff None\n";
-    let takes = " 1 10:7\n 2 20:8 21:9\n none\n";
-    assert_eq!(rt; answers, format!(in alloc; "{puts}{takes}Closed None\n")?);
-    assert!(rt; desk.calls().is_empty());
+    let text = unrecorded_row(rt.alloc())?;
+    assert_eq!(rt;
+        text.as_str(),
+        "Ok None\nBackoff None\nBackoff None\n 1 10:7\n 2 20:8 21:9\n none\nClosed None\n"
+    );
     Ok(())
 }

@@ -9,3 +9,5 @@ mod calls;
 mod desk;
 #[cfg(test)]
 mod mailbox;
+#[cfg(test)]
+mod names;

@@ -1,6 +1,6 @@
 ghost use Rattle.std.specs.Prelude.{◌≡◌, ◌<◌, true};
 
-use crate::calls::{All, Told, fetch, spell, spell_all, spelled};
+use crate::calls::{All, Told, fetch, spell, spell_all, spell_book};
 use futures::Stream;
 use futures::task::Poll;
 use futures::test::MockTask;
@@ -157,32 +157,49 @@ fn spell_share<N: Naming, R>(
 }
 
 /// Two handles put, the receiver takes, the mailbox is closed, and the first handle puts again:
-/// the answers, and then the shares and what was taken.
+/// writes the answers, and then the shares and what was taken.
 fn row<N: Naming, R: Wait + Drop>(
-    alloc: Global,
+    text: &mut String,
     task: &MockTask,
     first: &mut Sender<u16, u16, (), All, N, R>,
     second: &mut Sender<u16, u16, (), All, N, R>,
     receiver: &mut Receiver<u16, u16, (), All, N, R>,
-) -> Result<String, Fail> {
-    let mut text = String::new(alloc);
-    put(&mut text, first, (1, 10, 7))?;
-    put(&mut text, first, (2, 20, 8))?;
-    put(&mut text, second, (2, 21, 9))?;
-    poll(&mut text, task, receiver)?;
-    poll(&mut text, task, receiver)?;
-    poll(&mut text, task, receiver)?;
+) -> Result<(), Fail> {
+    spell_share(text, first)?;
+    spell_share(text, second)?;
+    put(text, first, (1, 10, 7))?;
+    put(text, first, (2, 20, 8))?;
+    put(text, second, (2, 21, 9))?;
+    poll(text, task, receiver)?;
+    poll(text, task, receiver)?;
+    poll(text, task, receiver)?;
     first.close();
-    put(&mut text, first, (3, 30, 5))?;
-    spell_share(&mut text, first)?;
-    spell_share(&mut text, second)?;
+    put(text, first, (3, 30, 5))?;
+    spell_share(text, first)?;
+    spell_share(text, second)?;
     writeln!(text, "taken")?;
-    spell_all(&mut text, receiver.taken())?;
-    Ok(text)
+    spell_all(text, receiver.taken())
 }
 
-/// The row in a recorded mailbox of capacity 1, and then its book.
-fn recorded_row<N, R>(rt: R, alloc: Global, pages: Pages, task: &MockTask) -> Result<String, Fail>
+/// Writes the book that is lent for the shares of two handles.
+fn spell_book_for<N: Naming, R: Wait>(
+    text: &mut String,
+    first: &Sender<u16, u16, (), All, N, R>,
+    second: &Sender<u16, u16, (), All, N, R>,
+    receiver: &Receiver<u16, u16, (), All, N, R>,
+) -> Result<(), Fail> {
+    let Some(one) = first.share() else {
+        return Err("a share".into());
+    };
+    let Some(other) = second.share() else {
+        return Err("a share".into());
+    };
+    let book = receiver.book(*text.allocator(), &[one, other])?;
+    spell_book(text, book.as_slice())
+}
+
+/// Writes the row in a recorded mailbox of capacity 1, and then its book.
+fn recorded_row<N, R>(text: &mut String, rt: R, pages: Pages, task: &MockTask) -> Result<(), Fail>
 where
     N: Naming,
     R: Wait + Copy + Drop,
@@ -190,75 +207,77 @@ where
     requires puts { pages.puts.name ≡ N.puts }
     requires takes { pages.takes.name ≡ N.takes }
 {
+    let alloc = *text.allocator();
     let (mut first, mut receiver) = recorded::<u16, u16, (), All, N, R>(rt, alloc, pages, 1)?;
     let mut second = first.clone()?;
-    let mut text = String::new(alloc);
-    spell_share(&mut text, &first)?;
-    spell_share(&mut text, &second)?;
-    let answers = row(alloc, task, &mut first, &mut second, &mut receiver)?;
-    let mut handles = Vec::new(alloc);
-    handles.push(first)?;
-    handles.push(second)?;
-    let shares = shares_of(alloc, handles.as_slice())?;
-    let book = receiver.book(alloc, shares.as_slice())?;
-    let book = spelled(alloc, book.as_slice())?;
-    write!(text, "{answers}{book}")?;
-    Ok(text)
+    row(text, task, &mut first, &mut second, &mut receiver)?;
+    spell_book_for(text, &first, &second, &receiver)
 }
 
 #[test]
 fn mailbox_book(rt: HostRuntime) -> Result<(), Fail> {
     let task = MockTask::new(&rt)?;
-    let alloc = rt.alloc();
-    let text = recorded_row::<Brand, _>(rt, alloc, Pages::new(), &task)?;
-    let answers = "Ok\nBackoff\nBackoff\n 1 10:7\n 2 20:8 21:9\n pending\nClosed\n";
-    let shares = "share 0 true\n 1 10:7\n 2 20:8\nshare 1 false\n 2 21:9\n";
-    let taken = "taken\n 1 10:7\n 2 20:8 21:9\n";
-    let puts = "put 0 0 true 1 10:7\nput 0 1 false 2 20:8\nput 1 0 false 2 21:9\n";
-    let takes = "take 1 10:7\ntake 2 20:8 21:9\n";
-    let row = format!(in alloc; "none\nnone\n{answers}{shares}{taken}{puts}{takes}close\n")?;
-    assert_eq!(rt; text, row);
+    let mut text = String::new(rt.alloc());
+    recorded_row::<Brand, _>(&mut text, rt, Pages::new(), &task)?;
+    assert_eq!(rt;
+        text.as_str(),
+        "none\nnone\nOk\nBackoff\nBackoff\n 1 10:7\n 2 20:8 21:9\n pending\nClosed\n\
+        share 0 true\n 1 10:7\n 2 20:8\nshare 1 false\n 2 21:9\n\
+        taken\n 1 10:7\n 2 20:8 21:9\n\
+        put 0 0 true 1 10:7\nput 0 1 false 2 20:8\nput 1 0 false 2 21:9\n\
+        take 1 10:7\ntake 2 20:8 21:9\nclose\n"
+    );
     Ok(())
+}
+
+/// Writes the row in a mailbox of capacity 1 that isn't recorded, and then its book.
+fn unrecorded_row<R>(text: &mut String, rt: R, task: &MockTask) -> Result<(), Fail>
+where
+    R: Wait + Copy + Drop,
+{
+    let alloc = *text.allocator();
+    let (mut first, mut receiver) = new::<u16, u16, (), All, R>(rt, alloc, 1)?;
+    let mut second = first.clone()?;
+    row(text, task, &mut first, &mut second, &mut receiver)?;
+    spell_book(text, receiver.book(alloc, &[])?.as_slice())
 }
 
 #[test]
 fn mailbox_book_not_recorded(rt: HostRuntime) -> Result<(), Fail> {
-    let alloc = rt.alloc();
     let task = MockTask::new(&rt)?;
-    let (mut first, mut receiver) = new::<u16, u16, (), All, _>(rt, alloc, 1)?;
-    let mut second = first.clone()?;
-    let text = row(alloc, &task, &mut first, &mut second, &mut receiver)?;
-    let answers = "Ok\nBackoff\nBackoff\n 1 10:7\n 2 20:8 21:9\n pending\nClosed\n";
-    assert_eq!(rt; text, format!(in alloc; "{answers}none\nnone\ntaken\n")?);
-    assert!(rt; receiver.book(alloc, &[])?.is_empty());
+    let mut text = String::new(rt.alloc());
+    unrecorded_row(&mut text, rt, &task)?;
+    assert_eq!(rt;
+        text.as_str(),
+        "none\nnone\nOk\nBackoff\nBackoff\n 1 10:7\n 2 20:8 21:9\n pending\nClosed\n\
+        none\nnone\ntaken\n"
+    );
     Ok(())
 }
 
-/// Three puts, a close, and polls until the mailbox has ended: the answers.
+/// Three puts, a close, and polls until the mailbox has ended: writes the answers.
 fn shut<N: Naming, R: Wait + Drop>(
-    alloc: Global,
+    text: &mut String,
     task: &MockTask,
     handle: &mut Sender<u16, u16, (), All, N, R>,
     receiver: &mut Receiver<u16, u16, (), All, N, R>,
-) -> Result<String, Fail> {
-    let mut text = String::new(alloc);
-    put(&mut text, handle, (1, 10, 7))?;
-    put(&mut text, handle, (2, 20, 8))?;
-    put(&mut text, handle, (3, 30, 9))?;
+) -> Result<(), Fail> {
+    put(text, handle, (1, 10, 7))?;
+    put(text, handle, (2, 20, 8))?;
+    put(text, handle, (3, 30, 9))?;
     handle.close();
-    poll(&mut text, task, receiver)?;
-    poll(&mut text, task, receiver)?;
-    poll(&mut text, task, receiver)?;
-    poll(&mut text, task, receiver)?;
-    poll(&mut text, task, receiver)?;
-    Ok(text)
+    poll(text, task, receiver)?;
+    poll(text, task, receiver)?;
+    poll(text, task, receiver)?;
+    poll(text, task, receiver)?;
+    poll(text, task, receiver)
 }
 
 /// What a mailbox of capacity 2 answers then.
 const SHUT: &str = "Ok\nOk\nBackoff\n 1 10:7\n 2 20:8\n 3 30:9\n end\n end\n";
 
 /// The same in a recorded mailbox of capacity 2.
-fn recorded_shut<N, R>(rt: R, alloc: Global, pages: Pages, task: &MockTask) -> Result<String, Fail>
+fn recorded_shut<N, R>(text: &mut String, rt: R, pages: Pages, task: &MockTask) -> Result<(), Fail>
 where
     N: Naming,
     R: Wait + Copy + Drop,
@@ -266,24 +285,34 @@ where
     requires puts { pages.puts.name ≡ N.puts }
     requires takes { pages.takes.name ≡ N.takes }
 {
+    let alloc = *text.allocator();
     let (mut handle, mut receiver) = recorded::<u16, u16, (), All, N, R>(rt, alloc, pages, 2)?;
-    shut(alloc, task, &mut handle, &mut receiver)
+    shut(text, task, &mut handle, &mut receiver)
 }
 
 #[test]
 fn what_waits_is_given_after_the_close(rt: HostRuntime) -> Result<(), Fail> {
     let task = MockTask::new(&rt)?;
-    let text = recorded_shut::<Brand, _>(rt, rt.alloc(), Pages::new(), &task)?;
+    let mut text = String::new(rt.alloc());
+    recorded_shut::<Brand, _>(&mut text, rt, Pages::new(), &task)?;
     assert_eq!(rt; text.as_str(), SHUT);
     Ok(())
 }
 
+/// The same in a mailbox of capacity 2 that isn't recorded.
+fn unrecorded_shut<R>(text: &mut String, rt: R, task: &MockTask) -> Result<(), Fail>
+where
+    R: Wait + Copy + Drop,
+{
+    let (mut handle, mut receiver) = new::<u16, u16, (), All, R>(rt, *text.allocator(), 2)?;
+    shut(text, task, &mut handle, &mut receiver)
+}
+
 #[test]
 fn what_waits_is_given_after_the_close_not_recorded(rt: HostRuntime) -> Result<(), Fail> {
-    let alloc = rt.alloc();
     let task = MockTask::new(&rt)?;
-    let (mut handle, mut receiver) = new::<u16, u16, (), All, _>(rt, alloc, 2)?;
-    let text = shut(alloc, &task, &mut handle, &mut receiver)?;
+    let mut text = String::new(rt.alloc());
+    unrecorded_shut(&mut text, rt, &task)?;
     assert_eq!(rt; text.as_str(), SHUT);
     Ok(())
 }
