@@ -51,6 +51,9 @@ fn take_every(
 ) -> Result<(), Fault> {
     let blocked = [Kind::Wait, Kind::Idle, Kind::Wake];
     take_each(rt, fetcher, spent, &blocked, size)?;
+    if fetcher.is_scanning() {
+        return Err(Fault::Unasked);
+    }
     fetcher.set_blocked(Vec::new(rt.alloc()))?;
     take_each(rt, fetcher, spent, &[Kind::Scan, Kind::Respond], size)
 }
@@ -101,14 +104,28 @@ fn take_all(
 /// Takes one call, and counts its keys or moments, or what a scan asks.
 fn take(fetcher: &mut Asker, kind: Kind, i: u64) -> Result<u64, Fault> {
     match kind {
-        Kind::Wait => {
-            fetcher.add_ready(scattered(i), 0)?;
-            Ok(1)
-        }
+        Kind::Wait => wait(fetcher, scattered(i)),
         Kind::Idle | Kind::Scan => scan(fetcher, u128::from(i)),
         Kind::Wake => Ok(u64::from(fetcher.get_pending_deadline().is_some())),
-        _ => Ok(u64::from(fetcher.pop_response(i, &0, 0).is_some())),
+        _ => respond(fetcher, i),
     }
+}
+
+/// Has a key wait that is in no phase, and counts it.
+fn wait(fetcher: &mut Asker, key: u64) -> Result<u64, Fault> {
+    if fetcher.is_scanning() || fetcher.is_waiting(&key) || fetcher.is_asked(&key) {
+        return Ok(0);
+    }
+    fetcher.add_ready(key, 0)?;
+    Ok(1)
+}
+
+/// Takes a response of the first peer, and counts it where it answers a request.
+fn respond(fetcher: &mut Asker, id: u64) -> Result<u64, Fault> {
+    if fetcher.is_scanning() {
+        return Err(Fault::Unasked);
+    }
+    Ok(u64::from(fetcher.pop_response(id, &0, 0).is_some()))
 }
 
 /// Takes a whole scan, and counts what it asks. Zeros are drawn, and what it wants is allowed: the
@@ -116,6 +133,9 @@ fn take(fetcher: &mut Asker, kind: Kind, i: u64) -> Result<u64, Fault> {
 fn scan(fetcher: &mut Asker, now: u128) -> Result<u64, Fault>
     requires { now < 2 ^ 94 }
 {
+    if fetcher.is_scanning() {
+        return Err(Fault::Unasked);
+    }
     let mut asked = fetcher.scan_begin(now)?;
     for count in 0..ASKS {
         let Some(ask) = asked else {

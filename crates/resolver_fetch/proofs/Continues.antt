@@ -8,20 +8,16 @@ use Rattle.std.specs.Cmp.{IsTotalOrder}
 use Rattle.std.specs.Ordering.{is_eq}
 use Rattle.std.specs.Prelude.{find, nat_lt}
 use Rattle.resolver_request.specs.declared.score.Averages.{Averages}
-use Rattle.resolver_fetch.specs.declared.fetcher.trail.Expected.{Expected}
-use Rattle.resolver_fetch.specs.declared.fetcher.trail.Reason.{Reason}
 use Rattle.resolver_fetch.specs.declared.fetcher.trail.Try.{Try}
-use Rattle.resolver_fetch.specs.Fetcher.{Fetcher, snapshot}
 use Rattle.resolver_fetch.specs.Orders.{Orders, same_key, same_peer}
 use Rattle.resolver_request.specs.Scores.{weight_of}
-use Rattle.resolver_fetch.specs.Seeking.{scan_at, tried_now}
+use Rattle.resolver_fetch.specs.Seeking.{scan_at}
 use Rattle.resolver_fetch.specs.Snapshot.{Snapshot, eligible}
 use Rattle.resolver_fetch.specs.Scan.{can_be_tried, is_due, left, was_tried}
 use Rattle.resolver_fetch.specs.Trying.{Trying, apart_from, trying, trying_for, weighed}
 use Rattle.resolver_fetch.specs.Waiting.{Waiting}
 use Rattle.resolver_fetch.proofs.NeedsPairs.{any-append}
 use Rattle.resolver_fetch.proofs.Seeking.{weighed-filter}
-use Rattle.resolver_fetch.proofs.Stepping.{is-open, kept_scan, tried-found, tried-kept}
 
 -- Who passes two tests passes the one and then the other.
 filter-twice : {X : Type 0} (whole first second : X → Bool) (xs : List X) → ((x : X) → whole x ≡ (first x || (second x || false)))
@@ -89,13 +85,3 @@ module _ {K P : Type 0} (o : Orders K P) (s : Snapshot K P) (moment : ℕ) (trai
     -- the scan goes on with its key, and the peers that are left
     pub goes-on-with-key : trying o s (scan_at moment trail) ≡ Some now → trying o s (scan_at moment (trail ++ t ∷ [])) ≡ Some (record now { left = apart_from o.peer t.peer now.left })
     goes-on-with-key is = continues s.waiting is
-
-module _ {K P : Type 0} (o : Orders K P) (f : Fetcher K P) (moment : ℕ) (trail : List (Try K P)) (expects : Option (Expected P)) (is : f.scan ≡ kept_scan o moment trail expects) where
-  -- the open scan goes on with its key, and the peers that are left
-  pub tries-on : IsTotalOrder o.key → (t : Trying K P) (peer : P) (reason : Reason) → tried_now o f ≡ Some t
-      → (noted : List (Try K P)) → noted ≡ trail ++ record { key = t.key; peer = peer; reason = reason } ∷ [] → 0 < length (apart_from o.peer peer t.left)
-      → tried_now o (record f { scan = kept_scan o moment noted expects }) ≡ Some (record t { left = apart_from o.peer peer t.left })
-  tries-on total t peer reason tried noted added some =
-      tried-found o (record f { scan = kept_scan o moment noted expects }) moment noted expects refl (is-open o f moment trail expects is t tried)
-      ∙ ap (λ ts. trying o (snapshot o f) (scan_at moment ts)) added
-      ∙ goes-on-with-key o (snapshot o f) moment trail (record { key = t.key; peer = peer; reason = reason }) total t refl some (tried-kept o f moment trail expects is t tried)

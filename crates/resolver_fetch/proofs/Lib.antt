@@ -19,3 +19,5 @@ pub mod Continues
 pub mod Passes
 pub mod Progress
 pub mod Fetching
+pub mod Phases
+pub mod Kept

@@ -9,24 +9,21 @@ use Rattle.std.specs.Cmp.{IsTotalOrder}
 use Rattle.std.specs.List.{AllByRecursion}
 use Rattle.std.specs.List.Sorted.{IsStrictlySortedBy}
 use Rattle.std.specs.Ordering.{is_eq, is_lt}
-use Rattle.std.specs.Prelude.{find, is_some, option_and_then}
+use Rattle.std.specs.Prelude.{find}
 use Rattle.std.specs.declared.cmp.Ordering.{Ordering}
 use Rattle.std.specs.declared.cmp.Ordering.TheVariants.{Less}
 use Rattle.resolver_base.specs.Priorities.{after, pair_order}
 use Rattle.resolver_fetch.specs.declared.fetcher.place.Place.{Place}
-use Rattle.resolver_fetch.specs.declared.fetcher.trail.Expected.{Expected}
-use Rattle.resolver_fetch.specs.declared.fetcher.trail.Reason.{Reason}
 use Rattle.resolver_fetch.specs.declared.fetcher.trail.Try.{Try}
 use Rattle.resolver_fetch.specs.Fetcher.{Fetcher, snapshot, waiting_of}
 use Rattle.resolver_fetch.specs.Orders.{Orders, same_key}
 use Rattle.resolver_fetch.specs.Scan.{can_be_tried, is_due, left}
 use Rattle.resolver_request.specs.Scores.{weight_of}
-use Rattle.resolver_fetch.specs.Seeking.{scan_at, tried_behind, tried_behind_now, tried_next, tried_now}
+use Rattle.resolver_fetch.specs.Seeking.{scan_at, tried_behind, tried_next}
 use Rattle.resolver_fetch.specs.Trying.{Trying, apart_from, trying_for, weighed}
 use Rattle.resolver_fetch.specs.Waiting.{place_order}
 use Rattle.resolver_fetch.proofs.Continues.{left-same, never-again}
 use Rattle.resolver_fetch.proofs.Seeking.{find-map}
-use Rattle.resolver_fetch.proofs.Stepping.{is-open, kept_scan, tried-found, tried-kept}
 
 module _ {X : Type 0} (order : X → X → Ordering) (test again : X → Bool) (no_more : (x : X) → test x ≡ false → again x ≡ false) where
   skip : (kept : X → Bool) (x : X) (xs : List X) → again x ≡ false → find again (filter kept (x ∷ xs)) ≡ find again (filter kept xs)
@@ -99,34 +96,9 @@ module _ {K P : Type 0} (o : Orders K P) (f : Fetcher K P) (moment : ℕ) (trail
         ∙ ap (λ q. find (Can (trail ++ t ∷ [])) (after place_order o.key q f.waiting)) pair)
         ∙ sym (find-map (can_be_tried o (snapshot o f) (scan_at moment (trail ++ t ∷ []))) (waiting_of o f) (after place_order o.key (now.place, now.key) f.waiting)))
 
-    passes : IsStrictlySortedBy (pair_order place_order o.key) f.waiting → tried_next o f moment trail ≡ Some now
+    -- a scan goes on behind its key, where it has no peer left
+    pub passes : IsStrictlySortedBy (pair_order place_order o.key) f.waiting → tried_next o f moment trail ≡ Some now
         → tried_next o f moment (trail ++ t ∷ []) ≡ tried_behind o f (now.place, now.key) (scan_at moment (trail ++ t ∷ []))
     passes sorted is =
         passes-found sorted (find (Can trail) f.waiting) refl
         (sym (ap (option_map (trying_for o (snapshot o f) trail)) (find-map (can_be_tried o (snapshot o f) (scan_at moment trail)) (waiting_of o f) f.waiting)) ∙ is)
-
-module _ {K P : Type 0} (o : Orders K P) (f : Fetcher K P) (moment : ℕ) where
-  -- what an open scan tries behind a key depends on its moment and its trail
-  behind-open : (p : Place × K) (trail : List (Try K P)) (expects : Option (Expected P)) → is_some expects ≡ true
-      → option_and_then (tried_behind o f p) (kept_scan o moment trail expects) ≡ tried_behind o f p (scan_at moment trail)
-  behind-open p trail None is = cc
-  behind-open p trail (Some e) is = refl
-
-  -- what the open scan tries behind a key
-  pub now-behind : (p : Place × K) (trail : List (Try K P)) (expects : Option (Expected P)) → f.scan ≡ kept_scan o moment trail expects → is_some expects ≡ true
-      → tried_behind_now o f p ≡ tried_behind o f p (scan_at moment trail)
-  now-behind p trail expects is some = ap (option_and_then (tried_behind o f p)) is ∙ behind-open p trail expects some
-
-  module _ (trail : List (Try K P)) (expects : Option (Expected P)) (is : f.scan ≡ kept_scan o moment trail expects) where
-    -- the open scan goes on behind its key, where it has no peer left
-    pub passes-on : IsTotalOrder o.key → (t : Trying K P) (peer : P) (reason : Reason) → tried_now o f ≡ Some t
-        → (noted : List (Try K P)) → noted ≡ trail ++ record { key = t.key; peer = peer; reason = reason } ∷ [] → length (apart_from o.peer peer t.left) ≡ 0
-        → IsStrictlySortedBy (pair_order place_order o.key) f.waiting
-        → tried_now o (record f { scan = kept_scan o moment noted expects }) ≡ tried_behind_now o (record f { scan = kept_scan o moment noted expects }) (t.place, t.key)
-    passes-on total t peer reason tried noted added none sorted =
-        let is_open : is_some expects ≡ true = is-open o f moment trail expects is t tried in
-        tried-found o (record f { scan = kept_scan o moment noted expects }) moment noted expects refl is_open
-        ∙ ap (λ ts. tried_next o f moment ts) added
-        ∙ passes o f moment trail (record { key = t.key; peer = peer; reason = reason }) total t refl none sorted (tried-kept o f moment trail expects is t tried)
-        ∙ ap (λ ts. tried_behind o f (t.place, t.key) (scan_at moment ts)) (sym added)
-        ∙ sym (behind-open (t.place, t.key) noted expects is_open)

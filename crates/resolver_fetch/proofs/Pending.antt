@@ -1,5 +1,5 @@
 -- Bounds of the waiting keys, and the next due behind them.
-use Rattle.std.proofs.Common.{◌≡◌, refl, ap, sym, ◌∙◌, ℕ, ◌+◌, Bool, true, false, List, [], ◌∷◌, filter, Option, None, Some, IsSome, OnErr, OnOk, Result, Ok, Err, option_map, arith}
+use Rattle.std.proofs.Common.{◌≡◌, refl, ap, sym, ◌∙◌, ℕ, ◌+◌, ◌≤◌, Bool, true, false, List, [], ◌∷◌, filter, length, Option, None, Some, IsSome, OnErr, OnOk, Result, Ok, Err, option_map, arith}
 use Rattle.std.proofs.lemmas.Bool.Decides.{nat_tests}
 use Rattle.std.proofs.lemmas.Cmp.{tied_itself}
 use Rattle.std.proofs.lemmas.Grind.{common_steps}
@@ -12,7 +12,7 @@ use Rattle.std.specs.List.Sorted.{IsStrictlySortedBy}
 use Rattle.std.specs.Ordering.{bool_cmp, is_gt, is_le, is_lt, nat_cmp, ordering_reverse, ordering_then}
 use Rattle.std.specs.declared.cmp.Ordering.{Ordering}
 use Rattle.std.specs.declared.cmp.Ordering.TheVariants.{Less, Equal, Greater}
-use Rattle.resolver_base.specs.Priorities.{after, first_of, from, pair_order, put, without}
+use Rattle.resolver_base.specs.Priorities.{after, first_of, from, pair_order, priorities_of, put, without}
 use Rattle.resolver_fetch.specs.declared.fetcher.place.Place.{Place}
 use Rattle.resolver_fetch.specs.Pending.{IsBound, due_behind, first_due, later_due, raised}
 use Rattle.resolver_fetch.specs.Scan.{least}
@@ -135,3 +135,9 @@ module _ {K : Type 0} {by_key : K → K → Ordering} (o : IsTotalOrder by_key) 
 pub either_way : {T E : Type 0} (r : Result T E) (A B G : Type 0) → OnOk r A → OnErr r B → (A → G) → (B → G) → G
 either_way (Ok x) A B G a b f g = f a
 either_way (Err e) A B G a b f g = g b
+
+-- no key has more places among some of them
+pub fewer-filtered : {K : Type 0} (by_key : K → K → Ordering) (test : Place × K → Bool) (key : K) (ps : List (Place × K))
+    → length (priorities_of by_key (filter test ps) key) ≤ length (priorities_of by_key ps key)
+fewer-filtered by_key test key [] = omega arith
+fewer-filtered by_key test key (p ∷ ps) = let rest = fewer-filtered by_key test key ps in grind (arith, common_steps, rest)

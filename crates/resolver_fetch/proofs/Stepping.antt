@@ -1,8 +1,8 @@
 -- What an answer makes of a scan, by what it means for the key that is tried.
-use Rattle.std.proofs.Common.{◌≡◌, refl, ap, ◌∙◌, sym, ℕ, zero, suc, ◌+◌, ◌^◌, Bool, true, false, List, [], ◌∷◌, ◌++◌, Option, None, Some, Result, Ok, Err, option_map, if◌then◌else◌}
+use Rattle.std.proofs.Common.{◌≡◌, refl, ap, subst, ◌∙◌, sym, ℕ, zero, suc, ◌+◌, ◌^◌, Bool, true, false, List, [], ◌∷◌, ◌++◌, Option, None, Some, Result, Ok, Err, option_map, if◌then◌else◌}
 use Rattle.std.proofs.lemmas.List.{length-map}
 use Rattle.std.specs.List.{slice_get}
-use Rattle.std.specs.Prelude.{IsSome, OnOk, is_some, nat_lt, option_and_then, sum}
+use Rattle.std.specs.Prelude.{OnOk, nat_lt, sum}
 use Rattle.resolver_base.specs.declared.base.check.Check.TheVariants.{Clear, Until}
 use Rattle.resolver_base.specs.declared.base.fault.Fault.{Fault}
 use Rattle.resolver_base.specs.declared.base.fault.Fault.TheVariants.{Unasked, OutOfRange}
@@ -16,15 +16,18 @@ use Rattle.resolver_fetch.specs.declared.fetcher.trail.Reason.{Reason}
 use Rattle.resolver_fetch.specs.declared.fetcher.trail.Try.{Try}
 use Rattle.resolver_fetch.specs.declared.fetcher.trail.Expected.{Expected}
 use Rattle.resolver_fetch.specs.declared.fetcher.trail.Expected.TheVariants.{Mode, ByWeight, ByPlace, Checking, FirstId, Sending}
-use Rattle.resolver_request.specs.Choice.{chosen}
-use Rattle.resolver_fetch.specs.Fetcher.{Fetcher, answered as answered_with, asked_by, question, scan_answer, scan_begin, scan_taken, snapshot, turned}
+use Rattle.resolver_request.specs.Choice.{chosen, means_weighted}
+use Rattle.resolver_request.specs.declared.requests.request.Request.{Request}
+use Rattle.resolver_fetch.specs.declared.fetcher.cursor.Cursor.{Cursor}
+use Rattle.resolver_fetch.specs.Cursor.{ExpectsNewId, TakesNewId, scan_of}
+use Rattle.resolver_fetch.specs.Fetcher.{Fetcher, answered as answered_with, question, scan_answer, scan_taken, snapshot, turned}
 use Rattle.resolver_fetch.specs.Orders.{Orders}
 use Rattle.resolver_request.specs.Scores.{weight_of}
-use Rattle.resolver_fetch.specs.Seeking.{scan_at, tried_next, tried_now}
+use Rattle.resolver_fetch.specs.Seeking.{scan_at, tried_next}
 use Rattle.resolver_fetch.specs.Snapshot.{Snapshot}
 use Rattle.resolver_fetch.specs.Scan.{Scan, Turn, answered, by_place, by_weight, draws, left, goes_on_with, mode_of, next, question_for, question_of, sends, takes_for, weights}
-use Rattle.resolver_fetch.specs.Stepping.{after_all, after_step, and_then, ask_for, expected_now, step_chosen, step_if, step_now, step_of, stepped, turned_by}
-use Rattle.resolver_fetch.specs.Trying.{Trying, at_place, at_weight, trying, trying_for, weighed, weights_of}
+use Rattle.resolver_fetch.specs.Stepping.{after_all, after_step, and_then, ask_for, step_chosen, step_of, stepped}
+use Rattle.resolver_fetch.specs.Trying.{Trying, at_place, at_weight, trying_for, weighed, weights_of}
 use Rattle.resolver_fetch.specs.Waiting.{Waiting}
 
 module _ {P : Type 0} where
@@ -99,52 +102,45 @@ module _ {K P : Type 0} (o : Orders K P) where
   some-same : {X : Type 0} (x y : X) → Some x ≡ Some y → x ≡ y
   some-same x y e = cc
 
-  taken-for : (f : Fetcher K P) (scan : Scan K P) (answer : Answer) (t : Trying K P) (w : Option (K × Waiting P)) (expected : Option (Expected P))
+  taken-for : (f : Fetcher K P) (scan : Scan K P) (answer : Answer) (t : Trying K P) (w : Option (K × Waiting P)) (expected : Expected P)
       → option_map (trying_for o (snapshot o f) scan.trail) w ≡ Some t
-      → scan_taken o f (takes_for o (snapshot o f) scan w expected answer) ≡ Leaves f scan t.key (step_if t answer expected)
+      → scan_taken o f (takes_for o (snapshot o f) scan w (Some expected) answer) ≡ Leaves f scan t.key (step_of t expected answer)
   taken-for f scan answer t None expected is = cc
-  taken-for f scan answer t (Some w) None is = refl
-  taken-for f scan answer t (Some w) (Some expected) is =
+  taken-for f scan answer t (Some w) expected is =
       let same : trying_for o (snapshot o f) scan.trail w ≡ t = some-same _ _ is in
       ap (scan_taken o f) (sym (answered-by (snapshot o f) scan w expected answer))
       ∙ leaves-made f scan w.0 (step_of (trying_for o (snapshot o f) scan.trail w) expected answer)
       ∙ ap (λ (u : Trying K P). Leaves f scan u.key (step_of u expected answer)) same
 
-  step-taken : (f : Fetcher K P) (answer : Answer) (t : Trying K P) (step : Step P) (scan : Option (Scan K P))
-      → option_and_then (trying o (snapshot o f)) scan ≡ Some t → step_if t answer (option_and_then (λ s. s.expects) scan) ≡ Ok step
-      → answered_with o f answer scan ≡ (Ok tt, turned_by o f (λ s. stepped o (snapshot o f) s t.key step) scan)
-  step-taken f answer t step None is means = cc
-  step-taken f answer t step (Some scan) is means = taken-for f scan answer t (next o (snapshot o f) scan) scan.expects is ∙ ap (Leaves f scan t.key) means
+  answers-with : (f : Fetcher K P) (cursor : Cursor K P) (answer : Answer) → f.scan ≡ Some (scan_of cursor) → tried_next o f cursor.moment cursor.trail ≡ Some cursor.trying
+      → scan_answer o answer f ≡ Leaves f (scan_of cursor) cursor.trying.key (step_of cursor.trying cursor.expects answer)
+  answers-with f cursor answer is tried =
+      ap (answered_with o f answer) is
+      ∙ taken-for f (scan_of cursor) answer cursor.trying (next o (snapshot o f) (scan_of cursor)) cursor.expects tried
 
   -- an answer that means a step is taken
-  pub answer-taken : (f : Fetcher K P) (answer : Answer) (t : Trying K P) (step : Step P) → tried_now o f ≡ Some t → step_now t answer f ≡ Ok step
-      → scan_answer o answer f ≡ (Ok tt, after_step o t.key step f)
-  answer-taken f answer t step is means = step-taken f answer t step f.scan is means
-
-  step-refused : (f : Fetcher K P) (answer : Answer) (t : Trying K P) (fault : Fault) (scan : Option (Scan K P))
-      → option_and_then (trying o (snapshot o f)) scan ≡ Some t → step_if t answer (option_and_then (λ s. s.expects) scan) ≡ Err fault
-      → answered_with o f answer scan ≡ (Err fault, f)
-  step-refused f answer t fault None is means = cc
-  step-refused f answer t fault (Some scan) is means = taken-for f scan answer t (next o (snapshot o f) scan) scan.expects is ∙ ap (Leaves f scan t.key) means
+  pub answer-taken : (f : Fetcher K P) (cursor : Cursor K P) (answer : Answer) (step : Step P) → f.scan ≡ Some (scan_of cursor)
+      → tried_next o f cursor.moment cursor.trail ≡ Some cursor.trying → step_of cursor.trying cursor.expects answer ≡ Ok step
+      → scan_answer o answer f ≡ (Ok tt, after_step o (scan_of cursor) cursor.trying.key step f)
+  answer-taken f cursor answer step is tried means = answers-with f cursor answer is tried ∙ ap (Leaves f (scan_of cursor) cursor.trying.key) means
 
   -- an answer that means none is refused
-  pub answer-refused : (f : Fetcher K P) (answer : Answer) (t : Trying K P) (fault : Fault) → tried_now o f ≡ Some t → step_now t answer f ≡ Err fault
+  pub answer-refused : (f : Fetcher K P) (cursor : Cursor K P) (answer : Answer) (fault : Fault) → f.scan ≡ Some (scan_of cursor)
+      → tried_next o f cursor.moment cursor.trail ≡ Some cursor.trying → step_of cursor.trying cursor.expects answer ≡ Err fault
       → scan_answer o answer f ≡ (Err fault, f)
-  answer-refused f answer t fault is means = step-refused f answer t fault f.scan is means
+  answer-refused f cursor answer fault is tried means = answers-with f cursor answer is tried ∙ ap (Leaves f (scan_of cursor) cursor.trying.key) means
 
-  none-for : (f : Fetcher K P) (scan : Scan K P) (answer : Answer) (w : Option (K × Waiting P)) → option_map (trying_for o (snapshot o f) scan.trail) w ≡ None
-      → scan_taken o f (takes_for o (snapshot o f) scan w scan.expects answer) ≡ (Err Unasked, f)
-  none-for f scan answer None is = refl
-  none-for f scan answer (Some w) is = cc
+  -- where no scan is open no answer is expected
+  pub answer-unasked : (f : Fetcher K P) (answer : Answer) → f.scan ≡ None → scan_answer o answer f ≡ (Err Unasked, f)
+  answer-unasked f answer is = ap (answered_with o f answer) is
 
-  none-taken : (f : Fetcher K P) (answer : Answer) (scan : Option (Scan K P)) → option_and_then (trying o (snapshot o f)) scan ≡ None
-      → answered_with o f answer scan ≡ (Err Unasked, f)
-  none-taken f answer None is = refl
-  none-taken f answer (Some scan) is = none-for f scan answer (next o (snapshot o f) scan) is
+  turned-closed : (f : Fetcher K P) (t : Turn K P) (sent : Option (ℕ × Request K P)) → turned o (record t { sent = sent }) (record f { scan = None }) ≡ turned o (record t { sent = sent }) f
+  turned-closed f t None = refl
+  turned-closed f t (Some r) = refl
 
-  -- where nothing is tried no answer is expected
-  pub answer-unasked : (f : Fetcher K P) (answer : Answer) → tried_now o f ≡ None → scan_answer o answer f ≡ (Err Unasked, f)
-  answer-unasked f answer is = none-taken f answer f.scan is
+  -- what a scan's step makes of a fetcher doesn't depend on the scan that it had
+  pub step-closed : (f : Fetcher K P) (scan : Scan K P) (key : K) (step : Step P) → after_step o scan key step (record f { scan = None }) ≡ after_step o scan key step f
+  step-closed f scan key step = turned-closed f (stepped o (snapshot o f) scan key step) (stepped o (snapshot o f) scan key step).sent
 
   asks-same : (s : Snapshot K P) (scan : Scan K P) (w : K × Waiting P) (e : Expected P) → question_for o s scan w e ≡ ask_for s.configuration.priority_requests (trying_for o s scan.trail w) e
   asks-same s scan w Mode = refl
@@ -163,82 +159,69 @@ module _ {K P : Type 0} (o : Orders K P) where
       let it : f ≡ e = some-same _ _ expected in
       ap Some (asks-same s scan w f ∙ ap (λ (u : Trying K P). ask_for s.configuration.priority_requests u f) same ∙ ap (ask_for s.configuration.priority_requests t) it)
 
-  asks-open : (f : Fetcher K P) (t : Trying K P) (e : Expected P) (scan : Option (Scan K P)) → option_and_then (trying o (snapshot o f)) scan ≡ Some t
-      → option_and_then (λ s. s.expects) scan ≡ Some e → asked_by o f scan ≡ Some (ask_for f.configuration.priority_requests t e)
-  asks-open f t e None is expected = cc
-  asks-open f t e (Some scan) is expected = asks-for (snapshot o f) scan t e (next o (snapshot o f) scan) scan.expects is expected
+  -- what is asked once the scan expects something
+  pub asks-kept : (f : Fetcher K P) (moment : ℕ) (trail : List (Try K P)) (t : Trying K P) (e : Expected P) (last waiter : Option ℕ) → tried_next o f moment trail ≡ Some t
+      → question o (record f { scan = Some (record { moment = moment; trail = trail; expects = Some e }); last_id = last; waiter = waiter }) ≡ Some (ask_for f.configuration.priority_requests t e)
+  asks-kept f moment trail t e last waiter tried =
+      asks-for (snapshot o f) (record { moment = moment; trail = trail; expects = Some e }) t e (next o (snapshot o f) (scan_at moment trail)) (Some e) tried refl
 
-  -- what is asked of a key that is tried
-  pub asks-now : (f : Fetcher K P) (t : Trying K P) (e : Expected P) → tried_now o f ≡ Some t → expected_now f ≡ Some e
-      → question o f ≡ Some (ask_for f.configuration.priority_requests t e)
-  asks-now f t e is expected = asks-open f t e f.scan is expected
-
-  -- the open scan, as a fetcher keeps it
-  abbrev pub kept_scan : (moment : ℕ) → List (Try K P) → Option (Expected P) → Option (Scan K P)
-  kept_scan moment trail expects = option_map (λ expected. record { moment = moment; trail = trail; expects = Some expected }) expects
-
-  -- what an open scan tries depends on its moment and its trail
-  pub tried-open : (s : Snapshot K P) (moment : ℕ) (trail : List (Try K P)) (expects : Option (Expected P)) → is_some expects ≡ true
-      → option_and_then (trying o s) (kept_scan moment trail expects) ≡ trying o s (scan_at moment trail)
-  tried-open s moment trail None is = cc
-  tried-open s moment trail (Some e) is = refl
-
-  pub open-kept : (moment : ℕ) (trail : List (Try K P)) (expects : Option (Expected P)) → IsSome (kept_scan moment trail expects) → is_some expects ≡ true
-  open-kept moment trail None is = cc
-  open-kept moment trail (Some e) is = refl
-
-  some-kept : (s : Snapshot K P) (moment : ℕ) (trail : List (Try K P)) (t : Trying K P) (expects : Option (Expected P))
-      → option_and_then (trying o s) (kept_scan moment trail expects) ≡ Some t → is_some expects ≡ true
-  some-kept s moment trail t None is = cc
-  some-kept s moment trail t (Some e) is = refl
-
-module _ {K P : Type 0} (o : Orders K P) (f : Fetcher K P) (moment : ℕ) (trail : List (Try K P)) (expects : Option (Expected P)) (is : f.scan ≡ kept_scan o moment trail expects) where
-  pub tried-found : is_some expects ≡ true → tried_now o f ≡ tried_next o f moment trail
-  tried-found some = ap (option_and_then (trying o (snapshot o f))) is ∙ tried-open o (snapshot o f) moment trail expects some
-
-  -- a scan that tries something is open
-  pub is-open : (t : Trying K P) → tried_now o f ≡ Some t → is_some expects ≡ true
-  is-open t tried = some-kept o (snapshot o f) moment trail t expects (ap (option_and_then (trying o (snapshot o f))) (sym is) ∙ tried)
-
-  pub tried-kept : (t : Trying K P) → tried_now o f ≡ Some t → tried_next o f moment trail ≡ Some t
-  tried-kept t tried = sym (tried-found (is-open t tried)) ∙ tried
-
-  -- what is asked once the scan expects something else
-  pub asks-kept : (t : Trying K P) (e : Expected P) (last waiter : Option ℕ) → tried_now o f ≡ Some t
-      → question o (record f { scan = kept_scan o moment trail (Some e); last_id = last; waiter = waiter }) ≡ Some (ask_for f.configuration.priority_requests t e)
-  asks-kept t e last waiter tried =
-      asks-now o (record f { scan = kept_scan o moment trail (Some e); last_id = last; waiter = waiter }) t e (tried-kept t tried) refl
-
-  turned-like : (scan : Option (Scan K P)) (new : Scan K P) (w : Option (K × Waiting P))
-      → turned o (goes_on_with o (snapshot o f) new w) (record f { scan = scan }) ≡ turned o (goes_on_with o (snapshot o f) new w) f
-  turned-like scan new None = refl
-  turned-like scan new (Some w) = refl
-
-  fails-for : (key : K) (peer : P) (reason : Reason) (e : Option (Expected P)) → is_some e ≡ true
-      → after_all o (record f { scan = kept_scan o moment (trail ++ record { key = key; peer = peer; reason = reason } ∷ []) e })
-      ≡ turned_by o f (λ s. stepped o (snapshot o f) s key (steps.Fail peer reason)) (kept_scan o moment trail e)
-  fails-for key peer reason None some = cc
-  fails-for key peer reason (Some e) some =
-      let new : Scan K P = record { moment = moment; trail = trail ++ record { key = key; peer = peer; reason = reason } ∷ []; expects = Some e } in
-      turned-like (Some new) new (next o (snapshot o f) new)
+  goes-like : (s : Snapshot K P) (moment : ℕ) (trail : List (Try K P)) (e d : Option (Expected P)) (w : Option (K × Waiting P))
+      → goes_on_with o s (record { moment = moment; trail = trail; expects = e }) w ≡ goes_on_with o s (record { moment = moment; trail = trail; expects = d }) w
+  goes-like s moment trail e d None = refl
+  goes-like s moment trail e d (Some w) = refl
 
   -- a scan goes on once a try in vain is noted
-  pub fails-on : (t : Trying K P) (peer : P) (reason : Reason) → tried_now o f ≡ Some t
-      → (noted : List (Try K P)) → noted ≡ trail ++ record { key = t.key; peer = peer; reason = reason } ∷ []
-      → after_all o (record f { scan = kept_scan o moment noted expects }) ≡ after_step o t.key (steps.Fail peer reason) f
-  fails-on t peer reason tried noted added =
-      ap (λ ts. after_all o (record f { scan = kept_scan o moment ts expects })) added
-      ∙ fails-for t.key peer reason expects (is-open t tried)
-      ∙ ap (turned_by o f (λ s. stepped o (snapshot o f) s t.key (steps.Fail peer reason))) (sym is)
+  pub fails-on : (f : Fetcher K P) (scan : Scan K P) (key : K) (peer : P) (reason : Reason) (noted : List (Try K P)) → noted ≡ scan.trail ++ record { key = key; peer = peer; reason = reason } ∷ []
+      → after_all o scan.moment noted f ≡ after_step o scan key (steps.Fail peer reason) f
+  fails-on f scan key peer reason noted added =
+      ap (λ ts. after_all o scan.moment ts f) added
+      ∙ ap (λ t. turned o t f) (goes-like (snapshot o f) scan.moment (scan.trail ++ record { key = key; peer = peer; reason = reason } ∷ []) None scan.expects _)
 
--- a scan that begins goes on without a trail
-pub begins-on : {K P : Type 0} (o : Orders K P) (f : Fetcher K P) (now : ℕ) (e : Expected P)
-    → after_all o (record f { scan = Some (record { moment = now; trail = []; expects = Some e }) }) ≡ scan_begin o now f
-begins-on {K} {P} o f now e = at (next o (snapshot o f) (scan_at now [])) where
-  at : (w : Option (K × Waiting P)) → turned o (goes_on_with o (snapshot o f) (record { moment = now; trail = []; expects = Some e }) w) (record f { scan = Some (record { moment = now; trail = []; expects = Some e }) })
-      ≡ turned o (goes_on_with o (snapshot o f) (scan_at now []) w) f
-  at None = refl
-  at (Some w) = refl
+  -- a step of a scan that expects a new id takes no other
+  pub step-new : (asked : List (ℕ × Request K P)) (last : Option ℕ) (t : Trying K P) (e : Expected P) (answer : Answer) (step : Step P) → ExpectsNewId asked last e → step_of t e answer ≡ Ok step → TakesNewId asked last step
+  step-new asked last t e answer step new means = onto (step_of t e answer) (new-of e answer new) means where
+    NewOf : Result (Step P) Fault → Type 0
+    NewOf (Ok step) = TakesNewId asked last step
+    NewOf (Err fault) = Unit {0}
+
+    onto : (r : Result (Step P) Fault) → NewOf r → r ≡ Ok step → TakesNewId asked last step
+    onto (Ok other) found is = let same : other ≡ step = cc in subst (TakesNewId asked last) same found
+    onto (Err fault) found is = absurd cc
+
+    mode-new : (b c : Bool) → NewOf (if b then Ok (steps.Expect (if c then ByWeight else ByPlace)) else Err OutOfRange)
+    mode-new true true = tt
+    mode-new true false = tt
+    mode-new false c = tt
+
+    chosen-new : (peer : Option P) → NewOf (step_chosen peer)
+    chosen-new None = tt
+    chosen-new (Some peer) = tt
+
+    first-new : (peer : P) (n : ℕ) (b : Bool) → asked ≡ [] → NewOf (and_then (λ id. Ok (steps.Send peer id)) (if b then Ok n else Err OutOfRange))
+    first-new peer n true none = rw none refl
+    first-new peer n false none = tt
+
+    new-of : (e : Expected P) (answer : Answer) → ExpectsNewId asked last e → NewOf (step_of t e answer)
+    new-of Mode (Drawn n) new = mode-new (nat_lt n (t.retries + 4)) (means_weighted n)
+    new-of Mode (Checked check) new = tt
+    new-of Mode (Sent accepted) new = tt
+    new-of ByWeight (Drawn n) new = chosen-new (at_weight t.left n)
+    new-of ByWeight (Checked check) new = tt
+    new-of ByWeight (Sent accepted) new = tt
+    new-of ByPlace (Drawn n) new = chosen-new (at_place t.left n)
+    new-of ByPlace (Checked check) new = tt
+    new-of ByPlace (Sent accepted) new = tt
+    new-of (Checking peer) (Drawn n) new = tt
+    new-of (Checking peer) (Checked Clear) new = tt
+    new-of (Checking peer) (Checked (Until moment)) new = tt
+    new-of (Checking peer) (Sent accepted) new = tt
+    new-of (FirstId peer) (Drawn n) new = first-new peer n (nat_lt n (2 ^ 64)) new
+    new-of (FirstId peer) (Checked check) new = tt
+    new-of (FirstId peer) (Sent accepted) new = tt
+    new-of (Sending peer id) (Drawn n) new = tt
+    new-of (Sending peer id) (Checked check) new = tt
+    new-of (Sending peer id) (Sent true) new = new
+    new-of (Sending peer id) (Sent false) new = tt
 
 pub onto-ok : {T E : Type 0} (r : Result T E) (A B : Type 0) → (A → B) → OnOk r A → OnOk r B
 onto-ok (Ok x) A B f a = f a

@@ -1,21 +1,24 @@
 -- A fetcher, as its callers see it: which keys wait or are asked for, and of whom.
-use Rattle.std.specs.Prelude.{ℕ, ◌+◌, ◌^◌, ◌<◌, Bool, List, [], map, Option, None, Some, Result, Ok, Err, option_map, unwrap_or, filter, if◌then◌else◌}
+use Rattle.std.specs.Prelude.{◌≡◌, ℕ, ◌+◌, ◌^◌, ◌<◌, ◌≤◌, Bool, false, List, [], map, Option, None, Some, Result, Ok, Err, option_map, unwrap_or, filter, find, length, if◌then◌else◌}
 use Rattle.std.specs.Map.{lookup, remove_entry}
 use Rattle.std.specs.BTreeMap.{insert_entry, is_at}
 use Rattle.std.specs.Ordering.{nat_cmp}
+use Rattle.std.specs.declared.cmp.Ordering.{Ordering}
 use Rattle.resolver_base.specs.declared.base.fault.Fault.{Fault}
 use Rattle.resolver_base.specs.declared.base.fault.Fault.TheVariants.{Unasked}
-use Rattle.resolver_base.specs.Priorities.{put, retained, without}
+use Rattle.resolver_base.specs.Priorities.{has_item, is_of, priorities_of, put, retained, without}
 use Rattle.resolver_request.specs.declared.score.Averages.{Averages}
 use Rattle.resolver_fetch.specs.declared.fetcher.config.Config.{Config}
 use Rattle.resolver_fetch.specs.declared.fetcher.place.Place.{Place}
 use Rattle.resolver_request.specs.declared.requests.request.Request.{Request}
 use Rattle.resolver_fetch.specs.declared.fetcher.scan.Answer.{Answer}
 use Rattle.resolver_fetch.specs.declared.fetcher.scan.Ask.{Ask}
+use Rattle.resolver_fetch.specs.declared.fetcher.scan.Ask.TheVariants as asks
+use Rattle.resolver_request.specs.Ids.{is_held}
 use Rattle.resolver_fetch.specs.Orders.{Orders}
 use Rattle.resolver_request.specs.Times.{elapsed_since, charged}
 use Rattle.resolver_fetch.specs.Waiting.{Waiting, place_order, fresh_at, retry_at, once_more, wake_up}
-use Rattle.resolver_request.specs.Requests.{soonest, overdue, matching, without_request}
+use Rattle.resolver_request.specs.Requests.{ids_of, is_asked, soonest, overdue, matching, without_request}
 use Rattle.resolver_fetch.specs.Peers.{replaced, observed, with_targets, set_of}
 use Rattle.resolver_fetch.specs.Known.{weight_in}
 use Rattle.resolver_fetch.specs.Snapshot.{Snapshot, known}
@@ -55,6 +58,14 @@ opening configuration = record {
   scan = None;
 }
 
+-- how often a key stands among the waiting and the asked ones
+abbrev pub phases_of : {K P : Type 0} → (K → K → Ordering) → (waiting : List (Place × K)) → (asked : List (ℕ × Request K P)) → K → ℕ
+phases_of by_key waiting asked key = length (priorities_of by_key waiting key) + length (ids_of by_key asked key)
+
+-- no key stands there twice
+abbrev pub EachOnce : {K P : Type 0} → (K → K → Ordering) → (waiting : List (Place × K)) → (asked : List (ℕ × Request K P)) → Type 0
+EachOnce {K} by_key waiting asked = (key : K) → phases_of by_key waiting asked key ≤ 1
+
 abbrev pub cleared : {K P : Type 0} → Fetcher K P → Fetcher K P
 cleared f = record f { waiter = None }
 
@@ -68,6 +79,15 @@ module _ {K P : Type 0} (o : Orders K P) where
 
   abbrev pub retries_of : Fetcher K P → K → ℕ
   retries_of f key = unwrap_or (lookup (is_at (o.key key)) f.retries) 0
+
+  -- where a key waits
+  abbrev pub place_of : Fetcher K P → K → Option Place
+  place_of f key = option_map (λ p. p.0) (find (is_of o.key key) f.waiting)
+
+  -- a key neither waits nor is asked for
+  pub record IsIdle (f : Fetcher K P) (key : K) : Type 0 where
+    pub not_waiting : has_item o.key f.waiting key ≡ false
+    pub not_asked : is_asked o.key f.asked key ≡ false
 
   abbrev pub waiting_of : Fetcher K P → Place × K → K × Waiting P
   waiting_of f (place, key) = (key, record { place = place; retries = retries_of f key; targets = targets_of f key })
@@ -198,6 +218,11 @@ module _ {K P : Type 0} (o : Orders K P) where
   -- an answer is taken, or refused with all as it was
   abbrev pub scan_answer : Answer → Fetcher K P → Result (Unit {0}) Fault × Fetcher K P
   scan_answer answer f = answered f answer f.scan
+
+  -- the id of a request that is asked for now is held by none
+  abbrev pub AsksNewId : Fetcher K P → Option (Ask K P) → Type 0
+  AsksNewId f (Some (asks.Request peer id key priority)) = is_held f.asked id ≡ false
+  AsksNewId f ask = Unit {0}
 
   -- the weight with which a peer of the set is drawn
   abbrev pub weight : P → Fetcher K P → Option ℕ

@@ -1,5 +1,5 @@
 -- What is known of the peers, and which of them may be asked.
-use Rattle.std.specs.Prelude.{ℕ, Bool, true, false, not, ◌&&◌, List, map, length, Option, None, Some, option_map, filter, if◌then◌else◌}
+use Rattle.std.specs.Prelude.{ℕ, Bool, true, false, not, ◌&&◌, List, length, Option, None, Some, option_map, filter, if◌then◌else◌}
 use Rattle.std.specs.BTreeMap.{is_at}
 use Rattle.std.specs.Map.{lookup}
 use Rattle.std.specs.Ordering.{is_eq}
@@ -46,10 +46,6 @@ module _ {P : Type 0} (by_peer : P → P → Ordering) where
 
   abbrev pub weight_in : Known P → P → Option ℕ
   weight_in known peer = option_map (λ averages. sampling_weight known (peer, averages)) (lookup (is_at (by_peer peer)) known.set)
-
-  -- what the peers of the set weigh for a key with these targets, in their order: 0 where they may not be asked
-  abbrev pub weights_for : Known P → Option (List P) → List ℕ
-  weights_for known targets = map (λ p. if is_eligible known targets p.0 then weight_of p.1 else 0) known.set
 
   -- how many peers may be asked at all
   abbrev pub askable : Known P → ℕ

@@ -14,3 +14,4 @@ pub mod Progress
 pub mod Fetching
 pub mod FetcherRows
 pub mod FetcherLaws
+pub mod Cursor

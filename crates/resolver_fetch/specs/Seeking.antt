@@ -1,5 +1,5 @@
 -- How a fetcher finds what a scan tries next, and when a scan in vain may be begun again.
-use Rattle.std.specs.Prelude.{◌≡◌, ℕ, ◌<◌, ◌^◌, false, not, nat_lt, List, length, map, Option, None, Some, option_map, option_and_then, filter, find}
+use Rattle.std.specs.Prelude.{ℕ, false, not, nat_lt, List, length, map, Option, None, Some, option_map, filter, find}
 use Rattle.std.specs.Ordering.{is_le}
 use Rattle.resolver_base.specs.Priorities.{after}
 use Rattle.resolver_fetch.specs.declared.fetcher.place.Place.{Place}
@@ -12,7 +12,7 @@ use Rattle.resolver_fetch.specs.Snapshot.{eligible}
 use Rattle.resolver_fetch.specs.Scan.{Scan, can_be_tried, trail_moment, was_tried}
 use Rattle.resolver_fetch.specs.Trying.{Trying, weighed, trying, trying_for}
 use Rattle.resolver_fetch.specs.Waiting.{place_order}
-use Rattle.resolver_fetch.specs.Fetcher.{Fetcher, IsTimely, opening, retries_of, snapshot, targets_of, waiting_of}
+use Rattle.resolver_fetch.specs.Fetcher.{Fetcher, opening, retries_of, snapshot, targets_of, waiting_of}
 
 -- a scan that tried this so far
 abbrev pub scan_at : {K P : Type 0} → (moment : ℕ) → List (Try K P) → Scan K P
@@ -29,17 +29,6 @@ searched waiting targets retries known =
       blocked = known.blocked;
     }
 
--- what is kept of the key to try is right; nothing may be kept
-abbrev pub IsRight : {K P : Type 0} → (kept found : Option (Trying K P)) → Type 0
-IsRight None found = Unit {0}
-IsRight (Some kept) found = found ≡ Some kept
-
--- what is so of every fetcher
-pub record IsKept {K P : Type 0} (timeout delay moment : ℕ) (kept found : Option (Trying K P)) : Type 0 where
-  pub timely : IsTimely timeout delay
-  pub moment_fits : moment < 2 ^ 94
-  pub right : IsRight kept found
-
 module _ {K P : Type 0} (o : Orders K P) where
   -- what there is to try of a waiting key
   abbrev pub trying_key : Fetcher K P → List (Try K P) → Place × K → Trying K P
@@ -54,19 +43,11 @@ module _ {K P : Type 0} (o : Orders K P) where
   abbrev pub tried_next : Fetcher K P → (moment : ℕ) → List (Try K P) → Option (Trying K P)
   tried_next f moment trail = trying o (snapshot o f) (scan_at moment trail)
 
-  -- what the open scan tries
-  abbrev pub tried_now : Fetcher K P → Option (Trying K P)
-  tried_now f = option_and_then (trying o (snapshot o f)) f.scan
-
   -- what a scan tries of the keys behind a waiting one
   abbrev pub tried_behind : Fetcher K P → Place × K → Scan K P → Option (Trying K P)
   tried_behind f p scan =
       option_map (trying_for o (snapshot o f) scan.trail)
       (find (can_be_tried o (snapshot o f) scan) (map (waiting_of o f) (after place_order o.key p f.waiting)))
-
-  -- what the open scan tries of them
-  abbrev pub tried_behind_now : Fetcher K P → Place × K → Option (Trying K P)
-  tried_behind_now f p = option_and_then (tried_behind f p) f.scan
 
   -- the first of some waiting keys, up to a place, that has a peer left
   abbrev pub first_until : Fetcher K P → List (Try K P) → (last : Place) → List (Place × K) → Option (Trying K P)
@@ -82,10 +63,10 @@ module _ {K P : Type 0} (o : Orders K P) where
   abbrev pub tried_again : Fetcher K P → Scan K P → Option ℕ
   tried_again f scan = trail_moment f.configuration.retry_delay scan.moment scan.trail
 
+  -- what it does next where a key has no peer left: it goes on behind the key
+  abbrev pub next_behind : Fetcher K P → (moment : ℕ) → List (Try K P) → Place × K → Next K P
+  next_behind f moment trail p = next_for (tried_behind f p (scan_at moment trail)) (tried_again f (scan_at moment trail))
+
   -- what a scan of this moment does next after this trail: it tries a key, or ends in vain
   abbrev pub next_of : Fetcher K P → (moment : ℕ) → List (Try K P) → Next K P
   next_of f moment trail = next_for (tried_next f moment trail) (tried_again f (scan_at moment trail))
-
-  -- what the open scan does next
-  abbrev pub next_now : Fetcher K P → Option (Next K P)
-  next_now f = option_map (λ scan. next_for (trying o (snapshot o f) scan) (tried_again f scan)) f.scan

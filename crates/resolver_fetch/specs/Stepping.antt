@@ -1,5 +1,5 @@
 -- What an answer makes of the key that a scan tries, and what that makes of the fetcher.
-use Rattle.std.specs.Prelude.{ℕ, ◌+◌, ◌^◌, Bool, true, false, nat_lt, length, sum, Option, None, Some, Result, Ok, Err, option_and_then, if◌then◌else◌}
+use Rattle.std.specs.Prelude.{ℕ, ◌+◌, ◌^◌, Bool, true, false, nat_lt, length, sum, List, Option, None, Some, Result, Ok, Err, if◌then◌else◌}
 use Rattle.resolver_base.specs.declared.base.check.Check.{Check}
 use Rattle.resolver_base.specs.declared.base.check.Check.TheVariants.{Clear, Until}
 use Rattle.resolver_base.specs.declared.base.fault.Fault.{Fault}
@@ -13,6 +13,8 @@ use Rattle.resolver_fetch.specs.declared.fetcher.step.Step.TheVariants as steps
 use Rattle.resolver_fetch.specs.declared.fetcher.trail.Expected.{Expected}
 use Rattle.resolver_fetch.specs.declared.fetcher.trail.Expected.TheVariants.{Mode, ByWeight, ByPlace, Checking, FirstId, Sending}
 use Rattle.resolver_fetch.specs.declared.fetcher.trail.Reason.TheVariants.{Limited, Refused}
+use Rattle.resolver_fetch.specs.declared.fetcher.trail.Try.{Try}
+use Rattle.resolver_fetch.specs.Seeking.{scan_at}
 use Rattle.resolver_fetch.specs.Orders.{Orders}
 use Rattle.resolver_fetch.specs.Snapshot.{Snapshot}
 use Rattle.resolver_fetch.specs.Scan.{Scan, Turn, mode_of, asks_for, clears, sends, fails, succeeds, goes_on}
@@ -81,19 +83,6 @@ module _ {K P : Type 0} where
   ask_for priority t (FirstId peer) = asks.Draw (2 ^ 64)
   ask_for priority t (Sending peer id) = asks.Request peer id t.key priority
 
-module _ {K P : Type 0} where
-  -- what the open scan expects
-  abbrev pub expected_now : Fetcher K P → Option (Expected P)
-  expected_now f = option_and_then (λ scan. scan.expects) f.scan
-
-  abbrev pub step_if : Trying K P → Answer → Option (Expected P) → Result (Step P) Fault
-  step_if t answer None = Err Unasked
-  step_if t answer (Some expected) = step_of t expected answer
-
-  -- what an answer means to the open scan
-  abbrev pub step_now : Trying K P → Answer → Fetcher K P → Result (Step P) Fault
-  step_now t answer f = step_if t answer (expected_now f)
-
 module _ {K P : Type 0} (o : Orders K P) where
   -- what a step makes of a scan that tries a key
   abbrev pub stepped : Snapshot K P → Scan K P → K → Step P → Turn K P
@@ -103,18 +92,14 @@ module _ {K P : Type 0} (o : Orders K P) where
   stepped s scan key (steps.Fail peer reason) = fails o s scan key peer reason
   stepped s scan key (steps.Accept peer id) = succeeds o s scan key peer id
 
-  abbrev pub turned_by : Fetcher K P → (Scan K P → Turn K P) → Option (Scan K P) → Fetcher K P
-  turned_by f turn None = f
-  turned_by f turn (Some scan) = turned o (turn scan) f
+  -- a scan takes a step
+  abbrev pub after_step : Scan K P → K → Step P → Fetcher K P → Fetcher K P
+  after_step scan key step f = turned o (stepped (snapshot o f) scan key step) f
 
-  -- the open scan takes a step
-  abbrev pub after_step : K → Step P → Fetcher K P → Fetcher K P
-  after_step key step f = turned_by f (λ scan. stepped (snapshot o f) scan key step) f.scan
+  -- a scan expects this, and the last id is this one
+  abbrev pub expecting : Scan K P → Expected P → (last_id : Option ℕ) → Fetcher K P → Fetcher K P
+  expecting scan expected last_id f = turned o (record (asks_for o (snapshot o f) scan expected) { last_id = last_id }) f
 
-  -- the open scan expects this, and the last id is this one
-  abbrev pub expecting : Expected P → (last_id : Option ℕ) → Fetcher K P → Fetcher K P
-  expecting expected last_id f = turned_by f (λ scan. record (asks_for o (snapshot o f) scan expected) { last_id = last_id }) f.scan
-
-  -- the open scan tries what is next, or ends
-  abbrev pub after_all : Fetcher K P → Fetcher K P
-  after_all f = turned_by f (goes_on o (snapshot o f)) f.scan
+  -- a scan of this moment tries what is next after this trail, or ends
+  abbrev pub after_all : (moment : ℕ) → List (Try K P) → Fetcher K P → Fetcher K P
+  after_all moment trail f = turned o (goes_on o (snapshot o f) (scan_at moment trail)) f

@@ -5,6 +5,7 @@
 //! ends that. A scan is driven by questions and answers: what an `Ask` asks, an `Answer` answers.
 
 pub mod config;
+mod cursor;
 mod fetching;
 pub mod laws;
 mod peers;
@@ -17,7 +18,8 @@ mod targets;
 mod trail;
 mod trying;
 
-ghost use Rattle.std.specs.Prelude.{◌≡◌, Bool, ◌<◌, ◌^◌, [], length, is_some, unwrap_or, IfErr, OnErr, OnOk};
+ghost use Rattle.std.specs.Prelude.{◌≡◌, Bool, false, ◌<◌, ◌^◌, [], length, is_some, option_map, unwrap_or, IfErr, IfSome, OnErr, OnOk};
+ghost use Rattle.std.specs.Option.{option_copied};
 ghost use Rattle.std.specs.BTreeMap.{insert_entry, is_at};
 ghost use Rattle.std.specs.Fn.{FnReturnsAt};
 ghost use Rattle.std.specs.Map.{lookup};
@@ -25,18 +27,18 @@ ghost use Rattle.resolver_base.specs.Answering.{AnswersBy};
 ghost use Rattle.resolver_base.specs.Priorities.{has_item};
 ghost use Rattle.resolver_base.specs.declared.base.fault.Fault.TheVariants.{OutOfMemory};
 ghost use Rattle.resolver_fetch.specs.Fetcher as calls;
-ghost use Rattle.resolver_fetch.specs.Fetcher.{IsTimely, opening};
+ghost use Rattle.resolver_fetch.specs.Fetcher.{EachOnce, IsTimely, opening};
 ghost use Rattle.resolver_fetch.specs.Orders.{orders};
 ghost use Rattle.resolver_fetch.specs.Peers.{with_targets};
 ghost use Rattle.resolver_fetch.specs.Pending.{with_key};
+ghost use Rattle.resolver_request.specs.Requests.{is_asked, request_for};
 ghost use Rattle.resolver_request.specs.Times.{charged, elapsed_since};
 ghost use Rattle.resolver_fetch.specs.Waiting.{once_more};
 
+use crate::fetcher::cursor::Cursor;
 use crate::fetcher::peers::Peers;
 use crate::fetcher::pending::Pending;
 use crate::fetcher::targets::Targets;
-use crate::fetcher::trail::{Expected, Trail};
-use crate::fetcher::trying::Trying;
 pub use config::Config;
 pub use place::Place;
 use resolver_base::base::{Fault, NonEmptyVec};
@@ -63,22 +65,17 @@ pub struct Fetcher<K: Ord, P: Ord> {
     retry_delay: u128,
     priority_requests: bool,
     last_id: Option<ID>,
-    /// The moment of the last scan.
-    moment: u128,
-    /// What the last scan tried in vain.
-    trail: Trail<K, P>,
-    /// What the open scan expects.
-    expects: Option<Expected<P>>,
-    /// What the open scan tries, if that is known.
-    trying: Option<Trying<K, P>>,
+    /// Where the open scan stands.
+    cursor: Option<Cursor<K, P>>,
     alloc: Global,
 }
 
 impl<K: Ord, P: Ord> Model for Fetcher<K, P> {
-    ghost use Rattle.std.specs.Prelude.{Some, option_map};
+    ghost use Rattle.std.specs.Prelude.{IfSome, option_map};
+    ghost use Rattle.resolver_fetch.specs.Cursor.{IsKept, IsRight, scan_of};
     ghost use Rattle.resolver_fetch.specs.Fetcher.{Fetcher};
     ghost use Rattle.resolver_fetch.specs.Orders.{orders};
-    ghost use Rattle.resolver_fetch.specs.Seeking.{IsKept, searched, tried_next};
+    ghost use Rattle.resolver_fetch.specs.Seeking.{searched};
 
     ghost Value = { Fetcher K P };
 
@@ -97,16 +94,12 @@ impl<K: Ord, P: Ord> Model for Fetcher<K, P> {
       };
       waiter = a.pending.waiter;
       last_id = a.last_id;
-      scan = option_map (λ expected. record {
-        moment = a.moment;
-        trail = a.trail;
-        expects = Some expected;
-      }) a.expects;
+      scan = option_map scan_of a.cursor;
     } };
 
-    ghost invariant = { λ a. IsKept a.fetch_timeout a.retry_delay a.moment a.trying
-        (tried_next (orders K.cmp P.cmp)
-        (searched a.pending.keys a.targets.entries a.retries.entries a.peers) a.moment a.trail) };
+    ghost invariant = { λ a. IsKept K.cmp a.fetch_timeout a.retry_delay a.last_id a.pending.keys a.requests
+        × IfSome a.cursor (IsRight (orders K.cmp P.cmp)
+        (searched a.pending.keys a.targets.entries a.retries.entries a.peers) a.requests a.last_id) };
 }
 
 impl<K: Ord + Drop, P: Ord + Drop> Fetcher<K, P> {
@@ -125,10 +118,7 @@ impl<K: Ord + Drop, P: Ord + Drop> Fetcher<K, P> {
             retry_delay: config.retry_delay,
             priority_requests: config.priority_requests,
             last_id: None,
-            moment: 0,
-            trail: Trail::new(alloc),
-            expects: None,
-            trying: None,
+            cursor: None,
             alloc,
         }
     }
@@ -154,11 +144,44 @@ impl<K: Ord + Drop, P: Ord + Drop> Fetcher<K, P> {
         self.pending.keys().contains(key)
     }
 
+    /// Whether this key is asked for.
+    pub fn is_asked(&self, key: &K) -> bool
+        ensures { result ≡ is_asked K.cmp self.now.asked key.now }
+    {
+        self.requests.is_asked(key)
+    }
+
+    /// Where this key waits, if it waits.
+    pub fn place(&self, key: &K) -> Option<Place>
+        ensures value { result ≡ calls.place_of (orders K.cmp P.cmp) self.now key.now }
+        ensures once { EachOnce K.cmp self.now.waiting self.now.asked }
+    {
+        self.pending.keys().get(key).copied()
+    }
+
+    /// The request for this key with its id, if it is asked for.
+    pub fn request(&self, key: &K) -> Option<(ID, &Request<K, P>)>
+        ensures value { option_map (λ r. (r.0, r.1.now)) result
+            ≡ request_for K.cmp self.now.asked key.now }
+        ensures once { EachOnce K.cmp self.now.waiting self.now.asked }
+    {
+        self.requests.get_for(key)
+    }
+
+    /// The peers that may be asked for this key, in the order in which they were added, if they are
+    /// limited to some.
+    pub fn targets(&self, key: &K) -> Option<&[P]>
+        ensures { option_copied result ≡ calls.targets_of (orders K.cmp P.cmp) self.now key.now }
+    {
+        let targets = self.targets.get(key)?;
+        Some(targets.listed())
+    }
+
     /// Whether a scan is open: it expects an answer.
     pub fn is_scanning(&self) -> bool
         ensures { result ≡ is_some self.now.scan }
     {
-        self.expects.is_some()
+        self.cursor.is_some()
     }
 
     /// Whether the peers that may be asked for this key are limited to some.
@@ -203,12 +226,12 @@ impl<K: Ord + Drop, P: Ord + Drop> Fetcher<K, P> {
     /// Takes these peers in place of the latest set. Those that stay keep their scores. Where
     /// memory is wanting, nothing changes. It takes time linear in the peers, times a logarithm.
     pub fn reconcile(&mut self, peers: Vec<P>) -> Result<(), Fault>
+        requires closed { is_some self.old.scan ≡ false }
         ensures ok { OnOk result
             (self.new ≡ calls.reconcile (orders K.cmp P.cmp) peers.items self.old) }
         ensures err { OnErr result (self.new ≡ self.old) }
         ensures only { IfErr result (λ fault. fault ≡ OutOfMemory) }
     {
-        self.trying = None;
         self.peers.reconcile(peers)?;
         self.pending.wake();
         Ok(())
@@ -217,12 +240,12 @@ impl<K: Ord + Drop, P: Ord + Drop> Fetcher<K, P> {
     /// Takes these peers as the ones that are blocked. Where memory is wanting, nothing changes.
     /// It takes time linear in the peers, times a logarithm.
     pub fn set_blocked(&mut self, peers: Vec<P>) -> Result<(), Fault>
+        requires closed { is_some self.old.scan ≡ false }
         ensures ok { OnOk result
             (self.new ≡ calls.set_blocked (orders K.cmp P.cmp) peers.items self.old) }
         ensures err { OnErr result (self.new ≡ self.old) }
         ensures only { IfErr result (λ fault. fault ≡ OutOfMemory) }
     {
-        self.trying = None;
         self.peers.set_blocked(peers)?;
         self.pending.wake();
         Ok(())
@@ -234,6 +257,9 @@ impl<K: Ord + Drop, P: Ord + Drop> Fetcher<K, P> {
     pub fn add_ready(&mut self, key: K, now: u128) -> Result<(), Fault>
     where
         K: Clone,
+        requires closed { is_some self.old.scan ≡ false }
+        requires not_waiting { has_item K.cmp self.old.waiting key ≡ false }
+        requires not_asked { is_asked K.cmp self.old.asked key ≡ false }
         requires moment { now < 2 ^ 94 }
         requires keys_clone { (x y : K) → K.is_clone x y → y ≡ x }
         ensures ok { OnOk result
@@ -241,7 +267,6 @@ impl<K: Ord + Drop, P: Ord + Drop> Fetcher<K, P> {
         ensures err { OnErr result (self.new ≡ self.old) }
         ensures only { IfErr result (λ fault. fault ≡ OutOfMemory) }
     {
-        self.trying = None;
         self.pending.put(key, Place::fresh(now))
     }
 
@@ -252,6 +277,9 @@ impl<K: Ord + Drop, P: Ord + Drop> Fetcher<K, P> {
     pub fn add_retry(&mut self, key: K, now: u128) -> Result<(), Fault>
     where
         K: Clone,
+        requires closed { is_some self.old.scan ≡ false }
+        requires not_waiting { has_item K.cmp self.old.waiting key ≡ false }
+        requires not_asked { is_asked K.cmp self.old.asked key ≡ false }
         requires moment { now < 2 ^ 94 }
         requires keys_clone { (x y : K) → K.is_clone x y → y ≡ x }
         ensures ok { OnOk result
@@ -259,7 +287,6 @@ impl<K: Ord + Drop, P: Ord + Drop> Fetcher<K, P> {
         ensures err { OnErr result (self.new ≡ self.old) }
         ensures only { IfErr result (λ fault. fault ≡ OutOfMemory) }
     {
-        self.trying = None;
         let place = Place::retry(now + self.retry_delay);
         count_retry(&mut self.retries, &mut self.pending, key, place)
     }
@@ -272,13 +299,13 @@ impl<K: Ord + Drop, P: Ord + Drop> Fetcher<K, P> {
     pub fn add_targets(&mut self, key: K, peers: NonEmptyVec<P>) -> Result<(), Fault>
     where
         P: Clone,
+        requires closed { is_some self.old.scan ≡ false }
         requires peers_clone { (x y : P) → P.is_clone x y → y ≡ x }
         ensures ok { OnOk result
             (self.new ≡ calls.add_targets (orders K.cmp P.cmp) key peers self.old) }
         ensures err { OnErr result (self.new ≡ self.old) }
         ensures only { IfErr result (λ fault. fault ≡ OutOfMemory) }
     {
-        self.trying = None;
         join_targets(self.alloc, &mut self.targets, key, peers.into_vec())?;
         self.pending.wake();
         Ok(())
@@ -286,18 +313,20 @@ impl<K: Ord + Drop, P: Ord + Drop> Fetcher<K, P> {
 
     /// Any peer may be asked for this key.
     pub fn clear_targets(&mut self, key: &K)
+        requires closed { is_some self.old.scan ≡ false }
         ensures { self.new ≡ calls.clear_targets (orders K.cmp P.cmp) key.now self.old }
     {
-        self.trying = None;
         self.targets.remove(key);
         self.pending.wake();
     }
 
     /// Forgets the targets and the retries of a key.
     pub fn clear(&mut self, key: &K)
+        requires closed { is_some self.old.scan ≡ false }
+        requires not_waiting { has_item K.cmp self.old.waiting key.now ≡ false }
+        requires not_asked { is_asked K.cmp self.old.asked key.now ≡ false }
         ensures { self.new ≡ calls.clear (orders K.cmp P.cmp) key.now self.old }
     {
-        self.trying = None;
         self.targets.remove(key);
         self.retries.remove(key);
     }
@@ -305,11 +334,11 @@ impl<K: Ord + Drop, P: Ord + Drop> Fetcher<K, P> {
     /// Forgets the keys that aren't kept, in whatever phase they are. `keep` is pure. It takes time
     /// linear in what there is of keys, times a logarithm.
     pub fn retain<F: Fn(&K) -> bool>(&mut self, keep: F)
-        requires { F.IsAlwaysCallable keep }
+        requires closed { is_some self.old.scan ≡ false }
+        requires callable { F.IsAlwaysCallable keep }
         ensures { (test : K → Bool) → AnswersBy F.Fn keep test
             → self.new ≡ calls.retain (orders K.cmp P.cmp) test self.old }
     {
-        self.trying = None;
         self.pending.retain(
             |key| -> bool
                 requires { F.IsAlwaysCallable keep }
@@ -341,21 +370,22 @@ impl<K: Ord + Drop, P: Ord + Drop> Fetcher<K, P> {
     /// Takes in that a peer's useful response took `elapsed` nanoseconds and had `bytes` bytes. A
     /// peer that isn't in the latest set is passed over.
     pub fn record_response(&mut self, peer: &P, elapsed: u128, bytes: u64)
+        requires closed { is_some self.old.scan ≡ false }
         ensures { self.new
             ≡ calls.record_response (orders K.cmp P.cmp) peer.now elapsed bytes self.old }
     {
-        self.trying = None;
         self.peers.record(peer, elapsed, bytes);
     }
 
     /// Takes out the request whose time is over first, if it is over now, and charges its peer.
     /// Of equal deadlines the smaller id comes first.
     pub fn pop_active(&mut self, now: u128) -> Option<K>
-        requires { now < 2 ^ 94 }
-        ensures { (result, self.new) ≡ calls.pop_active (orders K.cmp P.cmp) now self.old }
+        requires closed { is_some self.old.scan ≡ false }
+        requires moment { now < 2 ^ 94 }
+        ensures popped { (result, self.new) ≡ calls.pop_active (orders K.cmp P.cmp) now self.old }
+        ensures idle { IfSome result (calls.IsIdle (orders K.cmp P.cmp) self.new) }
     {
         let request = self.requests.take_overdue(now)?;
-        self.trying = None;
         let time = charged(self.fetch_timeout, self.retry_delay);
         self.peers.record(&request.peer, time, 0);
         Some(request.key)
@@ -364,9 +394,12 @@ impl<K: Ord + Drop, P: Ord + Drop> Fetcher<K, P> {
     /// Takes out the request that a response of this peer under this id answers, and says how long
     /// it took. Where there is none, nothing changes.
     pub fn pop_response(&mut self, id: ID, peer: &P, now: u128) -> Option<(K, u128)>
-        requires { now < 2 ^ 94 }
-        ensures { (result, self.new)
+        requires closed { is_some self.old.scan ≡ false }
+        requires moment { now < 2 ^ 94 }
+        ensures popped { (result, self.new)
             ≡ calls.pop_response (orders K.cmp P.cmp) id peer.now now self.old }
+        ensures idle { IfSome result
+            (λ popped. calls.IsIdle (orders K.cmp P.cmp) self.new popped.0) }
     {
         let request = self.requests.take_matching(id, peer)?;
         Some((request.key, elapsed_since(request.start, now)))
@@ -375,12 +408,13 @@ impl<K: Ord + Drop, P: Ord + Drop> Fetcher<K, P> {
     /// Takes out the request that a peer answers without data, and charges the peer. Where there
     /// is none, nothing changes.
     pub fn pop_missing(&mut self, id: ID, peer: &P, now: u128) -> Option<K>
-        requires { now < 2 ^ 94 }
-        ensures { (result, self.new)
+        requires closed { is_some self.old.scan ≡ false }
+        requires moment { now < 2 ^ 94 }
+        ensures popped { (result, self.new)
             ≡ calls.pop_missing (orders K.cmp P.cmp) id peer.now now self.old }
+        ensures idle { IfSome result (calls.IsIdle (orders K.cmp P.cmp) self.new) }
     {
         let request = self.requests.take_matching(id, peer)?;
-        self.trying = None;
         let time = charged(elapsed_since(request.start, now), self.retry_delay);
         self.peers.record(&request.peer, time, 0);
         Some(request.key)

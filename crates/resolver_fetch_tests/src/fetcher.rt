@@ -56,6 +56,10 @@ enum Call<'a> {
     Weight(u8),
     /// May a key be asked of some peers only?
     HasTargets(u8),
+    /// Where does a key wait, and under which id is it asked for?
+    Phase(u8),
+    /// What are the targets of a key?
+    TargetsOf(u8),
     /// Does key 1 wait, how many requests are there, and is a scan open?
     Counts,
 }
@@ -90,6 +94,10 @@ enum Seen {
     Answered(Option<(u8, u128)>),
     /// Whether it is so.
     Is(bool),
+    /// When a key that waits is due and whether it is tried again, or its request's id and peer.
+    Phase(Option<(u128, bool)>, Option<(ID, u8)>),
+    /// How many targets there are, and the last.
+    Last(Option<(usize, u8)>),
     /// What is told of key 1, the requests and the scan.
     Counts(bool, usize, bool),
 }
@@ -138,22 +146,32 @@ fn peers_of(alloc: Global, names: &[u8]) -> Result<Vec<u8>, Fault> {
 }
 
 // What a test does and sees goes through calls that promise nothing, so that their callers are
-// proved without what a fetcher is.
+// proved without what a fetcher is. One that a fetcher may not be given now ends the test.
 
 type Node = Fetcher<u8, u8>;
 
 /// Takes these peers in place of the latest set.
 fn set_peers(alloc: Global, fetcher: &mut Node, names: &[u8]) -> Result<(), Fault> {
-    fetcher.reconcile(peers_of(alloc, names)?)
+    let peers = peers_of(alloc, names)?;
+    if fetcher.is_scanning() {
+        return Err(Fault::Unasked);
+    }
+    fetcher.reconcile(peers)
 }
 
 /// A key waits from now on.
 fn add_ready(fetcher: &mut Node, key: u8, at: u64) -> Result<(), Fault> {
+    if fetcher.is_scanning() || fetcher.is_waiting(&key) || fetcher.is_asked(&key) {
+        return Err(Fault::Unasked);
+    }
     fetcher.add_ready(key, u128::from(at))
 }
 
 /// A key waits to be tried again.
 fn add_retry(fetcher: &mut Node, key: u8, at: u64) -> Result<(), Fault> {
+    if fetcher.is_scanning() || fetcher.is_waiting(&key) || fetcher.is_asked(&key) {
+        return Err(Fault::Unasked);
+    }
     fetcher.add_retry(key, u128::from(at))
 }
 
@@ -162,19 +180,27 @@ fn add_targets(alloc: Global, fetcher: &mut Node, key: u8, names: &[u8]) -> Resu
     let Ok(targets) = NonEmptyVec::try_from(peers_of(alloc, names)?) else {
         return Ok(());
     };
+    if fetcher.is_scanning() {
+        return Err(Fault::Unasked);
+    }
     fetcher.add_targets(key, targets)
 }
 
 /// Takes in so many responses of peer 4.
 fn recorded(fetcher: &mut Node, count: u8, elapsed: u128, bytes: u64) -> Seen {
     for _ in 0..count {
-        fetcher.record_response(&4, elapsed, bytes);
+        if !fetcher.is_scanning() {
+            fetcher.record_response(&4, elapsed, bytes);
+        }
     }
     Seen::Done
 }
 
 /// Begins a scan.
 fn begun(fetcher: &mut Node, at: u64) -> Result<Option<Ask<u8, u8>>, Fault> {
+    if fetcher.is_scanning() {
+        return Err(Fault::Unasked);
+    }
     fetcher.scan_begin(u128::from(at))
 }
 
@@ -185,11 +211,17 @@ fn answered(fetcher: &mut Node, answer: Answer) -> Result<Option<Ask<u8, u8>>, F
 
 /// A response of this peer under the id 5.
 fn pop_response(fetcher: &mut Node, peer: u8, at: u64) -> Option<(u8, u128)> {
+    if fetcher.is_scanning() {
+        return None;
+    }
     fetcher.pop_response(5, &peer, u128::from(at))
 }
 
 /// Word of peer 4 under the id 5 that the data is missing.
 fn pop_missing(fetcher: &mut Node, at: u64) -> Option<u8> {
+    if fetcher.is_scanning() {
+        return None;
+    }
     fetcher.pop_missing(5, &4, u128::from(at))
 }
 
@@ -197,6 +229,9 @@ fn pop_missing(fetcher: &mut Node, at: u64) -> Option<u8> {
 fn pop_active(fetcher: &mut Node, now: u128) -> Option<u8>
     requires { now < 2 ^ 94 }
 {
+    if fetcher.is_scanning() {
+        return None;
+    }
     fetcher.pop_active(now)
 }
 
@@ -218,6 +253,22 @@ fn weight(fetcher: &Node, peer: u8) -> Option<u64> {
 /// Whether a key may be asked of some peers only.
 fn has_targets(fetcher: &Node, key: u8) -> bool {
     fetcher.has_targets(&key)
+}
+
+/// Where a key waits, and under which id it is asked for.
+fn phase(fetcher: &Node, key: u8) -> Seen {
+    let waits = fetcher.place(&key).map(|place| (place.due, place.is_retry));
+    let asks = fetcher
+        .request(&key)
+        .map(|(id, request)| (id, request.peer));
+    Seen::Phase(waits, asks)
+}
+
+/// How many targets a key has, and the last.
+fn last_target(fetcher: &Node, key: u8) -> Option<(usize, u8)> {
+    let targets = fetcher.targets(&key)?;
+    let last = targets.last()?;
+    Some((targets.len(), *last))
 }
 
 /// Whether key 1 waits, how many requests there are, and whether a scan is open.
@@ -263,6 +314,8 @@ fn made(alloc: Global, fetcher: &mut Node, call: Call) -> Result<Seen, Fault> {
         Call::WakeUp => Ok(Seen::At(wake_up(fetcher))),
         Call::Deadline => Ok(Seen::At(deadline(fetcher))),
         Call::Weight(peer) => Ok(Seen::Weight(weight(fetcher, peer))),
+        Call::Phase(key) => Ok(phase(fetcher, key)),
+        Call::TargetsOf(key) => Ok(Seen::Last(last_target(fetcher, key))),
         Call::HasTargets(key) => Ok(Seen::Is(has_targets(fetcher, key))),
         Call::Counts => Ok(counts(fetcher)),
     }
@@ -332,6 +385,51 @@ fn fetcher_first_request(rt: HostRuntime) -> Result<(), Fail> {
         ),
     ];
     asks_first(&rt, rt.alloc(), &calls)?;
+    Ok(())
+}
+
+#[test]
+fn a_second_request(rt: HostRuntime) -> Result<(), Fail> {
+    let request = Seen::Request {
+        peer: 4,
+        id: 6,
+        key: 2,
+        priority: false,
+    };
+    let calls = [
+        (Call::Phase(1), Seen::Phase(None, Some((5, 4)))),
+        (Call::Ready { key: 2, at: 40 }, Seen::Done),
+        (Call::Phase(2), Seen::Phase(Some((40, false)), None)),
+        (Call::Retry { key: 3, at: 40 }, Seen::Done),
+        (Call::Phase(3), Seen::Phase(Some((50, true)), None)),
+        (Call::Begin(40), Seen::Draw(4)),
+        (Call::Answer(Drawn(0)), Seen::Draw(1)),
+        (Call::Answer(Drawn(0)), Seen::Check(4)),
+        (Call::Answer(Checked(Check::Clear)), request),
+        (Call::Answer(Sent(true)), Seen::Over),
+        (Call::Phase(2), Seen::Phase(None, Some((6, 4)))),
+        (
+            Call::Response { peer: 4, at: 50 },
+            Seen::Answered(Some((1, 20))),
+        ),
+        (Call::Phase(1), Seen::Phase(None, None)),
+    ];
+    asks_first(&rt, rt.alloc(), &calls)?;
+    Ok(())
+}
+
+#[test]
+fn targets_of_each_length(rt: HostRuntime) -> Result<(), Fail> {
+    let calls = [
+        (Call::TargetsOf(1), Seen::Last(None)),
+        (Call::Targets(1, &[7]), Seen::Done),
+        (Call::TargetsOf(1), Seen::Last(Some((1, 7)))),
+        (Call::Targets(2, &[5, 2, 9]), Seen::Done),
+        (Call::TargetsOf(2), Seen::Last(Some((3, 9)))),
+        (Call::Targets(1, &[6]), Seen::Done),
+        (Call::TargetsOf(1), Seen::Last(Some((2, 6)))),
+    ];
+    goes(&rt, rt.alloc(), &calls)?;
     Ok(())
 }
 
@@ -551,6 +649,9 @@ type Many = Fetcher<u16, u8>;
 
 /// A key of many waits from 10 on.
 fn waits(fetcher: &mut Many, key: u16) -> Result<(), Fault> {
+    if fetcher.is_scanning() || fetcher.is_waiting(&key) || fetcher.is_asked(&key) {
+        return Err(Fault::Unasked);
+    }
     fetcher.add_ready(key, 10)
 }
 
@@ -564,6 +665,9 @@ fn waits_each(fetcher: &mut Many, count: u16) -> Result<(), Fault> {
 
 /// Begins a scan of many keys.
 fn begins_many(fetcher: &mut Many) -> Result<Option<Ask<u16, u8>>, Fault> {
+    if fetcher.is_scanning() {
+        return Err(Fault::Unasked);
+    }
     fetcher.scan_begin(10)
 }
 
@@ -595,10 +699,19 @@ fn wake_up_many(fetcher: &Many) -> Option<u128> {
     fetcher.get_pending_deadline()
 }
 
+/// Peer 4 comes.
+fn has_peer(alloc: Global, fetcher: &mut Many) -> Result<(), Fault> {
+    let peers = peers_of(alloc, &[4])?;
+    if fetcher.is_scanning() {
+        return Err(Fault::Unasked);
+    }
+    fetcher.reconcile(peers)
+}
+
 /// So many keys of one peer wait, and each is tried once.
 fn tries_each(rt: &impl Abort, alloc: Global, count: u16) -> Result<Option<u128>, Fault> {
     let mut fetcher = Fetcher::new(alloc, config());
-    fetcher.reconcile(peers_of(alloc, &[4])?)?;
+    has_peer(alloc, &mut fetcher)?;
     waits_each(&mut fetcher, count)?;
     limits_each(rt, &mut fetcher, count)?;
     Ok(wake_up_many(&fetcher))

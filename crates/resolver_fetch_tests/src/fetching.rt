@@ -158,7 +158,7 @@ fn config() -> Config<Peer>
 type Node = Fetcher<Key, Peer>;
 
 // What a test does and sees goes through calls that promise nothing, so that their callers are
-// proved without what a fetcher is.
+// proved without what a fetcher is. One that a fetcher may not be given now ends the test.
 
 /// These peers.
 fn named(alloc: Global, names: &[u8]) -> Result<Vec<Peer>, Fault> {
@@ -171,27 +171,45 @@ fn named(alloc: Global, names: &[u8]) -> Result<Vec<Peer>, Fault> {
 
 /// Takes these peers in place of the latest set.
 fn set_peers(alloc: Global, fetcher: &mut Node, names: &[u8]) -> Result<(), Fault> {
-    fetcher.reconcile(named(alloc, names)?)
+    let peers = named(alloc, names)?;
+    if fetcher.is_scanning() {
+        return Err(Fault::Unasked);
+    }
+    fetcher.reconcile(peers)
 }
 
 /// Takes these peers as the ones that are blocked.
 fn set_blocked(alloc: Global, fetcher: &mut Node, names: &[u8]) -> Result<(), Fault> {
-    fetcher.set_blocked(named(alloc, names)?)
+    let peers = named(alloc, names)?;
+    if fetcher.is_scanning() {
+        return Err(Fault::Unasked);
+    }
+    fetcher.set_blocked(peers)
 }
 
 /// The key waits from now on.
 fn add_ready(fetcher: &mut Node, at: u64) -> Result<(), Fault> {
+    if fetcher.is_scanning() || fetcher.is_waiting(&KEY) || fetcher.is_asked(&KEY) {
+        return Err(Fault::Unasked);
+    }
     fetcher.add_ready(KEY, u128::from(at))
 }
 
 /// The key waits to be tried again.
 fn add_retry(fetcher: &mut Node, at: u64) -> Result<(), Fault> {
+    if fetcher.is_scanning() || fetcher.is_waiting(&KEY) || fetcher.is_asked(&KEY) {
+        return Err(Fault::Unasked);
+    }
     fetcher.add_retry(KEY, u128::from(at))
 }
 
 /// The key may be asked of this peer alone.
 fn add_target(alloc: Global, fetcher: &mut Node, name: u8) -> Result<(), Fault> {
-    fetcher.add_targets(KEY, NonEmptyVec::new(alloc, Peer(name))?)
+    let targets = NonEmptyVec::new(alloc, Peer(name))?;
+    if fetcher.is_scanning() {
+        return Err(Fault::Unasked);
+    }
+    fetcher.add_targets(KEY, targets)
 }
 
 /// Fetches. The calls are these, and no others.
@@ -201,6 +219,9 @@ fn fetch(
     numbers: &mut Numbers,
     at: u64,
 ) -> Result<(), Fault> {
+    if fetcher.is_scanning() {
+        return Err(Fault::Unasked);
+    }
     fetcher.fetch(network, numbers, u128::from(at))
 }
 
@@ -234,18 +255,21 @@ fn is_scanning(fetcher: &Node) -> bool {
 
 /// How long the request took that a response of this peer answers.
 fn pop_response(fetcher: &mut Node, id: ID, peer: u8, at: u64) -> Option<u128> {
+    if fetcher.is_scanning() {
+        return None;
+    }
     let (key, elapsed) = fetcher.pop_response(id, &Peer(peer), u128::from(at))?;
     if key == KEY { Some(elapsed) } else { None }
 }
 
 /// Whether this peer answers a request for the key without data.
 fn pop_missing(fetcher: &mut Node, id: ID, peer: u8, at: u64) -> bool {
-    fetcher.pop_missing(id, &Peer(peer), u128::from(at)) == Some(KEY)
+    !fetcher.is_scanning() && fetcher.pop_missing(id, &Peer(peer), u128::from(at)) == Some(KEY)
 }
 
 /// Whether the time of a request for the key is over.
 fn pop_active(fetcher: &mut Node, at: u64) -> bool {
-    fetcher.pop_active(u128::from(at)) == Some(KEY)
+    !fetcher.is_scanning() && fetcher.pop_active(u128::from(at)) == Some(KEY)
 }
 
 /// When a scan may do something, and when a request is over.

@@ -15,3 +15,5 @@ pub mod Takes
 pub mod Soonest
 pub mod Timed
 pub mod NextIds
+pub mod NewIds
+pub mod Names

@@ -1,8 +1,8 @@
-//! The requests without an answer, by their ids and by when their time is over.
+//! The requests without an answer, by their ids, by when their time is over, and by their keys.
 
 pub mod request;
 
-ghost use Rattle.std.specs.Prelude.{◌≡◌, ◌≤◌, ℕ, Bool, None, Some, [], filter, is_some, length, IfErr, IfNone, IfOk, IfSome, OnErr, OnOk};
+ghost use Rattle.std.specs.Prelude.{◌≡◌, ◌≤◌, ℕ, Bool, false, None, Some, [], filter, is_some, length, IfErr, IfNone, IfOk, IfSome, OnErr, OnOk};
 ghost use Rattle.std.specs.BTreeMap.{insert_entry};
 ghost use Rattle.std.specs.Fn.{FnReturnsAt};
 ghost use Rattle.std.specs.Option.{option_copied, option_map};
@@ -10,8 +10,8 @@ ghost use Rattle.std.specs.Ordering.{nat_cmp};
 ghost use Rattle.resolver_base.specs.Answering.{AnswersBy};
 ghost use Rattle.resolver_base.specs.declared.base.fault.Fault.TheVariants.{OutOfMemory};
 ghost use Rattle.resolver_request.specs.declared.requests.request.Request.{Request};
-ghost use Rattle.resolver_request.specs.Ids.{next_id};
-ghost use Rattle.resolver_request.specs.Requests.{request_of, soonest, taken_matching, taken_overdue, without_request};
+ghost use Rattle.resolver_request.specs.Ids.{is_held, next_id};
+ghost use Rattle.resolver_request.specs.Requests.{IsTaken, ids_of, is_asked, request_for, request_of, soonest, taken_matching, taken_overdue, without_request};
 
 pub use request::{ID, Request};
 use resolver_base::base::{Fault, PrioritySet};
@@ -23,25 +23,28 @@ use std::marker::Model;
 ///
 /// A call on one request takes time logarithmic in their number.
 #[derive(Debug, Drop)]
-pub struct Requests<K, P> {
+pub struct Requests<K: Ord, P> {
     by_id: BTreeMap<ID, Request<K, P>>,
     /// The same ids, by their deadlines.
     deadlines: PrioritySet<ID, u128>,
+    /// The same ids, by the keys that are asked for.
+    by_key: BTreeMap<K, ID>,
 }
 
-impl<K, P> Model for Requests<K, P> {
+impl<K: Ord, P> Model for Requests<K, P> {
     ghost use Rattle.std.specs.Prelude.{List, ℕ};
     ghost use Rattle.resolver_request.specs.declared.requests.request.Request.{Request};
-    ghost use Rattle.resolver_request.specs.Requests.{AreTimed};
+    ghost use Rattle.resolver_request.specs.Requests.{AreNamed, AreTimed};
 
     ghost Value = { List (ℕ × Request K P) };
 
     ghost view = { λ a. a.by_id.entries };
 
-    ghost invariant = { λ a. AreTimed a.by_id.entries a.deadlines };
+    ghost invariant = { λ a. AreTimed a.by_id.entries a.deadlines
+        × AreNamed K.cmp a.by_id.entries a.by_key.entries };
 }
 
-impl<K: Drop, P: Drop> Requests<K, P> {
+impl<K: Ord + Drop, P: Drop> Requests<K, P> {
     /// No requests.
     pub fn new(alloc: Global) -> Self
         ensures { result ≡ [] }
@@ -49,6 +52,7 @@ impl<K: Drop, P: Drop> Requests<K, P> {
         Requests {
             by_id: BTreeMap::new(alloc),
             deadlines: PrioritySet::new(alloc),
+            by_key: BTreeMap::new(alloc),
         }
     }
 
@@ -66,15 +70,46 @@ impl<K: Drop, P: Drop> Requests<K, P> {
         self.by_id.get(&id)
     }
 
+    /// Whether a request is for this key.
+    pub fn is_asked(&self, key: &K) -> bool
+        ensures { result ≡ is_asked K.cmp self.now key.now }
+    {
+        self.by_key.contains_key(key)
+    }
+
+    /// The request for a key, with its id.
+    pub fn get_for(&self, key: &K) -> Option<(ID, &Request<K, P>)>
+        ensures value { option_map (λ r. (r.0, r.1.now)) result
+            ≡ request_for K.cmp self.now key.now }
+        ensures once { length (ids_of K.cmp self.now key.now) ≤ 1 }
+    {
+        let id = self.by_key.get(key)?;
+        let request = self.by_id.get(id)?;
+        Some((*id, request))
+    }
+
     /// Puts a request at its place. Where memory is wanting, nothing changes.
+    ///
+    /// The key is cloned; clones are to equal their sources.
     pub fn insert(&mut self, id: ID, request: Request<K, P>) -> Result<(), Fault>
+    where
+        K: Clone,
+        requires keys_clone { (x y : K) → K.is_clone x y → y ≡ x }
+        requires new_id { is_held self.old id ≡ false }
+        requires new_key { is_asked K.cmp self.old request.key ≡ false }
         ensures ok { OnOk result (self.new ≡ insert_entry nat_cmp self.old id request) }
         ensures err { OnErr result (self.new ≡ self.old) }
         ensures only { IfErr result (λ fault. fault ≡ OutOfMemory) }
     {
-        self.deadlines.put(id, request.deadline)?;
-        if let Err(_refused) = self.by_id.insert(id, request) {
+        let key = request.key.clone()?;
+        self.by_key.insert(key, id)?;
+        if let Err(fault) = self.deadlines.put(id, request.deadline) {
+            self.by_key.remove(&request.key);
+            return Err(fault);
+        }
+        if let Err(refused) = self.by_id.insert(id, request) {
             self.deadlines.remove(&id);
+            self.by_key.remove(&refused.value.1.key);
             return Err(Fault::OutOfMemory);
         }
         Ok(())
@@ -86,14 +121,19 @@ impl<K: Drop, P: Drop> Requests<K, P> {
         ensures after { self.new ≡ without_request id self.old }
     {
         self.deadlines.remove(&id);
-        self.by_id.remove(&id)
+        let request = self.by_id.remove(&id)?;
+        self.by_key.remove(&request.key);
+        Some(request)
     }
 
     /// Lets the requests go whose keys aren't kept. `keep` is pure.
     pub fn retain<F: Fn(&K) -> bool>(&mut self, keep: F)
         requires { F.IsAlwaysCallable keep }
-        ensures { (test : K → Bool) → AnswersBy F.Fn keep test
+        ensures kept { (test : K → Bool) → AnswersBy F.Fn keep test
             → self.new ≡ filter (λ r. test r.1.key) self.old }
+        ensures fewer { (key : K)
+            → length (ids_of K.cmp self.new key) ≤ length (ids_of K.cmp self.old key) }
+        ensures none { self.old ≡ [] → self.new ≡ [] }
     {
         self.by_id.retain(
             |_, request| -> bool
@@ -104,6 +144,7 @@ impl<K: Drop, P: Drop> Requests<K, P> {
         );
         let by_id = &self.by_id;
         self.deadlines.retain(|id| by_id.contains_key(id));
+        self.by_key.retain(|_, id| by_id.contains_key(&*id));
     }
 
     /// The moment at which the time of a request is over next, if there is a request.
@@ -116,7 +157,8 @@ impl<K: Drop, P: Drop> Requests<K, P> {
 
     /// Takes out the request whose time is over first, if it is over now.
     pub fn take_overdue(&mut self, now: u128) -> Option<Request<K, P>>
-        ensures { (result, self.new) ≡ taken_overdue self.old now }
+        ensures taken { (result, self.new) ≡ taken_overdue self.old now }
+        ensures out { IfSome result (IsTaken self.old self.new) }
     {
         let (id, deadline) = self.first()?;
         if deadline <= now {
@@ -127,9 +169,10 @@ impl<K: Drop, P: Drop> Requests<K, P> {
     }
 
     /// The id that follows the last one, past those that a request has. It takes a look-up more
-    /// for each id that it passes.
+    /// for each id that it passes. No request has it: there are always fewer requests than ids.
     pub fn next_id(&self, last: ID) -> ID
-        ensures { result ≡ next_id self.now last }
+        ensures value { result ≡ next_id self.now last }
+        ensures free { is_held self.now result ≡ false }
     {
         let mut id = last;
         for _tried in 0..self.by_id.len() {
@@ -152,10 +195,11 @@ impl<K: Drop, P: Drop> Requests<K, P> {
     }
 }
 
-impl<K: Drop, P: Ord + Drop> Requests<K, P> {
+impl<K: Ord + Drop, P: Ord + Drop> Requests<K, P> {
     /// Takes out the request of this id, if it went to this peer.
     pub fn take_matching(&mut self, id: ID, peer: &P) -> Option<Request<K, P>>
-        ensures { (result, self.new) ≡ taken_matching P.cmp self.old id peer.now }
+        ensures taken { (result, self.new) ≡ taken_matching P.cmp self.old id peer.now }
+        ensures out { IfSome result (IsTaken self.old self.new) }
     {
         let request = self.by_id.get(&id)?;
         if peer.cmp(&request.peer).is_eq() {

@@ -1,25 +1,36 @@
-//! Requests by their ids and by their deadlines.
+//! Requests by their ids, by their deadlines and by their keys.
 
 use resolver_base::base::Fault;
 use resolver_request::requests::{ID, Request, Requests};
 use std::alloc::Global;
 use std::test::Fail;
 
-/// A request for key 1 of peer 4, sent at 0, whose time is over then.
-fn until(deadline: u128) -> Request<u8, u8> {
+type Asked = Requests<u64, u8>;
+
+/// A request for a key of peer 4, sent at 0, whose time is over then.
+fn until(key: u64, deadline: u128) -> Request<u64, u8> {
     Request {
-        key: 1,
+        key,
         peer: 4,
         start: 0,
         deadline,
     }
 }
 
-/// Requests of these ids, each with its deadline.
-fn asked(alloc: Global, ids: &[(ID, u128)]) -> Result<Requests<u8, u8>, Fault> {
+/// Puts a request under its key's number, unless there is one of this number.
+fn put(requests: &mut Asked, id: ID, deadline: u128) -> Result<(), Fault> {
+    let request = until(id, deadline);
+    if requests.get(id).is_none() && !requests.is_asked(&request.key) {
+        requests.insert(id, request)?;
+    }
+    Ok(())
+}
+
+/// Requests of these ids, each for the key of its number, and with its deadline.
+fn asked(alloc: Global, ids: &[(ID, u128)]) -> Result<Asked, Fault> {
     let mut requests = Requests::new(alloc);
     for (id, deadline) in ids {
-        requests.insert(*id, until(*deadline))?;
+        put(&mut requests, *id, *deadline)?;
     }
     Ok(requests)
 }
@@ -81,12 +92,41 @@ fn let_go(alloc: Global) -> Result<(usize, Option<u128>, bool, usize), Fault> {
     let is_removed = requests.remove(5).is_some() && requests.get(5).is_none();
     let len = requests.len();
     let deadline = requests.deadline();
-    requests.retain(|key| *key != 1);
+    requests.retain(|key| *key != 6);
     Ok((len, deadline, is_removed, requests.len()))
 }
 
 #[test]
 fn requests_are_let_go(rt: HostRuntime) -> Result<(), Fail> {
     assert_eq!(rt; let_go(rt.alloc())?, (1, Some(20), true, 0));
+    Ok(())
+}
+
+/// Under which id a key is asked for, and until when.
+fn asked_for(requests: &Asked, key: u64) -> Option<(ID, u128)> {
+    let (id, request) = requests.get_for(&key)?;
+    Some((id, request.deadline))
+}
+
+/// The requests for three keys of two, before and after an answer under the id 5.
+fn by_key(alloc: Global) -> Result<[Option<(ID, u128)>; 4], Fault> {
+    let mut requests = asked(alloc, &[(5, 10), (6, 20)])?;
+    let five = asked_for(&requests, 5);
+    let seven = asked_for(&requests, 7);
+    requests.remove(5);
+    Ok([
+        five,
+        seven,
+        asked_for(&requests, 5),
+        asked_for(&requests, 6),
+    ])
+}
+
+#[test]
+fn a_key_is_asked_for_under_its_id(rt: HostRuntime) -> Result<(), Fail> {
+    assert_eq!(rt;
+        by_key(rt.alloc())?,
+        [Some((5, 10)), None, None, Some((6, 20))]
+    );
     Ok(())
 }

@@ -6,6 +6,7 @@ ghost use Rattle.std.specs.Fn.{FnReturnsAt};
 ghost use Rattle.std.specs.List.Sorted.{IsStrictlySortedBy};
 ghost use Rattle.std.specs.Map.{lookup};
 ghost use Rattle.std.specs.Map.Iter.{ShowsInOrder, deref};
+ghost use Rattle.std.specs.Option.{option_copied};
 ghost use Rattle.resolver_base.specs.Answering.{AnswersBy};
 ghost use Rattle.resolver_base.specs.Priorities.{IsIndexed, after, from, has_item, indexed, listed, pair_order, priorities_of, put, retained, without};
 ghost use Rattle.resolver_base.specs.declared.base.fault.Fault.TheVariants.{OutOfMemory};
@@ -65,6 +66,13 @@ impl<I: Ord, R: Ord> PrioritySet<I, R> {
         ensures { result ≡ has_item I.cmp self.now item.now }
     {
         self.priorities.contains_key(item)
+    }
+
+    /// The priority of this item, if it is there.
+    pub fn get(&self, item: &I) -> Option<&R>
+        ensures { listed (option_copied result) ≡ priorities_of I.cmp self.now item.now }
+    {
+        self.priorities.get(item)
     }
 
     /// How many items there are.

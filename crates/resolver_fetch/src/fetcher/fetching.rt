@@ -1,6 +1,6 @@
 //! A whole scan, with a sender and draws that are lent to it.
 
-ghost use Rattle.std.specs.Prelude.{◌≡◌, ◌<◌, ◌^◌, Some, None, IfErr, IfOk, OnErr, OnOk};
+ghost use Rattle.std.specs.Prelude.{◌≡◌, ◌<◌, ◌^◌, false, Some, None, is_some, IfErr, IfOk, OnErr, OnOk};
 ghost use Rattle.resolver_base.specs.declared.base.fault.Fault.TheVariants.{OutOfMemory};
 ghost use Rattle.resolver_fetch.specs.Fetcher.{question};
 ghost use Rattle.resolver_fetch.specs.Fetching.{Fetches, GoesOn, MaySay, Says, Stops, TakesOne, Wants, given_up, lent, outside, request_of};
@@ -15,7 +15,7 @@ use resolver_request::wire::{Message, Payload};
 use std::alloc::{AllocError, Global};
 
 impl<K: Span + Drop, P: PublicKey + Drop> Fetcher<K, P> {
-    /// Begins a scan at this moment, and answers what it asks from `draws` and `sender`, until it
+    /// Begins a scan at this moment, where none is open, and answers what it asks from `draws` and `sender`, until it
     /// is over: a request is on its way, or every peer that may be asked for a due key was tried
     /// in vain.
     ///
@@ -34,6 +34,7 @@ impl<K: Span + Drop, P: PublicKey + Drop> Fetcher<K, P> {
     ) -> Result<(), Fault>
     where
         requires moment { now < 2 ^ 94 }
+        requires closed { is_some self.old.scan ≡ false }
         requires keys_clone { (x y : K) → K.is_clone x y → y ≡ x }
         requires peers_clone { (x y : P) → P.is_clone x y → y ≡ x }
         ensures ok { OnOk result (Fetches (orders K.cmp P.cmp)
@@ -118,9 +119,7 @@ impl<K: Span + Drop, P: PublicKey + Drop> Fetcher<K, P> {
     fn give_up(&mut self)
         ensures { self.new ≡ given_up self.old }
     {
-        self.trying = None;
-        self.trail.clear();
-        self.expects = None;
+        self.cursor = None;
         self.pending.wake();
     }
 }

@@ -1,9 +1,9 @@
 //! The keys that wait.
 
-ghost use Rattle.std.specs.Prelude.{◌≡◌, ℕ, Bool, [], Some, IfErr, IsSome, OnErr, OnOk, option_map};
+ghost use Rattle.std.specs.Prelude.{◌≡◌, ◌≤◌, ℕ, Bool, length, [], Some, IfErr, IsSome, OnErr, OnOk, option_map};
 ghost use Rattle.std.specs.List.Sorted.{IsStrictlySortedBy};
 ghost use Rattle.resolver_base.specs.Answering.{AnswersBy};
-ghost use Rattle.resolver_base.specs.Priorities.{pair_order};
+ghost use Rattle.resolver_base.specs.Priorities.{pair_order, priorities_of};
 ghost use Rattle.resolver_base.specs.declared.base.fault.Fault.TheVariants.{OutOfMemory};
 ghost use Rattle.resolver_fetch.specs.Pending.{IsBound, asleep, awake, due_behind, later_due, raised, with_kept, with_key, with_keys, without_key};
 ghost use Rattle.resolver_fetch.specs.Waiting.{fresh_at, place_order, retry_at, wake_up};
@@ -119,8 +119,10 @@ impl<K: Ord + Drop> Pending<K> {
     /// Lets the keys go that aren't kept. `keep` is pure.
     pub(super) fn retain<F: Fn(&K) -> bool>(&mut self, keep: F)
         requires { F.IsAlwaysCallable keep }
-        ensures { (test : K → Bool) → AnswersBy F.Fn keep test
+        ensures kept { (test : K → Bool) → AnswersBy F.Fn keep test
             → self.new ≡ with_kept test self.old }
+        ensures fewer { (key : K) → length (priorities_of K.cmp self.new.keys key)
+            ≤ length (priorities_of K.cmp self.old.keys key) }
     {
         self.keys.retain(keep);
         self.waiter = Waiter::Clear;

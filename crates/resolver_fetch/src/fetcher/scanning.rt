@@ -1,29 +1,36 @@
 //! The scans of a fetcher.
 
-ghost use Rattle.std.specs.Prelude.{◌≡◌, ◌≢◌, ◌<◌, ◌^◌, Ok, Err, Some, None, length, IfErr, IfOk, IsSome, OnErr, OnOk};
+ghost use Rattle.std.specs.Prelude.{◌≡◌, ◌≢◌, ◌+◌, ◌<◌, ◌^◌, true, false, Ok, Err, Some, None, [], is_some, IfErr, IfOk, OnErr, OnOk};
+ghost use Rattle.std.specs.BTreeMap.{insert_entry};
 ghost use Rattle.std.specs.List.Sorted.{IsStrictlySortedBy};
 ghost use Rattle.std.specs.Map.Iter.{ShowsInOrder, deref};
 ghost use Rattle.resolver_base.specs.Priorities.{from, pair_order};
 ghost use Rattle.resolver_base.specs.declared.base.fault.Fault.TheVariants.{OutOfMemory};
 ghost use Rattle.resolver_fetch.specs.declared.fetcher.step.Step.TheVariants.{Accept, Clear, Fail};
 ghost use Rattle.resolver_fetch.specs.Fetcher as calls;
-ghost use Rattle.resolver_fetch.specs.Fetcher.{question};
+ghost use Rattle.std.specs.Ordering.{nat_cmp};
+ghost use Rattle.resolver_request.specs.Ids.{is_held};
+ghost use Rattle.resolver_request.specs.Requests.{is_asked};
+ghost use Rattle.resolver_fetch.specs.Cursor.{ExpectsNewId, IsRight, TakesNewId, opened, scan_of};
+ghost use Rattle.resolver_fetch.specs.Fetcher.{AsksNewId, question};
 ghost use Rattle.resolver_fetch.specs.Orders.{orders};
 ghost use Rattle.resolver_fetch.specs.declared.fetcher.place.Place.{Place};
-ghost use Rattle.resolver_fetch.specs.Seeking.{first_until, next_now, next_of, scan_at, tried_behind, tried_behind_now, tried_next, tried_now, trying_key};
+ghost use Rattle.resolver_fetch.specs.Seeking.{first_until, next_behind, next_of, scan_at, tried_behind, tried_next, trying_key};
 ghost use Rattle.resolver_fetch.specs.Waiting.{place_order, retry_at};
-ghost use Rattle.resolver_fetch.specs.Stepping.{after_all, after_step, ask_for, expecting, step_now};
+ghost use Rattle.resolver_fetch.specs.Stepping.{after_all, after_step, ask_for, expecting};
 
+use crate::fetcher::cursor::Cursor;
 use crate::fetcher::step::{Step, step_of};
 use crate::fetcher::trail::{Expected, Reason, Trail};
 use crate::fetcher::trying::{Next, Trying};
 use crate::fetcher::{Answer, Ask, Fetcher, ID, Place, Request};
 use resolver_base::base::Fault;
+use resolver_request::requests::Requests;
 use std::collections::btree_set::Range;
 
 impl<K: Ord + Clone + Drop, P: Ord + Clone + Drop> Fetcher<K, P> {
-    /// Begins a scan at this moment, and says what it asks; nothing where it is over at once.
-    /// Where memory is wanting, nothing changes.
+    /// Begins a scan at this moment, where none is open, and says what it asks; nothing where it is
+    /// over at once. Where memory is wanting, nothing changes.
     ///
     /// The waiting keys that are due are gone over in their order, up to the first with a peer that
     /// may be asked, with one pass over the peers for each. Where no peer may be asked at all it
@@ -31,6 +38,7 @@ impl<K: Ord + Clone + Drop, P: Ord + Clone + Drop> Fetcher<K, P> {
     pub fn scan_begin(&mut self, now: u128) -> Result<Option<Ask<K, P>>, Fault>
     where
         requires moment { now < 2 ^ 94 }
+        requires closed { is_some self.old.scan ≡ false }
         requires keys_clone { (x y : K) → K.is_clone x y → y ≡ x }
         requires peers_clone { (x y : P) → P.is_clone x y → y ≡ x }
         ensures ok { OnOk result
@@ -41,21 +49,17 @@ impl<K: Ord + Clone + Drop, P: Ord + Clone + Drop> Fetcher<K, P> {
     {
         let trail = Trail::new(self.alloc);
         let next = self.next_of(now, &trail)?;
-        self.trying = None;
-        self.moment = now;
-        self.trail = trail;
-        self.expects = Some(Expected::Mode);
-        Ok(self.go_on(next))
+        Ok(self.go_on(now, trail, next))
     }
 
     /// Takes an answer to what the open scan asked, and says what it asks now; nothing where it is
     /// over. An answer that the scan doesn't expect is `Unasked`, a number that isn't below the
-    /// asked bound `OutOfRange`; then, and where memory is wanting, nothing changes.
+    /// asked bound `OutOfRange`; then, and where memory is wanting, nothing changes. The id of a
+    /// request that it asks for is held by no other.
     ///
     /// It takes time linear in the peers, unless the key that was tried has no peer left: then the
-    /// due keys behind it are gone over, as in `scan_begin`. After a call that changed keys or
-    /// peers those from the first on are. Keys and names are cloned; clones are to equal their
-    /// sources.
+    /// due keys behind it are gone over, as in `scan_begin`. Keys and names are cloned; clones are
+    /// to equal their sources.
     pub fn scan_answer(&mut self, answer: Answer) -> Result<Option<Ask<K, P>>, Fault>
     where
         requires keys_clone { (x y : K) → K.is_clone x y → y ≡ x }
@@ -63,230 +67,220 @@ impl<K: Ord + Clone + Drop, P: Ord + Clone + Drop> Fetcher<K, P> {
         ensures ok { OnOk result
             (calls.scan_answer (orders K.cmp P.cmp) answer self.old ≡ (Ok tt, self.new)) }
         ensures asked { IfOk result (λ ask. ask ≡ question (orders K.cmp P.cmp) self.new) }
+        ensures new_id { IfOk result (λ ask. AsksNewId (orders K.cmp P.cmp) self.new ask) }
         ensures refused { IfErr result (λ fault. fault ≢ OutOfMemory
             → calls.scan_answer (orders K.cmp P.cmp) answer self.old ≡ (Err fault, self.old)) }
+        ensures takes { IfErr result (λ fault. fault ≡ OutOfMemory
+            → is_some self.old.scan ≡ true) }
         ensures err { OnErr result (self.new ≡ self.old) }
     {
-        let Some(trying) = self.take_trying()? else {
+        let Some(cursor) = self.cursor.take() else {
             return Err(Fault::Unasked);
         };
-        match self.step(&trying, answer) {
-            Ok(step) => self.go(trying, step),
+        match step_of(&cursor.trying, &cursor.expects, answer) {
+            Ok(step) => self.go(cursor, step),
             Err(fault) => {
-                self.keep(trying);
+                self.cursor = Some(cursor);
                 Err(fault)
             }
         }
     }
 
-    /// What the open scan tries, if a scan is open and there is anything.
-    fn take_trying(&mut self) -> Result<Option<Trying<K, P>>, Fault>
+    /// A scan takes a step. Where memory is wanting, it stays as it was.
+    fn go(&mut self, cursor: Cursor<K, P>, step: Step<P>) -> Result<Option<Ask<K, P>>, Fault>
     where
         requires keys_clone { (x y : K) → K.is_clone x y → y ≡ x }
         requires peers_clone { (x y : P) → P.is_clone x y → y ≡ x }
-        ensures found { IfOk result (λ found. found ≡ tried_now (orders K.cmp P.cmp) self.old) }
-        ensures same { self.new ≡ self.old }
-        ensures only { IfErr result (λ fault. fault ≡ OutOfMemory) }
-    {
-        if self.expects.is_none() {
-            return Ok(None);
-        }
-        if let Some(trying) = self.trying.take() {
-            return Ok(Some(trying));
-        }
-        self.seek(self.moment, &self.trail)
-    }
-
-    /// Keeps what the open scan tries.
-    fn keep(&mut self, trying: Trying<K, P>)
-        requires { tried_now (orders K.cmp P.cmp) self.old ≡ Some trying }
-        ensures { self.new ≡ self.old }
-    {
-        self.trying = Some(trying);
-    }
-
-    /// What an answer means to the open scan.
-    fn step(&self, trying: &Trying<K, P>, answer: Answer) -> Result<Step<P>, Fault>
-    where
-        requires peers_clone { (x y : P) → P.is_clone x y → y ≡ x }
-        ensures ok { IfOk result (λ step. step_now trying.now answer self.now ≡ Ok step) }
-        ensures refused { IfErr result
-            (λ fault. fault ≢ OutOfMemory → step_now trying.now answer self.now ≡ Err fault) }
-    {
-        match &self.expects {
-            Some(expected) => step_of(trying, expected, answer),
-            None => Err(Fault::Unasked),
-        }
-    }
-
-    /// The open scan takes a step.
-    fn go(&mut self, trying: Trying<K, P>, step: Step<P>) -> Result<Option<Ask<K, P>>, Fault>
-    where
-        requires keys_clone { (x y : K) → K.is_clone x y → y ≡ x }
-        requires peers_clone { (x y : P) → P.is_clone x y → y ≡ x }
-        requires tried { tried_now (orders K.cmp P.cmp) self.old ≡ Some trying }
-        ensures ok { OnOk result
-            (self.new ≡ after_step (orders K.cmp P.cmp) trying.key step self.old) }
+        requires closed { is_some self.old.scan ≡ false }
+        requires right { IsRight (orders K.cmp P.cmp) self.old self.old.asked self.old.last_id
+            cursor }
+        requires new_id { TakesNewId self.old.asked self.old.last_id step }
+        ensures ok { OnOk result (self.new
+            ≡ after_step (orders K.cmp P.cmp) (scan_of cursor) cursor.trying.key step self.old) }
         ensures asked { IfOk result (λ ask. ask ≡ question (orders K.cmp P.cmp) self.new) }
-        ensures err { OnErr result (self.new ≡ self.old) }
+        ensures new_id { IfOk result (λ ask. AsksNewId (orders K.cmp P.cmp) self.new ask) }
+        ensures err { OnErr result (self.new ≡ opened cursor self.old) }
         ensures only { IfErr result (λ fault. fault ≡ OutOfMemory) }
     {
         match step {
-            Step::Expect(expected) => self.expect(trying, expected, self.last_id),
-            Step::Clear(peer) => self.clear_to_send(trying, peer),
-            Step::Send(peer, id) => self.expect(trying, Expected::Sending(peer, id), Some(id)),
-            Step::Fail(peer, reason) => self.fail(trying, peer, reason),
-            Step::Accept(peer, id) => self.accept(trying, peer, id),
+            Step::Expect(expected) => self.expect(cursor, expected, self.last_id),
+            Step::Clear(peer) => self.clear_to_send(cursor, peer),
+            Step::Send(peer, id) => self.expect(cursor, Expected::Sending(peer, id), Some(id)),
+            Step::Fail(peer, reason) => self.fail(cursor, peer, reason),
+            Step::Accept(peer, id) => self.accept(cursor, peer, id),
         }
     }
 
-    /// The open scan expects this, and the last id is this one.
+    /// A scan expects this, and the last id is this one. Where memory is wanting, it stays as it
+    /// was.
     fn expect(
         &mut self,
-        trying: Trying<K, P>,
+        mut cursor: Cursor<K, P>,
         expected: Expected<P>,
         last_id: Option<ID>,
     ) -> Result<Option<Ask<K, P>>, Fault>
     where
         requires keys_clone { (x y : K) → K.is_clone x y → y ≡ x }
         requires peers_clone { (x y : P) → P.is_clone x y → y ≡ x }
-        requires tried { tried_now (orders K.cmp P.cmp) self.old ≡ Some trying }
-        ensures ok { OnOk result
-            (self.new ≡ expecting (orders K.cmp P.cmp) expected last_id self.old) }
+        requires right { IsRight (orders K.cmp P.cmp) self.old self.old.asked self.old.last_id
+            cursor }
+        requires new_id { ExpectsNewId self.old.asked last_id expected }
+        requires none_yet { last_id ≡ None → self.old.asked ≡ [] }
+        ensures ok { OnOk result (self.new
+            ≡ expecting (orders K.cmp P.cmp) (scan_of cursor) expected last_id self.old) }
         ensures asked { IfOk result (λ ask. ask ≡ question (orders K.cmp P.cmp) self.new) }
-        ensures err { OnErr result (self.new ≡ self.old) }
+        ensures new_id { IfOk result (λ ask. AsksNewId (orders K.cmp P.cmp) self.new ask) }
+        ensures err { OnErr result (self.new ≡ opened cursor self.old) }
         ensures only { IfErr result (λ fault. fault ≡ OutOfMemory) }
     {
-        let ask = ask_for(self.priority_requests, &trying, &expected)?;
-        self.expects = Some(expected);
-        self.last_id = last_id;
-        self.pending.wake();
-        self.trying = Some(trying);
-        Ok(Some(ask))
+        match ask_for(self.priority_requests, &cursor.trying, &expected) {
+            Ok(ask) => {
+                cursor.expects = expected;
+                self.cursor = Some(cursor);
+                self.last_id = last_id;
+                self.pending.wake();
+                Ok(Some(ask))
+            }
+            Err(fault) => {
+                self.cursor = Some(cursor);
+                Err(fault)
+            }
+        }
     }
 
     /// The peer may be sent to: the id of the request is drawn, or the next one is taken.
-    fn clear_to_send(&mut self, trying: Trying<K, P>, peer: P) -> Result<Option<Ask<K, P>>, Fault>
+    fn clear_to_send(&mut self, cursor: Cursor<K, P>, peer: P) -> Result<Option<Ask<K, P>>, Fault>
     where
         requires keys_clone { (x y : K) → K.is_clone x y → y ≡ x }
         requires peers_clone { (x y : P) → P.is_clone x y → y ≡ x }
-        requires tried { tried_now (orders K.cmp P.cmp) self.old ≡ Some trying }
-        ensures ok { OnOk result
-            (self.new ≡ after_step (orders K.cmp P.cmp) trying.key (Clear peer) self.old) }
+        requires closed { is_some self.old.scan ≡ false }
+        requires right { IsRight (orders K.cmp P.cmp) self.old self.old.asked self.old.last_id
+            cursor }
+        ensures ok { OnOk result (self.new ≡ after_step (orders K.cmp P.cmp) (scan_of cursor)
+            cursor.trying.key (Clear peer) self.old) }
         ensures asked { IfOk result (λ ask. ask ≡ question (orders K.cmp P.cmp) self.new) }
-        ensures err { OnErr result (self.new ≡ self.old) }
+        ensures new_id { IfOk result (λ ask. AsksNewId (orders K.cmp P.cmp) self.new ask) }
+        ensures err { OnErr result (self.new ≡ opened cursor self.old) }
         ensures only { IfErr result (λ fault. fault ≡ OutOfMemory) }
     {
         match self.last_id {
             Some(last) => {
                 let id = self.requests.next_id(last);
-                self.expect(trying, Expected::Sending(peer, id), Some(id))
+                self.expect(cursor, Expected::Sending(peer, id), Some(id))
             }
-            None => self.expect(trying, Expected::FirstId(peer), None),
+            None => self.expect(cursor, Expected::FirstId(peer), None),
         }
     }
 
-    /// The peer was tried in vain: the scan goes on.
+    /// The peer was tried in vain: the scan goes on. Where memory is wanting, it stays as it was.
     fn fail(
         &mut self,
-        trying: Trying<K, P>,
+        mut cursor: Cursor<K, P>,
         peer: P,
         reason: Reason,
     ) -> Result<Option<Ask<K, P>>, Fault>
     where
         requires keys_clone { (x y : K) → K.is_clone x y → y ≡ x }
         requires peers_clone { (x y : P) → P.is_clone x y → y ≡ x }
-        requires tried { tried_now (orders K.cmp P.cmp) self.old ≡ Some trying }
-        ensures ok { OnOk result
-            (self.new ≡ after_step (orders K.cmp P.cmp) trying.key (Fail peer reason) self.old) }
+        requires closed { is_some self.old.scan ≡ false }
+        requires right { IsRight (orders K.cmp P.cmp) self.old self.old.asked self.old.last_id
+            cursor }
+        ensures ok { OnOk result (self.new ≡ after_step (orders K.cmp P.cmp) (scan_of cursor)
+            cursor.trying.key (Fail peer reason) self.old) }
         ensures asked { IfOk result (λ ask. ask ≡ question (orders K.cmp P.cmp) self.new) }
-        ensures err { OnErr result (self.new ≡ self.old) }
+        ensures new_id { IfOk result (λ ask. AsksNewId (orders K.cmp P.cmp) self.new ask) }
+        ensures err { OnErr result (self.new ≡ opened cursor self.old) }
         ensures only { IfErr result (λ fault. fault ≡ OutOfMemory) }
     {
-        self.trying = None;
-        let key = trying.pair.1.clone()?;
-        let mut rest = trying;
-        rest.forget(&peer);
-        self.trail.push(key, peer, reason)?;
-        match self.next_after(rest) {
-            Ok(next) => Ok(self.go_on(next)),
+        if let Err(fault) = cursor.note(&peer, reason) {
+            self.cursor = Some(cursor);
+            return Err(fault);
+        }
+        if !cursor.trying.is_last(&peer) {
+            cursor.trying.forget(&peer);
+            let rest = Next::Try(cursor.trying);
+            return Ok(self.go_on(cursor.moment, cursor.trail, rest));
+        }
+        match self.next_behind(&cursor) {
+            Ok(next) => Ok(self.go_on(cursor.moment, cursor.trail, next)),
             Err(fault) => {
-                self.trail.pop();
+                cursor.trail.pop();
+                self.cursor = Some(cursor);
                 Err(fault)
             }
         }
     }
 
-    /// What the open scan does next, after a key of which this is left.
-    fn next_after(&self, rest: Trying<K, P>) -> Result<Next<K, P>, Fault>
+    /// What a scan does next where its key has no peer left.
+    fn next_behind(&self, cursor: &Cursor<K, P>) -> Result<Next<K, P>, Fault>
     where
+        requires moment { cursor.now.moment < 2 ^ 94 }
         requires keys_clone { (x y : K) → K.is_clone x y → y ≡ x }
         requires peers_clone { (x y : P) → P.is_clone x y → y ≡ x }
-        requires open_scan { IsSome self.now.scan }
-        requires left { 0 < length rest.left
-            → tried_now (orders K.cmp P.cmp) self.now ≡ Some rest }
-        requires passed { length rest.left ≡ 0
-            → IsStrictlySortedBy (pair_order place_order K.cmp) self.now.waiting
-            → tried_now (orders K.cmp P.cmp) self.now
-            ≡ tried_behind_now (orders K.cmp P.cmp) self.now (rest.place, rest.key) }
-        ensures ok { IfOk result
-            (λ next. next_now (orders K.cmp P.cmp) self.now ≡ Some next) }
+        ensures ok { IfOk result (λ next. next ≡ next_behind (orders K.cmp P.cmp) self.now
+            cursor.now.moment cursor.now.trail
+            (cursor.now.trying.place, cursor.now.trying.key)) }
+        ensures ordered { IsStrictlySortedBy (pair_order place_order K.cmp) self.now.waiting }
         ensures only { IfErr result (λ fault. fault ≡ OutOfMemory) }
     {
-        if !rest.is_spent() {
-            return Ok(Next::Try(rest));
-        }
-        match self.seek_behind(&rest.pair, self.moment, &self.trail)? {
+        match self.seek_behind(&cursor.trying.pair, cursor.moment, &cursor.trail)? {
             Some(trying) => Ok(Next::Try(trying)),
-            None => Ok(Next::Wait(self.trail.moment(self.moment, self.retry_delay))),
+            None => Ok(Next::Wait(cursor.trail.moment(cursor.moment, self.retry_delay))),
         }
     }
 
-    /// The request is on its way, and the scan is over.
-    fn accept(&mut self, trying: Trying<K, P>, peer: P, id: ID) -> Result<Option<Ask<K, P>>, Fault>
+    /// The request is on its way, and the scan is over. Where memory is wanting, it stays as it
+    /// was.
+    fn accept(&mut self, cursor: Cursor<K, P>, peer: P, id: ID) -> Result<Option<Ask<K, P>>, Fault>
     where
         requires keys_clone { (x y : K) → K.is_clone x y → y ≡ x }
-        requires tried { tried_now (orders K.cmp P.cmp) self.old ≡ Some trying }
-        ensures ok { OnOk result
-            (self.new ≡ after_step (orders K.cmp P.cmp) trying.key (Accept peer id) self.old) }
-        ensures asked { IfOk result (λ ask. ask ≡ question (orders K.cmp P.cmp) self.new) }
-        ensures err { OnErr result (self.new ≡ self.old) }
+        requires closed { is_some self.old.scan ≡ false }
+        requires right { IsRight (orders K.cmp P.cmp) self.old self.old.asked self.old.last_id
+            cursor }
+        requires new_id { is_held self.old.asked id ≡ false }
+        requires taken { self.old.last_id ≡ Some id }
+        ensures ok { OnOk result (self.new ≡ after_step (orders K.cmp P.cmp) (scan_of cursor)
+            cursor.trying.key (Accept peer id) self.old) }
+        ensures over { IfOk result (λ ask. ask ≡ None) }
+        ensures err { OnErr result (self.new ≡ opened cursor self.old) }
         ensures only { IfErr result (λ fault. fault ≡ OutOfMemory) }
     {
-        self.trying = None;
-        let request = Request {
-            key: trying.pair.1.clone()?,
-            peer,
-            start: self.moment,
-            deadline: self.moment + self.fetch_timeout,
-        };
-        self.requests.insert(id, request)?;
-        self.pending.remove(&trying.pair.1);
-        self.expects = None;
-        self.trail.clear();
-        Ok(None)
+        match put_request(&mut self.requests, &cursor, peer, id, self.fetch_timeout) {
+            Ok(()) => {
+                self.pending.remove(&cursor.trying.pair.1);
+                Ok(None)
+            }
+            Err(fault) => {
+                self.cursor = Some(cursor);
+                Err(fault)
+            }
+        }
     }
 
-    /// The open scan tries what is next, or ends where there is nothing.
-    fn go_on(&mut self, next: Next<K, P>) -> Option<Ask<K, P>>
+    /// A scan of this moment that tried this does what is next, or ends where there is nothing.
+    fn go_on(&mut self, moment: u128, trail: Trail<K, P>, next: Next<K, P>) -> Option<Ask<K, P>>
     where
-        requires { next_now (orders K.cmp P.cmp) self.old ≡ Some next }
-        ensures after { self.new ≡ after_all (orders K.cmp P.cmp) self.old }
+        requires moment { moment < 2 ^ 94 }
+        requires closed { is_some self.old.scan ≡ false }
+        requires next { next ≡ next_of (orders K.cmp P.cmp) self.old moment trail }
+        ensures after { self.new ≡ after_all (orders K.cmp P.cmp) moment trail self.old }
         ensures asked { result ≡ question (orders K.cmp P.cmp) self.new }
+        ensures new_id { AsksNewId (orders K.cmp P.cmp) self.new result }
     {
         match next {
             Next::Try(trying) => {
                 let bound = u128::from(trying.retries) + 4;
                 self.pending.wake();
-                self.expects = Some(Expected::Mode);
-                self.trying = Some(trying);
+                self.cursor = Some(Cursor {
+                    moment,
+                    trail,
+                    trying,
+                    expects: Expected::Mode,
+                });
                 Some(Ask::Draw(bound))
             }
             Next::Wait(other) => {
-                self.pending.sleep(self.moment, other);
-                self.trying = None;
-                self.expects = None;
-                self.trail.clear();
+                self.pending.sleep(moment, other);
                 None
             }
         }
@@ -415,6 +409,37 @@ impl<K: Ord + Clone + Drop, P: Ord + Clone + Drop> Fetcher<K, P> {
             left,
         })
     }
+}
+
+/// Puts the request that a scan sent. Where memory is wanting, nothing changes.
+fn put_request<K: Ord + Clone + Drop, P: Drop>(
+    requests: &mut Requests<K, P>,
+    cursor: &Cursor<K, P>,
+    peer: P,
+    id: ID,
+    timeout: u128,
+) -> Result<(), Fault>
+    requires moment { cursor.now.moment < 2 ^ 94 }
+    requires timeout { timeout < 2 ^ 94 }
+    requires keys_clone { (x y : K) → K.is_clone x y → y ≡ x }
+    requires new_id { is_held requests.old id ≡ false }
+    requires new_key { is_asked K.cmp requests.old cursor.now.trying.key ≡ false }
+    ensures ok { OnOk result (requests.new ≡ insert_entry nat_cmp requests.old id (record {
+      key = cursor.now.trying.key;
+      peer = peer;
+      start = cursor.now.moment;
+      deadline = cursor.now.moment + timeout;
+    })) }
+    ensures err { OnErr result (requests.new ≡ requests.old) }
+    ensures only { IfErr result (λ fault. fault ≡ OutOfMemory) }
+{
+    let request = Request {
+        key: cursor.trying.pair.1.clone()?,
+        peer,
+        start: cursor.moment,
+        deadline: cursor.moment + timeout,
+    };
+    requests.insert(id, request)
 }
 
 /// What a scan asks that tries a key and expects something.

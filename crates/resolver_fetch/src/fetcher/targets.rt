@@ -53,6 +53,13 @@ impl<P: Ord + Drop> Targets<P> {
         self.names.contains(peer)
     }
 
+    /// The peers, in the order in which they were added.
+    pub(super) fn listed(&self) -> &[P]
+        ensures { result.now ≡ self.now }
+    {
+        self.listed.as_slice()
+    }
+
     /// How many there are.
     pub(super) fn len(&self) -> usize
         ensures { result ≡ length self.now }

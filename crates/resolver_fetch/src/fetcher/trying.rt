@@ -42,13 +42,6 @@ impl<K, P> Model for Trying<K, P> {
 }
 
 impl<K, P> Trying<K, P> {
-    /// Whether no peer is left for it, in constant time.
-    pub(super) fn is_spent(&self) -> bool
-        ensures { result ≡ (length self.now.left == 0) }
-    {
-        self.left.is_empty()
-    }
-
     /// What the peers left weigh.
     pub(super) fn total(&self) -> u128
         ensures { result ≡ sum (weights_of self.now.left) }
@@ -84,6 +77,18 @@ impl<K, P> Trying<K, P> {
 }
 
 impl<K, P: Ord + Drop> Trying<K, P> {
+    /// Whether no peer is left for it but this one.
+    pub(super) fn is_last(&self, peer: &P) -> bool
+        ensures { result ≡ (length (apart_from P.cmp peer.now self.now.left) == 0) }
+    {
+        for other in &self.left {
+            if !other.0.cmp(peer).is_eq() {
+                return false;
+            }
+        }
+        true
+    }
+
     /// The peer is left no more.
     pub(super) fn forget(&mut self, peer: &P)
         ensures { self.new

@@ -1,16 +1,26 @@
-use Rattle.std.proofs.Common.{◌≡◌, ap, filter, rules}
+use Rattle.std.proofs.Common.{◌≡◌, ◌∙◌, ap, filter, is_some, rules}
 use Rattle.std.proofs.lemmas.Map.Made.{filter_same_pairs}
 use Rattle.resolver_fetch.specs.Fetcher.{Fetcher, retain}
 use Rattle.resolver_fetch.specs.Orders.{orders}
 use Rattle.resolver_fetch.specs.Pending.{with_kept}
+use Rattle.resolver_fetch.proofs.Kept.{closed-any, kept-fewer}
 use Rattle.resolver_fetch.proofs.fetcher.Fetcher.retain.Goals as goal
 
 pub returns : goal.returns
 returns g c = λ test pure.
-    let waiting : c.retain.new.self ≡ with_kept test c.self.inside.pending = c.retain.ensures test (record { by = λ key b at. pure.by key b (search rules) }) in
-    let asked : c.retain-2.new.self ≡ filter (λ r. test r.1.key) c.self.inside.requests = c.retain-2.ensures test (record { by = λ key b at. pure.by key b (search rules) }) in
+    let waiting : c.retain.new.self ≡ with_kept test c.self.inside.pending = c.retain.ensures.kept test (record { by = λ key b at. pure.by key b (search rules) }) in
+    let asked : c.retain-2.new.self ≡ filter (λ r. test r.1.key) c.self.inside.requests = c.retain-2.ensures.kept test (record { by = λ key b at. pure.by key b (search rules) }) in
     let targets : c.retain-3.new.self.entries ≡ filter (λ e. test e.0) c.self.inside.targets.entries =
     filter_same_pairs _ (λ e. test e.0) _ (λ k v b w f' t. (pure.by k b (rw (← t.shows.0) (search rules)), search rules, search rules)) _ _ c.retain-3.ensures.filtered in
     let retries : c.retain-4.new.self.entries ≡ filter (λ e. test e.0) c.self.inside.retries.entries =
     filter_same_pairs _ (λ e. test e.0) _ (λ k v b w f' t. (pure.by k b (rw (← t.shows.0) (search rules)), search rules, search rules)) _ _ c.retain-4.ensures.filtered in
     rw (waiting, asked, targets, retries) (ap (λ (f : Fetcher _ _). retain (orders g.K.Ord.cmp g.P.Ord.cmp) test f) c.self.view_is)
+
+pub invariant_of-self : goal.invariant_of-self
+invariant_of-self g c =
+    let a = c.self.inside in
+    let shut = ap is_some (ap (λ (f : Fetcher g.row.K.Denot g.row.P.Denot). f.scan) c.self.view_is) ∙ c.requires.closed in (
+      kept-fewer g.met.K.Ord.total a.fetch_timeout a.retry_delay a.last_id a.pending.keys a.requests c.self.invariant.0 c.retain.new.self.keys c.retain-2.new.self
+          c.retain.ensures.fewer c.retain-2.ensures.fewer c.retain-2.ensures.none,
+      closed-any a.cursor shut _,
+    )

@@ -1,28 +1,33 @@
-use Rattle.std.proofs.Common.{ap, ◌∙◌, sym}
+use Rattle.std.proofs.Common.{◌≡◌, ap, ◌∙◌, sym, None, Some, Ok, option_map}
+use Rattle.resolver_fetch.specs.Cursor.{scan_of}
 use Rattle.resolver_fetch.specs.Fetcher.{Fetcher}
 use Rattle.resolver_fetch.specs.Orders.{orders}
-use Rattle.std.proofs.Common.{Ok}
+use Rattle.resolver_fetch.specs.Seeking.{tried_next}
 use Rattle.resolver_fetch.specs.Stepping.{after_step}
-use Rattle.resolver_fetch.proofs.Stepping.{answer-taken, answer-refused, onto-ok}
+use Rattle.resolver_fetch.proofs.Stepping.{answer-refused, answer-taken, onto-ok, step-closed}
 use Rattle.resolver_fetch.proofs.fetcher.Fetcher.scan_answer.Goals as goal
-
-pub go-requires-clause-tried : goal.go-requires-clause-tried
-go-requires-clause-tried g c = rw c.in_ok-trying.ensures.same (sym c.in_ok-trying.ensures.found ∙ c.in-Some.is)
-
-pub keep-requires : goal.keep-requires
-keep-requires g c = rw c.in_ok-trying.ensures.same (sym c.in_ok-trying.ensures.found ∙ c.in-Some.is)
 
 pub returns-in-Ok-clause-ok : goal.returns-in-Ok-clause-ok
 returns-in-Ok-clause-ok g c =
     let o = orders g.K.Ord.cmp g.P.Ord.cmp in
-    let tried = sym c.in_ok-trying.ensures.found ∙ c.in-Some.is in
-    let means = rw c.in_ok-trying.ensures.same at c.in-Ok.ensures.ok in
-    let took = answer-taken o c.args.self.now c.args.answer c.in-Some.trying c.in-Ok.step tried means in
-    onto-ok c.go.result _ _ (λ is. took ∙ ap (λ (n : Fetcher g.row.K.Denot g.row.P.Denot). (Ok tt, n)) (ap (after_step o c.in-Some.trying.key c.in-Ok.step) (sym c.in_ok-trying.ensures.same) ∙ sym is)) c.go.ensures.ok
+    let f = c.args.self.now in
+    let cursor = c.in-Some.cursor in
+    let held : c.self.inside.cursor ≡ Some cursor = sym c.take.ensures.value ∙ c.in-Some.is in
+    let scan = sym (ap (λ (f : Fetcher g.row.K.Denot g.row.P.Denot). f.scan) c.self.view_is) ∙ ap (option_map scan_of) held in
+    let right = rw held at c.self.invariant.1 in
+    let tries : tried_next o f cursor.moment cursor.trail ≡ Some cursor.trying = rw (← c.self.view_is) right.tries in
+    let took = answer-taken o f cursor c.args.answer c.in-Ok.step scan tries c.in-Ok.ensures.ok in
+    let closed = rw c.take.ensures.after at c.go.ensures.ok in
+    onto-ok c.go.result _ _ (λ is. took ∙ ap (λ (n : Fetcher g.row.K.Denot g.row.P.Denot). (Ok tt, n)) (sym (is
+    ∙ ap (λ (f : Fetcher g.row.K.Denot g.row.P.Denot). after_step o (scan_of cursor) cursor.trying.key c.in-Ok.step (record f { scan = None })) c.self.view_is
+    ∙ step-closed o f (scan_of cursor) cursor.trying.key c.in-Ok.step))) closed
 
 pub returns-in-Err-clause-refused : goal.returns-in-Err-clause-refused
 returns-in-Err-clause-refused g c = λ other.
     let o = orders g.K.Ord.cmp g.P.Ord.cmp in
-    let tried = sym c.in_ok-trying.ensures.found ∙ c.in-Some.is in
-    let means = rw c.in_ok-trying.ensures.same at (c.in-Err.ensures.refused other) in
-    answer-refused o c.args.self.now c.args.answer c.in-Some.trying c.in-Err.fault tried means
+    let cursor = c.in-Some.cursor in
+    let held : c.self.inside.cursor ≡ Some cursor = sym c.take.ensures.value ∙ c.in-Some.is in
+    let scan = sym (ap (λ (f : Fetcher g.row.K.Denot g.row.P.Denot). f.scan) c.self.view_is) ∙ ap (option_map scan_of) held in
+    let right = rw held at c.self.invariant.1 in
+    let tries : tried_next o c.args.self.now cursor.moment cursor.trail ≡ Some cursor.trying = rw (← c.self.view_is) right.tries in
+    answer-refused o c.args.self.now cursor c.args.answer c.in-Err.fault scan tries (c.in-Err.ensures.refused other)

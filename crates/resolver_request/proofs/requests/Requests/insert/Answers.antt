@@ -1,17 +1,52 @@
+use Rattle.std.proofs.Common.{◌≡◌, ◌∙◌, refl, sym, false, None, rules}
+use Rattle.std.specs.BTreeMap.{is_at}
+use Rattle.std.specs.Map.{lookup}
+use Rattle.resolver_request.specs.Ids.{is_held}
+use Rattle.resolver_request.specs.Requests.{is_asked}
 use Rattle.resolver_request.proofs.Timed.{timed-put, timed-back}
+use Rattle.resolver_request.proofs.Names.{asked-named, name-gone, named-put, named-same, none-is}
 use Rattle.resolver_request.proofs.requests.Requests.insert.Goals as goal
 
 pub invariant_of-self-in-Err : goal.invariant_of-self-in-Err
 invariant_of-self-in-Err g c =
-    rw (c.in-Err.ensures.err, c.remove.ensures.after, c.in_ok-put.ensures.ok)
-    (timed-back c.args.id c.args.request.deadline c.self.inside.by_id.entries c.self.inside.deadlines c.self.invariant c.in-Err.ensures.absent)
+    let a = c.self.inside in
+    let total = g.met.K.Ord.total in
+    let apart : is_asked g.K.Ord.cmp a.by_id.entries c.args.request.key ≡ false = search rules in
+    let none : lookup (is_at (g.K.Ord.cmp c.args.request.key)) a.by_key.entries ≡ None = none-is _ (sym (asked-named total a.by_id.entries a.by_key.entries c.self.invariant.1 c.self.invariant.0.ids c.args.request.key) ∙ apart) in
+    let key : c.in_ok-key.key ≡ c.args.request.key = search rules in
+    let puts = rw key at c.in_ok-insert.ensures.updates.0 in
+    rw c.in-Err.ensures.err (
+      c.self.invariant.0,
+      named-same total a.by_id.entries a.by_id.entries a.by_key.entries _ c.self.invariant.1 (λ q. refl)
+          (name-gone total c.args.request.key a.by_key.entries c.insert.new.self.entries _ c.args.id none puts c.remove.ensures.updates.0),
+    )
 
-pub invariant_of-self-in_default : goal.invariant_of-self-in_default
-invariant_of-self-in_default g c =
-    rw c.in_ok-put.ensures.ok
-    (timed-put c.args.id c.args.request c.self.inside.by_id.entries c.insert.new.self.entries c.self.inside.deadlines c.self.invariant c.in_default.ensures.ordered c.in_default.ensures.updates.0)
+pub invariant_of-self-in-Err-insert : goal.invariant_of-self-in-Err-insert
+invariant_of-self-in-Err-insert g c =
+    let a = c.self.inside in
+    let total = g.met.K.Ord.total in
+    let apart : is_asked g.K.Ord.cmp a.by_id.entries c.args.request.key ≡ false = search rules in
+    let none : lookup (is_at (g.K.Ord.cmp c.args.request.key)) a.by_key.entries ≡ None = none-is _ (sym (asked-named total a.by_id.entries a.by_key.entries c.self.invariant.1 c.self.invariant.0.ids c.args.request.key) ∙ apart) in
+    let key : c.in_ok-key.key ≡ c.args.request.key = search rules in
+    let puts = rw key at c.in_ok-insert.ensures.updates.0 in
+    let back : c.in-Err-insert.refused.value ≡ (c.args.id, c.args.request) = search rules in
+    let takes = rw back at c.remove-in-Err-insert-2.ensures.updates.0 in
+    rw (c.in-Err-insert.ensures.err, c.remove-in-Err-insert.ensures.after, c.in_default.ensures.ok) (
+      timed-back c.args.id c.args.request.deadline a.by_id.entries a.deadlines c.self.invariant.0 c.in-Err-insert.ensures.absent,
+      named-same total a.by_id.entries a.by_id.entries a.by_key.entries _ c.self.invariant.1 (λ q. refl)
+          (name-gone total c.args.request.key a.by_key.entries c.insert.new.self.entries _ c.args.id none puts takes),
+    )
 
-pub invariant_of-self-in_default-2 : goal.invariant_of-self-in_default-2
-invariant_of-self-in_default-2 g c =
-    rw c.in_ok-put.ensures.ok
-    (timed-put c.args.id c.args.request c.self.inside.by_id.entries c.insert.new.self.entries c.self.inside.deadlines c.self.invariant c.in_default.ensures.ordered c.in_default.ensures.updates.0)
+pub invariant_of-self-in_default-insert-2 : goal.invariant_of-self-in_default-insert-2
+invariant_of-self-in_default-insert-2 g c =
+    let a = c.self.inside in
+    let total = g.met.K.Ord.total in
+    let apart : is_asked g.K.Ord.cmp a.by_id.entries c.args.request.key ≡ false = search rules in
+    let none : lookup (is_at (g.K.Ord.cmp c.args.request.key)) a.by_key.entries ≡ None = none-is _ (sym (asked-named total a.by_id.entries a.by_key.entries c.self.invariant.1 c.self.invariant.0.ids c.args.request.key) ∙ apart) in
+    let free : is_held a.by_id.entries c.args.id ≡ false = search rules in
+    let key : c.in_ok-key.key ≡ c.args.request.key = search rules in
+    let puts = rw key at c.in_ok-insert.ensures.updates.0 in
+    rw c.in_default.ensures.ok (
+      timed-put c.args.id c.args.request a.by_id.entries c.insert-2.new.self.entries a.deadlines c.self.invariant.0 c.in_default-insert.ensures.ordered c.in_default-insert.ensures.updates.0,
+      named-put total c.args.id c.args.request a.by_id.entries c.insert-2.new.self.entries a.by_key.entries c.insert.new.self.entries c.self.invariant.1 free none c.in_default-insert.ensures.updates.0 puts,
+    )

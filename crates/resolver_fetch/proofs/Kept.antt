@@ -1,0 +1,62 @@
+-- What is so of every fetcher, after its calls.
+use Rattle.std.proofs.Common.{◌≡◌, refl, ap, sym, ◌∙◌, ℕ, ◌≤◌, false, List, [], length, Option, None, Some, option_map, is_some, arith}
+use Rattle.std.specs.Prelude.{IfSome}
+use Rattle.std.specs.BTreeMap.{insert_entry}
+use Rattle.std.specs.Cmp.{IsTotalOrder}
+use Rattle.std.specs.Ordering.{nat_cmp}
+use Rattle.std.specs.declared.cmp.Ordering.{Ordering}
+use Rattle.resolver_base.specs.Priorities.{priorities_of, put, without}
+use Rattle.resolver_request.specs.declared.requests.request.Request.{Request}
+use Rattle.resolver_request.specs.Ids.{is_held}
+use Rattle.resolver_request.specs.Requests.{IsTaken, ids_of, is_asked, without_request}
+use Rattle.resolver_fetch.specs.declared.fetcher.cursor.Cursor.{Cursor}
+use Rattle.resolver_fetch.specs.declared.fetcher.place.Place.{Place}
+use Rattle.resolver_fetch.specs.Cursor.{IsKept, scan_of}
+use Rattle.resolver_fetch.specs.Waiting.{place_order}
+use Rattle.resolver_fetch.proofs.Phases.{fewer-without, once-put, once-sent}
+
+-- where no scan is open, what is asked of an open one is so
+pub closed-any : {K P : Type 0} (cursor : Option (Cursor K P)) → is_some (option_map scan_of cursor) ≡ false → (Q : Cursor K P → Type 0) → IfSome cursor Q
+closed-any None shut Q = tt
+closed-any (Some cursor) shut Q = absurd cc
+
+pub closed-none : {K P : Type 0} (cursor : Option (Cursor K P)) → is_some (option_map scan_of cursor) ≡ false → cursor ≡ None
+closed-none None shut = refl
+closed-none (Some cursor) shut = cc
+
+module _ {K P : Type 0} {by_key : K → K → Ordering} (o : IsTotalOrder by_key) (timeout delay : ℕ) (last : Option ℕ) (waiting : List (Place × K)) (asked : List (ℕ × Request K P))
+    (kept : IsKept by_key timeout delay last waiting asked) where
+  -- a key that is in no phase waits
+  pub kept-put : (p : Place × K) → is_asked by_key asked p.1 ≡ false → IsKept by_key timeout delay last (put place_order by_key waiting p) asked
+  kept-put p idle = record { timely = kept.timely; once = once-put o p waiting asked kept.once idle; none_yet = kept.none_yet }
+
+  -- a request is taken out
+  pub kept-taken : (r : Request K P) (new : List (ℕ × Request K P)) → IsTaken asked new r → IsKept by_key timeout delay last waiting new
+  kept-taken r new out = record {
+    timely = kept.timely;
+    once = λ key.
+        let before = kept.once key in
+        let fewer = fewer-without by_key out.0 key asked in
+        rw out.2 (omega (arith, before, fewer));
+    none_yet = λ none. out.2 ∙ ap (without_request out.0) (kept.none_yet none);
+  }
+
+  -- some keys are let go
+  pub kept-fewer : (rest : List (Place × K)) (left : List (ℕ × Request K P)) → ((key : K) → length (priorities_of by_key rest key) ≤ length (priorities_of by_key waiting key))
+      → ((key : K) → length (ids_of by_key left key) ≤ length (ids_of by_key asked key)) → (asked ≡ [] → left ≡ []) → IsKept by_key timeout delay last rest left
+  kept-fewer rest left fewer less none = record {
+    timely = kept.timely;
+    once = λ key.
+        let before = kept.once key in
+        omega (arith, before, fewer key, less key);
+    none_yet = λ no_last. none (kept.none_yet no_last);
+  }
+
+  -- a key that waits is asked for under an id that was taken
+  pub kept-sent : (id : ℕ) (r : Request K P) → is_held asked id ≡ false → is_asked by_key asked r.key ≡ false → last ≡ Some id
+      → IsKept by_key timeout delay last (without by_key r.key waiting) (insert_entry nat_cmp asked id r)
+  kept-sent id r new idle taken = record {
+    timely = kept.timely;
+    once = once-sent o id r waiting asked kept.once new idle;
+    none_yet = λ none. let clash : None ≡ Some id = sym none ∙ taken in absurd cc;
+  }

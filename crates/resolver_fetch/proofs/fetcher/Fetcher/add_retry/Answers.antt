@@ -1,0 +1,15 @@
+use Rattle.std.proofs.Common.{ap, ◌∙◌, is_some}
+use Rattle.resolver_request.specs.Requests.{is_asked}
+use Rattle.resolver_fetch.specs.Fetcher.{Fetcher}
+use Rattle.resolver_fetch.proofs.Kept.{closed-any, kept-put}
+use Rattle.resolver_fetch.proofs.Pending.{either_way}
+use Rattle.resolver_fetch.proofs.fetcher.Fetcher.add_retry.Goals as goal
+
+pub invariant_of-self : goal.invariant_of-self
+invariant_of-self g c =
+    let a = c.self.inside in
+    let shut = ap is_some (ap (λ (f : Fetcher g.row.K.Denot g.row.P.Denot). f.scan) c.self.view_is) ∙ c.requires.closed in
+    let idle = ap (λ (f : Fetcher g.row.K.Denot g.row.P.Denot). is_asked g.K.Ord.cmp f.asked c.args.key) c.self.view_is ∙ c.requires.not_asked in
+    either_way c.count_retry.result _ _ _ c.count_retry.ensures.ok c.count_retry.ensures.err
+    (λ is. rw is (kept-put g.met.K.Ord.total a.fetch_timeout a.retry_delay a.last_id a.pending.keys a.requests c.self.invariant.0 (_, c.args.key) idle, closed-any a.cursor shut _))
+    (λ is. rw is (c.self.invariant.0, closed-any a.cursor shut _))

@@ -1,0 +1,38 @@
+//! Where an open scan stands.
+
+ghost use Rattle.std.specs.Prelude.{◌≡◌, [], ◌∷◌, ◌++◌, IfErr, OnErr, OnOk};
+ghost use Rattle.resolver_base.specs.declared.base.fault.Fault.TheVariants.{OutOfMemory};
+
+use crate::fetcher::trail::{Expected, Reason, Trail};
+use crate::fetcher::trying::Trying;
+use resolver_base::base::Fault;
+
+/// Where an open scan stands.
+#[derive(Debug, Drop)]
+pub(super) struct Cursor<K: Ord, P> {
+    /// When it was begun.
+    pub(super) moment: u128,
+    /// What it tried in vain.
+    pub(super) trail: Trail<K, P>,
+    /// What it tries.
+    pub(super) trying: Trying<K, P>,
+    pub(super) expects: Expected<P>,
+}
+
+impl<K: Ord + Clone + Drop, P: Clone + Drop> Cursor<K, P> {
+    /// Notes that a peer was tried for the key in vain. Where memory is wanting, nothing changes.
+    pub(super) fn note(&mut self, peer: &P, reason: Reason) -> Result<(), Fault>
+    where
+        requires keys_clone { (x y : K) → K.is_clone x y → y ≡ x }
+        requires peers_clone { (x y : P) → P.is_clone x y → y ≡ x }
+        ensures ok { OnOk result (self.new ≡ record self.old {
+          trail = self.old.trail
+              ++ record { key = self.old.trying.key; peer = peer.now; reason = reason } ∷ [];
+        }) }
+        ensures err { OnErr result (self.new ≡ self.old) }
+        ensures only { IfErr result (λ fault. fault ≡ OutOfMemory) }
+    {
+        let key = self.trying.pair.1.clone()?;
+        self.trail.push(key, peer.clone()?, reason)
+    }
+}
