@@ -2,6 +2,7 @@
 
 ghost use Rattle.std.specs.Prelude.{[], Some, true};
 ghost use Rattle.std.specs.declared.cmp.Ordering.TheVariants.{Equal};
+ghost use Rattle.std.proofs.Common.{rules};
 
 use std::cell::Cell;
 use std::cmp::Ordering;
