@@ -52,7 +52,7 @@ fn take_every(
     let blocked = [Kind::Wait, Kind::Idle, Kind::Wake];
     take_each(rt, fetcher, spent, &blocked, size)?;
     if fetcher.is_scanning() {
-        return Err(Fault::Unasked);
+        return Err(Fault::Refused);
     }
     fetcher.set_blocked(Vec::new(rt.alloc()))?;
     take_each(rt, fetcher, spent, &[Kind::Scan, Kind::Respond], size)
@@ -123,7 +123,7 @@ fn wait(fetcher: &mut Asker, key: u64) -> Result<u64, Fault> {
 /// Takes a response of the first peer, and counts it where it answers a request.
 fn respond(fetcher: &mut Asker, id: u64) -> Result<u64, Fault> {
     if fetcher.is_scanning() {
-        return Err(Fault::Unasked);
+        return Err(Fault::Refused);
     }
     Ok(u64::from(fetcher.pop_response(id, &0, 0).is_some()))
 }
@@ -134,7 +134,7 @@ fn scan(fetcher: &mut Asker, now: u128) -> Result<u64, Fault>
     requires { now < 2 ^ 94 }
 {
     if fetcher.is_scanning() {
-        return Err(Fault::Unasked);
+        return Err(Fault::Refused);
     }
     let mut asked = fetcher.scan_begin(now)?;
     for count in 0..ASKS {
