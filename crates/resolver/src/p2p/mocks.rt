@@ -1,7 +1,10 @@
 //! Parts for tests of what stands on a resolver.
 
+ghost use Rattle.std.proofs.Common.{rules};
+
 use bytes::{BufMut, BytesMut};
-use resolver_base::base::Span;
+use resolver_base::base::{Faithful, Span};
+use resolver_mailbox::mailbox::Exact;
 pub use resolver_request::wire::{Message, Payload};
 use std::alloc::AllocError;
 use std::fmt;
@@ -44,4 +47,14 @@ impl Span for Key {
     ghost read_again = { λ name. eq-eqb name.0 name.0 refl };
 
     ghost own_bytes = { bytes_of-read_from };
+}
+
+impl Faithful for Key {
+    ghost clones = { Prim.search rules };
+}
+
+impl Exact for Key {
+    fn is_same(&self, other: &Key) -> bool {
+        self.0 == other.0
+    }
 }

@@ -2,7 +2,7 @@
 
 ghost use Rattle.std.specs.Prelude.{◌≡◌, Bool, true};
 
-use resolver_base::base::Predicate;
+use resolver_base::base::{Faithful, Predicate};
 use std::marker::Model;
 
 /// A caller's test of subscribers, by their key. It is pure: what it answers follows from its own
@@ -41,6 +41,19 @@ impl<F> Kept<F> {
     {
         Kept { test }
     }
+
+    /// The test.
+    pub fn test(&self) -> &F
+        ensures { result.now ≡ self.now }
+    {
+        &self.test
+    }
+}
+
+impl<F: Faithful> Faithful for Kept<F> {
+    ghost use Rattle.std.proofs.Common.{sym, ◌∙◌};
+
+    ghost clones = { λ x y same. sym same.3 ∙ F.clones same.0.test same.1.test same.4 ∙ same.2 };
 }
 
 impl<K: Eq, S: Eq, F: Test<K, S>> Predicate<K, S> for Kept<F> {

@@ -4,6 +4,7 @@ ghost use Rattle.std.specs.Prelude.{◌≡◌, ◌↔◌, IsTrue};
 
 use bytes::Bytes;
 use resolver_base::base::NonEmptyVec;
+use resolver_demand::ingress::Kept;
 
 /// A type whose values are said to be the same exactly where they are.
 pub trait Exact {
@@ -69,6 +70,12 @@ impl<A: Exact, B: Exact, C: Exact> Exact for (A, B, C) {
 impl<T: Exact> Exact for NonEmptyVec<T> {
     fn is_same(&self, other: &NonEmptyVec<T>) -> bool {
         are_same(self.as_slice(), other.as_slice())
+    }
+}
+
+impl<F: Exact> Exact for Kept<F> {
+    fn is_same(&self, other: &Kept<F>) -> bool {
+        self.test().is_same(other.test())
     }
 }
 
