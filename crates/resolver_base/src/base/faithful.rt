@@ -46,6 +46,9 @@ impl<A: Faithful, B: Faithful> Faithful for (A, B) {
 }
 
 impl<A: Faithful, B: Faithful, C: Faithful> Faithful for (A, B, C) {
-    ghost clones = { λ x y same. λ i. (A.clones x.0 y.0 same.0 i, B.clones x.1 y.1 same.1 i,
-        C.clones x.2 y.2 same.2 i) };
+    ghost clones = { λ x y same. λ i. (
+      A.clones x.0 y.0 same.0 i,
+      B.clones x.1 y.1 same.1 i,
+      C.clones x.2 y.2 same.2 i,
+    ) };
 }
