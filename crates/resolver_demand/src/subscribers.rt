@@ -22,7 +22,7 @@ ghost use Rattle.std.specs.BTreeMap.{get, is_at};
 
 use crate::subscribers::named::Named;
 pub use listed::Subscribers;
-use resolver_base::base::{Fault, NonEmptyVec, Predicate};
+use resolver_base::base::{Faithful, Fault, NonEmptyVec, Predicate};
 use std::alloc::{AllocError, Global};
 use std::collections::BTreeMap;
 use std::collections::btree_map::Iter;
@@ -214,20 +214,7 @@ impl<K: Ord + Clone + Drop, S: Ord + Clone + Drop> Tracker<K, S> {
         requires subscribers_clone { (x y : S) → S.is_clone x y → y ≡ x }
         ensures same { IfOk result (λ tracker. tracker ≡ self.now) }
     {
-        Clone::clone(self)
-    }
-}
-
-impl<K: Ord + Clone + Drop, S: Ord + Clone + Drop> Clone for Tracker<K, S> {
-    ghost is_clone = { λ tracker copy. ((x y : K) → K.is_clone x y → y ≡ x) → ((x y : S) → S.is_clone x y → y ≡ x) → copy ≡ tracker };
-
-    /// Clones of the keys and subscribers, with the marks. Where clones don't equal their sources
-    /// and so don't stand in order, it is refused.
-    fn clone(&self) -> Result<Self, AllocError> {
         let demand = self.demand.clone()?;
-        if !are_listed(&demand) {
-            return Err(AllocError);
-        }
         Ok(Tracker {
             demand,
             alloc: self.alloc,
@@ -235,16 +222,13 @@ impl<K: Ord + Clone + Drop, S: Ord + Clone + Drop> Clone for Tracker<K, S> {
     }
 }
 
-/// Whether each key has subscribers in their order, each once.
-fn are_listed<K: Ord, S: Ord>(demand: &BTreeMap<K, Subscribers<S>>) -> bool
-    ensures { IsTrue result → AreListed S.cmp demand.now.entries }
-{
-    for (_, subscribers) in demand {
-        if !subscribers.is_listed() {
-            return false;
-        }
+impl<K: Ord + Faithful + Drop, S: Ord + Faithful + Drop> Clone for Tracker<K, S> {
+    ghost is_clone = { λ tracker copy. copy ≡ tracker };
+
+    /// Clones of the keys and subscribers, with the marks.
+    fn clone(&self) -> Result<Self, AllocError> {
+        Tracker::clone(self)
     }
-    true
 }
 
 /// Attaches subscribers to a key that is there.

@@ -1,9 +1,7 @@
 //! A few subscribers, in a list.
 
-ghost use Rattle.std.specs.Prelude.{◌≡◌, ◌≤◌, nat_lt, filter, insert, length, IsTrue, IfOk, OnOk, OnErr, MatchOption};
+ghost use Rattle.std.specs.Prelude.{◌≡◌, ◌≤◌, nat_lt, filter, insert, length, IfOk, OnOk, OnErr, MatchOption};
 ghost use Rattle.std.specs.List.{list_any};
-ghost use Rattle.std.specs.List.Sorted.{IsStrictlySortedBy};
-ghost use Rattle.std.specs.Map.{keys_of};
 ghost use Rattle.resolver_base.specs.Subscribers.{attached, attached_all, without};
 
 use crate::subscribers::named::Named;
@@ -92,17 +90,4 @@ pub(super) fn without<S: Ord + Clone + Drop>(
         }
     }
     Ok(rest)
-}
-
-/// Whether these stand in their order, each once.
-pub(super) fn ascends<S: Ord>(list: &[(S, u64)]) -> bool
-    ensures { IsTrue result → IsStrictlySortedBy S.cmp (keys_of list.now) }
-{
-    for i in 1..list.len() {
-        match list[i - 1].0.cmp(&list[i].0) {
-            Ordering::Less => {}
-            _ => return false,
-        }
-    }
-    true
 }

@@ -1,11 +1,10 @@
 //! A key's subscribers, in their order.
 
-ghost use Rattle.std.specs.Prelude.{◌≡◌, nat_lt, [], filter, length, IsTrue, IfOk, IfSome, OnOk, OnErr};
+ghost use Rattle.std.specs.Prelude.{◌≡◌, nat_lt, [], filter, length, IfOk, IfSome, OnOk, OnErr};
 ghost use Rattle.std.specs.List.{list_any};
 ghost use Rattle.std.specs.List.Sorted.{IsStrictlySortedBy};
 ghost use Rattle.std.specs.Map.{keys_of};
 ghost use Rattle.resolver_base.specs.Subscribers.{attached_all, without};
-ghost use Rattle.resolver_demand.specs.Rows.{IsListed};
 
 use crate::subscribers::named::Named;
 use crate::subscribers::{few, many};
@@ -79,16 +78,6 @@ impl<S: Ord> Subscribers<S> {
         match &self.form {
             Form::Few(list) => list.len(),
             Form::Many(map) => map.len(),
-        }
-    }
-
-    /// Whether there are some, in their order, each once.
-    pub(super) fn is_listed(&self) -> bool
-        ensures { IsTrue result → IsListed S.cmp self.now }
-    {
-        match &self.form {
-            Form::Few(list) => 0 < list.len() && few::ascends(list),
-            Form::Many(map) => 0 < map.len(),
         }
     }
 
