@@ -29,6 +29,7 @@ use Rattle.resolver_peer.specs.Peer.{Machine, Open, Serve, Done, Effect, Ask, De
 use Rattle.std.specs.List.{cons_option}
 use Rattle.resolver_peer.specs.PeerRun.{Fed, effects_of, after}
 use Rattle.resolver_peer.specs.PeerLaws.{IsWellAsked, AsksEligible}
+use Rattle.resolver_peer.proofs.Effects.{all-append, over-none}
 
 module _ {K S P : Type 0} (a : Parties K S P) where
   -- no pair was tried twice
@@ -91,10 +92,6 @@ module _ {K S P : Type 0} where
   abbrev pub IsCalmIfDone : Machine K S P → Option (Done K S P) → Type 0
   IsCalmIfDone m None = ⊤
   IsCalmIfDone m (Some d) = IsCalm m d
-
-  all-append : (Q : Effect K S P → Type 0) (xs ys : List (Effect K S P)) → AllAre Q xs → AllAre Q ys → AllAre Q (xs ++ ys)
-  all-append Q [] ys i j = j
-  all-append Q (x ∷ xs) ys i j = (i.0, all-append Q xs ys i.1 j)
 
   cancels-ask : (rows : List (K × Row K S P)) → AllAre IsNoQuestion (cancels rows)
   cancels-ask [] = tt
@@ -230,14 +227,10 @@ module _ {K S P : Type 0} (a : Parties K S P) where
       let fine : _ = scanned-fine b d.machine now calm.0 in
       (fine.0, all-append (IsWellAsked a (scanned_if a b d.machine now).machine) d.effects (scanned_if a b d.machine now).effects (no-question (scanned_if a b d.machine now).machine d.effects calm.1) fine.1)
 
-  over-none : (m : Machine K S P) (e : Option (Expected P)) → is_none e ≡ true → e ≡ None
-  over-none m None is = refl
-  over-none m (Some e) is = cc
-
   -- nothing is expected
   over-sound : (m n : Machine K S P) → IsSound a m → is_over m.scan ≡ true → n.scan ≡ m.scan → IsSound a n
   over-sound m n sound is same =
-      let none : n.scan.expects ≡ None = ap (λ scan. scan.expects) same ∙ over-none m m.scan.expects is in
+      let none : n.scan.expects ≡ None = ap (λ scan. scan.expects) same ∙ over-none m.scan.expects is in
       let Q : Option (Expected P) → Type 0 = λ e. IsSoundAt (orders_of a) (snapshot a n) n.scan e in
       (subst (λ (scan : Scan K P). IsOnce (orders_of a) scan.trail) (sym same) sound.0, subst Q (sym none) tt)
 

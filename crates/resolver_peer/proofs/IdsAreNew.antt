@@ -26,8 +26,9 @@ use Rattle.resolver_peer.specs.Peer.{Machine, Done, Effect, Ask, Deliver, Cancel
 use Rattle.resolver_peer.specs.PeerRun.{Fed, effects_of, after}
 use Rattle.resolver_peer.specs.PeerLaws.{HasNewId, IdsAreNew}
 use Rattle.resolver_peer.proofs.AsksEligible.{IsNoQuestion, IsCalmIfDone, does-calm}
-use Rattle.resolver_peer.proofs.NewIds.{next-new}
+use Rattle.resolver_request.proofs.NewIds.{next-new}
 use Rattle.resolver_peer.proofs.PeerPhases.{RowsAre, IsKeptIfDone, does-kept}
+use Rattle.resolver_peer.proofs.Effects.{all-append, over-none}
 
 abbrev pub IsUnasked : {K P : Type 0} → Phase K P → Type 0
 IsUnasked phase = request_in phase ≡ None
@@ -80,10 +81,6 @@ module _ {K S P : Type 0} where
 
   abbrev pub IsNumbered : Machine K S P → Type 0
   IsNumbered m = CountsIds m.last_id m.rows × Awaits m.scan.expects m.last_id m.rows
-
-  all-append : (Q : Effect K S P → Type 0) (xs ys : List (Effect K S P)) → AllAre Q xs → AllAre Q ys → AllAre Q (xs ++ ys)
-  all-append Q [] ys i j = j
-  all-append Q (x ∷ xs) ys i j = (i.0, all-append Q xs ys i.1 j)
 
 module _ {K S P : Type 0} (a : Parties K S P) where
   -- of a turn that the machine takes
@@ -195,10 +192,6 @@ module _ {K S P : Type 0} (a : Parties K S P) where
       let b : Bool = is_due now (wake_up a d.machine) in
       let new : _ = scanned-new b d.machine now calm.0 in
       (new.0, λ few. all-append (HasNewId a (scanned_if a b d.machine now).machine) d.effects (scanned_if a b d.machine now).effects (no-question (scanned_if a b d.machine now).machine d.effects calm.1) (new.1 few))
-
-  over-none : (e : Option (Expected P)) → is_none e ≡ true → e ≡ None
-  over-none None is = refl
-  over-none (Some e) is = cc
 
   fewer-asked : (last : Option ℕ) (m n : Machine K S P) → (Unasked m.rows → Unasked n.rows) → CountsIds last m.rows → CountsIds last n.rows
   fewer-asked None m n keeps counts = keeps counts

@@ -1,3 +1,4 @@
+pub mod Effects
 pub mod EarnsOnce
 pub mod AsksEligible
 pub mod TriesOnce
@@ -14,6 +15,5 @@ pub mod Resting
 pub mod Apart
 pub mod AskedOnce
 pub mod PeerRunLaws
-pub mod NewIds
 pub mod IdsAreNew
 pub mod StaysAwake

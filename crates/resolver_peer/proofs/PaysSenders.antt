@@ -33,6 +33,7 @@ use Rattle.resolver_peer.specs.PeerLaws.{brought, senders_in, IsFrom, PaysSender
 use Rattle.resolver_machine.specs.Lawful.{Each}
 use Rattle.resolver_machine.proofs.Deliveries.{Each-imply, Each-push, Each-found, Each-remove_entry}
 use Rattle.resolver_peer.proofs.Changed.{Each-inserted}
+use Rattle.resolver_peer.proofs.Effects.{all-append}
 
 lookup-front : {K X : Type 0} (test : K → Bool) (es fs : List (K × X)) (x : X) → lookup test es ≡ Some x → lookup test (es ++ fs) ≡ Some x
 lookup-front test [] fs x found = cc
@@ -47,10 +48,6 @@ lookup-last n [] x below = rw (eq-eqb n n refl) refl
 lookup-last n (e ∷ es) x below = rw (ne_eqb n e.0 (omega (arith, below.0))) (lookup-last n es x below.1)
 
 module _ {K S P : Type 0} where
-  all-append : (Q : Effect K S P → Type 0) (xs ys : List (Effect K S P)) → AllAre Q xs → AllAre Q ys → AllAre Q (xs ++ ys)
-  all-append Q [] ys ps qs = qs
-  all-append Q (x ∷ xs) ys ps qs = (ps.0, all-append Q xs ys ps.1 qs)
-
   brought-append : (peer : P) (xs ys : List (Effect K S P)) → brought peer ys ≡ [] → brought peer (xs ++ ys) ≡ brought peer xs
   brought-append peer [] ys none = none
   brought-append peer (Ask q ∷ xs) ys none = brought-append peer xs ys none
