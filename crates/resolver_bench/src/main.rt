@@ -1,4 +1,4 @@
-//! `resolver-bench` drives the opaque actor, a full mailbox and the fetcher with many keys, and one
+//! `resolver-bench` drives the opaque actor and a full mailbox with many keys, and one
 //! key with many subscribers, and prints how many steps that took and what they had. With a number
 //! of keys as its argument, and of that key's subscribers, it prints nanoseconds a step too. It is no
 //! part of the product.
@@ -6,7 +6,6 @@
 
 mod actor;
 mod fault;
-mod fetcher;
 mod mailbox;
 mod spent;
 mod tracker;
@@ -43,9 +42,6 @@ fn run<R: AllocGlobal + Clock + Env + Print + Wait + RandomSource + Copy + Drop>
         print(rt, one, size.is_some())?;
     }
     for one in &mailbox::run(*rt, keys)? {
-        print(rt, one, size.is_some())?;
-    }
-    for one in &fetcher::run(rt, keys)? {
         print(rt, one, size.is_some())?;
     }
     for one in &tracker::run(rt, keys)? {
