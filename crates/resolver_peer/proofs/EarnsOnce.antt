@@ -24,7 +24,8 @@ use Rattle.resolver_request.specs.declared.wire.Payload.TheVariants as payloads
 use Rattle.resolver_machine.specs.declared.ruling.Ruling.{Ruling}
 use Rattle.resolver_machine.specs.declared.ruling.Ruling.TheVariants as rulings
 use Rattle.resolver_machine.specs.Verdicts.{ruling}
-use Rattle.resolver_peer.specs.Peer.{Machine, Open, Serve, Done, Effect, Ask, Deliver, Produce, Credit, Block, Status, Running, Ended, Failed, Item, Event, Fetch, Retain, PeerSet, Blocked, ActiveDue, PendingDue, Verdict, Served, Net, End, Input, Happens, Answers, quiet, and_then, snapshot, cancel_in, cancels, closed, served_by, row_of, fetch, fetch_one, times_out, account_for, serves_rest, ruled, ruled_in, ruled_at, verdict_on, responds, misses, answered, receive, does, with_sent, turned, question, asking, is_due, wake_up, scanned_if, scanned, step_of, answer_of, step_running, step_in, step, opening}
+use Rattle.resolver_peer.specs.declared.named.Serve.{Serve}
+use Rattle.resolver_peer.specs.Peer.{Machine, Open, Done, Effect, Ask, Deliver, Produce, Credit, Block, Status, Running, Ended, Failed, Item, Event, Fetch, Retain, PeerSet, Blocked, ActiveDue, PendingDue, Verdict, Served, Net, End, Input, Happens, Answers, quiet, and_then, snapshot, cancel_in, cancels, closed, served_by, row_of, fetch, fetch_one, times_out, account_for, serves_rest, ruled, ruled_in, ruled_at, verdict_on, responds, misses, answered, receive, does, with_sent, turned, question, asking, is_due, wake_up, scanned_if, scanned, step_of, answer_of, step_running, step_in, step, opening}
 use Rattle.resolver_base.specs.Subscribers.{without}
 use Rattle.resolver_request.specs.Times.{elapsed_since}
 use Rattle.resolver_request.specs.Requests.{overdue}

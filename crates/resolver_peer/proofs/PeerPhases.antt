@@ -21,7 +21,8 @@ use Rattle.resolver_machine.specs.declared.ruling.Ruling.TheVariants as rulings
 use Rattle.resolver_machine.specs.Verdicts.{ruling}
 use Rattle.resolver_peer.specs.Parties.{Parties}
 use Rattle.resolver_peer.specs.PeerRows.{Row, Phase, Waits, Asked, Judged, Judging, change_entry}
-use Rattle.resolver_peer.specs.Peer.{Machine, Open, Serve, Done, Item, Event, Fetch, Retain, PeerSet, Blocked, ActiveDue, PendingDue, Verdict, Served, Net, End, quiet, snapshot, closed, served_by, row_of, is_key, fetch, fetch_one, fails, times_out, hand_out, account_for, serves_rest, ruled, ruled_in, ruled_at, verdict_on, responds, misses, answered, receive, does, retry, has_subscribers, pruned, is_newer}
+use Rattle.resolver_peer.specs.declared.named.Serve.{Serve}
+use Rattle.resolver_peer.specs.Peer.{Machine, Open, Done, Item, Event, Fetch, Retain, PeerSet, Blocked, ActiveDue, PendingDue, Verdict, Served, Net, End, quiet, snapshot, closed, served_by, row_of, is_key, fetch, fetch_one, fails, times_out, hand_out, account_for, serves_rest, ruled, ruled_in, ruled_at, verdict_on, responds, misses, answered, receive, does, retry, has_subscribers, pruned, is_newer}
 
 -- Of each row's phase this is so.
 module _ {K S P : Type 0} (Q : Phase K P → Type 0) where

@@ -22,8 +22,10 @@ use Rattle.resolver_machine.specs.declared.ruling.Ruling.{Ruling}
 use Rattle.resolver_machine.specs.declared.ruling.Ruling.TheVariants as rulings
 use Rattle.resolver_machine.specs.Verdicts.{ruling}
 use Rattle.resolver_peer.specs.Parties.{Parties, orders_of}
-use Rattle.resolver_peer.specs.PeerRows.{Row, Phase, Waits, Asked, Judged, Judging, Source, change_entry, waiting_in, waiting_of}
-use Rattle.resolver_peer.specs.Peer.{Machine, Open, Serve, Done, Item, Event, Fetch, Retain, PeerSet, Blocked, ActiveDue, PendingDue, Verdict, Served, Net, End, quiet, snapshot, closed, served_by, observe, row_of, is_key, fetch, fetch_one, times_out, hand_out, account_for, serves_rest, ruled, ruled_in, ruled_at, targets_with, verdict_on, responds, misses, answered, receive, does, without_row, is_newer}
+use Rattle.resolver_peer.specs.declared.named.Source.{Source}
+use Rattle.resolver_peer.specs.PeerRows.{Row, Phase, Waits, Asked, Judged, Judging, change_entry, waiting_in, waiting_of}
+use Rattle.resolver_peer.specs.declared.named.Serve.{Serve}
+use Rattle.resolver_peer.specs.Peer.{Machine, Open, Done, Item, Event, Fetch, Retain, PeerSet, Blocked, ActiveDue, PendingDue, Verdict, Served, Net, End, quiet, snapshot, closed, served_by, observe, row_of, is_key, fetch, fetch_one, times_out, hand_out, account_for, serves_rest, ruled, ruled_in, ruled_at, targets_with, verdict_on, responds, misses, answered, receive, does, without_row, is_newer}
 use Rattle.resolver_peer.proofs.InOrder.{rests-removed, waits-removed}
 
 module _ {P : Type 0} (may : P → Bool) (test : P → Bool) (v : Averages) where
@@ -216,4 +218,4 @@ module _ {K S P : Type 0} (a : Parties K S P) (total : IsTotalOrder a.key) where
   does-resting m now (Served serve bytes) = served-resting m serve bytes (lookup (λ n. serve == n) m.serves)
   does-resting m now (Net peer None) = itself m
   does-resting m now (Net peer (Some message)) = receive-resting m now peer message.id message.payload
-  does-resting m now End = inr (refl, (λ w i. absurd i), λ targets p i. i)
+  does-resting m now End = inl refl

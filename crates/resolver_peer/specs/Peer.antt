@@ -30,18 +30,15 @@ use Rattle.resolver_machine.specs.declared.ruling.Ruling.TheVariants as rulings
 use Rattle.resolver_machine.specs.Verdicts.{ruling}
 use Rattle.resolver_machine.specs.Account.{Handed}
 use Rattle.resolver_peer.specs.Parties.{Parties, orders_of}
-use Rattle.resolver_peer.specs.PeerRows.{Row, Phase, Waits, Asked, Judged, Judging, Source, change_entry, waiting_of, request_of}
+use Rattle.resolver_peer.specs.declared.named.Serve.{Serve}
+use Rattle.resolver_peer.specs.declared.named.Source.{Source}
+use Rattle.resolver_peer.specs.PeerRows.{Row, Phase, Waits, Asked, Judged, Judging, change_entry, waiting_of, request_of}
 
 -- a delivery without its verdict. `accepted`: its response was judged Complete before it was handed out
 pub record Open (K S P : Type 0) : Type 0 where
   pub handed : Handed K S
   pub source : Source P
   pub accepted : Bool
-
--- a peer's request, under the id that it gave
-pub record Serve (P : Type 0) : Type 0 where
-  pub peer : P
-  pub id : ℕ
 
 pub data Status : Type 0 where
   Running : Status
@@ -199,7 +196,7 @@ module _ {K S P : Type 0} where
       else None
 
   abbrev pub end : Machine K S P → Done K S P
-  end m = record { machine = record m { rows = []; deliveries = []; serves = []; status = Ended }; effects = cancels m.rows }
+  end m = record { machine = record m { rows = []; waiter = None; deliveries = []; serves = []; status = Ended }; effects = cancels m.rows }
 
 module _ {K S P : Type 0} (a : Parties K S P) where
   -- what a scan reads of the machine

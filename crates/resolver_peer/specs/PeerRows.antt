@@ -3,12 +3,7 @@ use Rattle.std.specs.Prelude.{ℕ, Bool, List, [], ◌∷◌, Option, None, Some
 use Rattle.resolver_fetch.specs.declared.fetcher.place.Place.{Place}
 use Rattle.resolver_request.specs.declared.requests.request.Request.{Request}
 use Rattle.resolver_fetch.specs.Waiting.{Waiting}
-
--- where a response came from, how long it took and how long it is
-pub record Source (P : Type 0) : Type 0 where
-  pub peer : P
-  pub elapsed : ℕ
-  pub bytes : ℕ
+use Rattle.resolver_peer.specs.declared.named.Source.{Source}
 
 -- a response at its consumer, under the number of the delivery in progress. `accepted`: it was judged Complete before
 pub record Judging (P : Type 0) : Type 0 where

@@ -14,7 +14,8 @@ use Rattle.resolver_fetch.specs.declared.fetcher.scan.Ask.TheVariants as asks
 use Rattle.resolver_fetch.specs.Waiting.{fresh_at, retry_at}
 use Rattle.resolver_machine.specs.Account.{Handed}
 use Rattle.resolver_peer.specs.Parties.{Parties, parties}
-use Rattle.resolver_peer.specs.PeerRows.{Waits, Asked, Source}
+use Rattle.resolver_peer.specs.declared.named.Source.{Source}
+use Rattle.resolver_peer.specs.PeerRows.{Waits, Asked}
 use Rattle.resolver_peer.specs.Peer.{Machine, Input, Effect, Happens, Answers, Fetch, Retain, PeerSet, Blocked, ActiveDue, PendingDue, Verdict, Served, Net, End, Ask, Deliver, Cancel, Produce, Reply, Credit, Block, opening, step, wake_up}
 
 abbrev numbers : Parties ℕ ℕ ℕ

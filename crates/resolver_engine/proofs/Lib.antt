@@ -1,0 +1,4 @@
+mod Sorting
+mod Slots
+mod Queues
+mod Places

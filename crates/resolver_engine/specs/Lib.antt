@@ -1,0 +1,3 @@
+pub mod Tied
+pub mod Said
+pub mod Going

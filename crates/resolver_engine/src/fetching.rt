@@ -1,0 +1,1 @@
+//! What a fetch does to the parts.

@@ -1,0 +1,81 @@
+//! The parts of the engine: who wants what, what is judged, and what is asked for.
+
+ghost use Rattle.std.specs.Prelude.{◌≡◌, None, false, is_some, IfErr, OnOk, OnErr};
+ghost use Rattle.resolver_base.specs.declared.base.fault.Fault.TheVariants.{OutOfMemory};
+ghost use Rattle.resolver_fetch.specs.Fetcher.{IsTimely};
+ghost use Rattle.resolver_peer.specs.Parties.{parties};
+ghost use Rattle.resolver_peer.specs.Peer.{Machine, opening, peer_set, block};
+ghost use Rattle.resolver_engine.specs.Tied.{Agrees};
+
+use bytes::Bytes;
+use resolver_base::base::{Fault, Numbers};
+use resolver_demand::delivery::Entries;
+use resolver_demand::subscribers::Tracker;
+use resolver_fetch::fetcher::{Config, Fetcher};
+use resolver_peer::named::{Serve, Source};
+use std::alloc::Global;
+use std::collections::BTreeMap;
+
+/// The parts of the engine. Each has what it says of one peer machine; together they are that
+/// machine.
+#[derive(Drop)]
+pub(crate) struct Parts<K: Ord, P: Ord, S: Ord> {
+    pub(crate) demand: Tracker<K, S>,
+    /// With the moment at which a key was fetched first.
+    pub(crate) entries: Entries<K, S, Bytes, Source<P>, u128>,
+    pub(crate) fetcher: Fetcher<K, P>,
+    pub(crate) serves: BTreeMap<u64, Serve<P>>,
+    pub(crate) next_serve: Numbers,
+    pub(crate) last_index: Option<u64>,
+    pub(crate) priority_responses: bool,
+    pub(crate) alloc: Global,
+}
+
+impl<K: Ord + Drop, P: Ord + Drop, S: Ord + Drop> Parts<K, P, S> {
+    /// Nothing is wanted, and no peer is known.
+    pub(crate) fn new(alloc: Global, configuration: Config<P>, priority_responses: bool) -> Self
+        requires { IsTimely configuration.fetch_timeout configuration.retry_delay }
+        ensures { Agrees (parties K.cmp S.cmp P.cmp) result
+            (opening configuration priority_responses) }
+    {
+        Parts {
+            demand: Tracker::new(alloc),
+            entries: Entries::new(alloc),
+            fetcher: Fetcher::new(alloc, configuration),
+            serves: BTreeMap::new(alloc),
+            next_serve: Numbers::new(),
+            last_index: None,
+            priority_responses,
+            alloc,
+        }
+    }
+
+    /// Takes a set of peers in place of the last, if its index is greater.
+    pub(crate) fn peer_set(&mut self, index: u64, peers: Vec<P>) -> Result<(), Fault>
+        requires closed { is_some self.old.fetcher.scan ≡ false }
+        ensures ok { (m : Machine K S P) → Agrees (parties K.cmp S.cmp P.cmp) self.old m
+            → OnOk result (Agrees (parties K.cmp S.cmp P.cmp) self.new
+            (peer_set (parties K.cmp S.cmp P.cmp) m index peers.items)) }
+        ensures only { IfErr result (λ fault. fault ≡ OutOfMemory) }
+    {
+        if let Some(last) = self.last_index {
+            if index <= last {
+                return Ok(());
+            }
+        }
+        self.fetcher.reconcile(peers)?;
+        self.last_index = Some(index);
+        Ok(())
+    }
+
+    /// Takes these peers as the ones that are blocked.
+    pub(crate) fn block(&mut self, peers: Vec<P>) -> Result<(), Fault>
+        requires closed { is_some self.old.fetcher.scan ≡ false }
+        ensures ok { (m : Machine K S P) → Agrees (parties K.cmp S.cmp P.cmp) self.old m
+            → OnOk result (Agrees (parties K.cmp S.cmp P.cmp) self.new
+            (block (parties K.cmp S.cmp P.cmp) m peers.items)) }
+        ensures only { IfErr result (λ fault. fault ≡ OutOfMemory) }
+    {
+        self.fetcher.set_blocked(peers)
+    }
+}
