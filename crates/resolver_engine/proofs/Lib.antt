@@ -1,4 +1,11 @@
-mod Sorting
-mod Slots
-mod Queues
+mod Agreeing
+mod Opened
 mod Places
+mod Queues
+mod Scanned
+mod Sent
+mod Slots
+mod Snapshots
+mod Sorting
+mod Supplied
+mod Turns

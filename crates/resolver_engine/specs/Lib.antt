@@ -1,3 +1,4 @@
-pub mod Tied
-pub mod Said
+pub mod Answering
 pub mod Going
+pub mod Said
+pub mod Tied
