@@ -16,13 +16,13 @@ use Rattle.resolver_base.specs.Table as tables
 use Rattle.resolver_demand.specs.Entries.{fresh, inserted}
 use Rattle.resolver_request.specs.Requests.{by_id, is_asked}
 use Rattle.resolver_fetch.specs.Fetcher as fetchers
-use Rattle.resolver_fetch.specs.Fetcher.{Fetcher}
+use Rattle.resolver_fetch.specs.Fetcher.{Fetcher, unless_over}
 use Rattle.resolver_fetch.specs.Peers.{with_targets}
 use Rattle.resolver_fetch.specs.Waiting.{fresh_at, place_order}
 use Rattle.resolver_machine.proofs.Mapped.{insert_entry-seen}
 use Rattle.resolver_peer.specs.Parties.{Parties, names_of, orders_of}
 use Rattle.resolver_peer.specs.PeerRows.{Row, Waits, change_entry, request_of}
-use Rattle.resolver_peer.specs.Peer.{Machine, fetch_one, is_key, row_of, targets_with, waiter_with, with_new_row, with_row}
+use Rattle.resolver_peer.specs.Peer.{Item, Machine, fetch, fetch_one, is_key, row_of, targets_with, waiter_with, with_new_row, with_row}
 use Rattle.resolver_engine.specs.declared.parts.Parts.{Parts}
 use Rattle.resolver_engine.specs.Aiming.{aimed, readied}
 use Rattle.resolver_engine.specs.Tied.{Agrees, AreOwn, IsSound, demand_of, fetcher_of, held_of, holds_in, holds_of, open_of, place_of, retries_in, same_id, sorted, targets_in}
@@ -331,3 +331,35 @@ module _ {K S P : Type 0} (a : Parties K S P) (o : IsTotalOrder a.key) (m : Mach
     new-agrees new wanted tracked readies same =
         subst (λ row. Agrees a n (fetch_one a m now (record { key = key; subscribers = subscribers; targets = targets }) row)) (sym (absent new))
         (around-agrees (around-none o m.rows key sound.ordered (absent new)) wanted tracked readies same)
+
+module _ {K S P : Type 0} (a : Parties K S P) where
+  -- what is left to fetch, from the machine that there is now, makes what all made
+  pub record Fetches (m : Machine K S P) (now : ℕ) (all rest : List (Item K S P)) (e : Parts K P S) : Type 0 where
+    pub so_far : Machine K S P
+    pub same : fetch a so_far now rest ≡ fetch a m now all
+    pub agrees : Agrees a e so_far
+    pub scan : so_far.scan ≡ m.scan
+
+  one-scan : (m : Machine K S P) (now : ℕ) (item : Item K S P) (row : Option (Row K S P)) → (fetch_one a m now item row).scan ≡ m.scan
+  one-scan m now item None = refl
+  one-scan m now item (Some row) = refl
+
+  pub fetches-first : (m : Machine K S P) (now : ℕ) (all : List (Item K S P)) (e : Parts K P S) → Agrees a e m → Fetches m now all all e
+  fetches-first m now all e is = record { so_far = m; same = refl; agrees = is; scan = refl }
+
+  pub fetches-next : (m : Machine K S P) (now : ℕ) (all rest : List (Item K S P)) (item : Item K S P) (e n : Parts K P S) → (f : Fetches m now all (item ∷ rest) e)
+      → Agrees a n (fetch_one a f.so_far now item (row_of a f.so_far item.key)) → Fetches m now all rest n
+  fetches-next m now all rest item e n f is = record {
+    so_far = fetch_one a f.so_far now item (row_of a f.so_far item.key);
+    same = f.same;
+    agrees = is;
+    scan = one-scan f.so_far now item (row_of a f.so_far item.key) ∙ f.scan;
+  }
+
+  pub fetches-all : (m : Machine K S P) (now : ℕ) (all : List (Item K S P)) (e : Parts K P S) → Fetches m now all [] e → Agrees a e (fetch a m now all)
+  fetches-all m now all e f = subst (Agrees a e) f.same f.agrees
+
+  -- no scan is open meanwhile
+  pub fetches-closed : (m : Machine K S P) (now : ℕ) (all rest : List (Item K S P)) (first e : Parts K P S) → Agrees a first m → is_some first.fetcher.scan ≡ false → Fetches m now all rest e → is_some e.fetcher.scan ≡ false
+  fetches-closed m now all rest first e is closed f =
+      ap (λ (f : Fetcher K P). is_some f.scan) f.agrees.fetcher ∙ ap (λ scan. is_some (unless_over scan)) f.scan ∙ sym (ap (λ (f : Fetcher K P). is_some f.scan) is.fetcher) ∙ closed
