@@ -2,10 +2,10 @@
 use Rattle.std.proofs.Common.{◌≡◌, refl, ap, subst, ◌∙◌, sym, ℕ, zero, suc, ◌+◌, ◌^◌, Bool, true, false, List, [], ◌∷◌, ◌++◌, Option, None, Some, Result, Ok, Err, option_map, if◌then◌else◌}
 use Rattle.std.proofs.lemmas.List.{length-map}
 use Rattle.std.specs.List.{slice_get}
-use Rattle.std.specs.Prelude.{OnOk, nat_lt, sum}
+use Rattle.std.specs.Prelude.{IfErr, OnOk, is_ok, nat_lt, sum}
 use Rattle.resolver_base.specs.declared.base.check.Check.TheVariants.{Clear, Until}
 use Rattle.resolver_base.specs.declared.base.fault.Fault.{Fault}
-use Rattle.resolver_base.specs.declared.base.fault.Fault.TheVariants.{Unasked, OutOfRange}
+use Rattle.resolver_base.specs.declared.base.fault.Fault.TheVariants.{OutOfMemory, OutOfRange, Unasked}
 use Rattle.resolver_request.specs.declared.score.Averages.{Averages}
 use Rattle.resolver_fetch.specs.declared.fetcher.scan.Answer.{Answer}
 use Rattle.resolver_fetch.specs.declared.fetcher.scan.Answer.TheVariants.{Drawn, Checked, Sent}
@@ -130,6 +130,17 @@ module _ {K P : Type 0} (o : Orders K P) where
       → scan_answer o answer f ≡ (Err fault, f)
   answer-refused f cursor answer fault is tried means = answers-with f cursor answer is tried ∙ ap (Leaves f (scan_of cursor) cursor.trying.key) means
 
+  wanted-step : (f : Fetcher K P) (scan : Scan K P) (key : K) (r : Result (Step P) Fault) → is_ok r ≡ true → (Leaves f scan key r).0 ≡ Ok tt
+  wanted-step f scan key (Ok step) is = refl
+  wanted-step f scan key (Err fault) is = absurd cc
+
+  -- an answer that means some step would be taken
+  pub answer-wanted : (f : Fetcher K P) (cursor : Cursor K P) (answer : Answer) → f.scan ≡ Some (scan_of cursor)
+      → tried_next o f cursor.moment cursor.trail ≡ Some cursor.trying → is_ok (step_of cursor.trying cursor.expects answer) ≡ true
+      → (scan_answer o answer f).0 ≡ Ok tt
+  answer-wanted f cursor answer is tried means =
+      ap (λ r. r.0) (answers-with f cursor answer is tried) ∙ wanted-step f (scan_of cursor) cursor.trying.key (step_of cursor.trying cursor.expects answer) means
+
   -- where no scan is open no answer is expected
   pub answer-unasked : (f : Fetcher K P) (answer : Answer) → f.scan ≡ None → scan_answer o answer f ≡ (Err Unasked, f)
   answer-unasked f answer is = ap (answered_with o f answer) is
@@ -226,3 +237,8 @@ module _ {K P : Type 0} (o : Orders K P) where
 pub onto-ok : {T E : Type 0} (r : Result T E) (A B : Type 0) → (A → B) → OnOk r A → OnOk r B
 onto-ok (Ok x) A B f a = f a
 onto-ok (Err e) A B f a = tt
+
+-- what is so anyway is so where memory is wanting
+pub if-memory : {T : Type 0} (r : Result T Fault) (A : Type 0) → A → IfErr r (λ fault. fault ≡ OutOfMemory → A)
+if-memory (Ok x) A a = tt
+if-memory (Err fault) A a = λ wanting. a

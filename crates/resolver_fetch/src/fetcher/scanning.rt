@@ -54,8 +54,9 @@ impl<K: Ord + Clone + Drop, P: Ord + Clone + Drop> Fetcher<K, P> {
 
     /// Takes an answer to what the open scan asked, and says what it asks now; nothing where it is
     /// over. An answer that the scan doesn't expect is `Unasked`, a number that isn't below the
-    /// asked bound `OutOfRange`; then, and where memory is wanting, nothing changes. The id of a
-    /// request that it asks for is held by no other.
+    /// asked bound `OutOfRange`; then, and where memory is wanting, nothing changes. Memory may be
+    /// wanting only where the answer is taken. The id of a request that it asks for is held by no
+    /// other.
     ///
     /// It takes time linear in the peers, unless the key that was tried has no peer left: then the
     /// due keys behind it are gone over, as in `scan_begin`. Keys and names are cloned; clones are
@@ -71,7 +72,7 @@ impl<K: Ord + Clone + Drop, P: Ord + Clone + Drop> Fetcher<K, P> {
         ensures refused { IfErr result (λ fault. fault ≢ OutOfMemory
             → calls.scan_answer (orders K.cmp P.cmp) answer self.old ≡ (Err fault, self.old)) }
         ensures takes { IfErr result (λ fault. fault ≡ OutOfMemory
-            → is_some self.old.scan ≡ true) }
+            → (calls.scan_answer (orders K.cmp P.cmp) answer self.old).0 ≡ Ok tt) }
         ensures err { OnErr result (self.new ≡ self.old) }
     {
         let Some(cursor) = self.cursor.take() else {

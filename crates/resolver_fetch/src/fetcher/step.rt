@@ -1,6 +1,6 @@
 //! What an answer means to a scan.
 
-ghost use Rattle.std.specs.Prelude.{◌≡◌, ◌≢◌, Ok, Err, IfErr, IfOk};
+ghost use Rattle.std.specs.Prelude.{◌≡◌, ◌≢◌, true, Ok, Err, is_ok, IfErr, IfOk};
 ghost use Rattle.resolver_base.specs.declared.base.fault.Fault.TheVariants.{OutOfMemory};
 ghost use Rattle.std.specs.Option.{option_copied};
 ghost use Rattle.resolver_fetch.specs.Stepping.{checked_of, drawn_of, id_of, sent_of, step_checked, step_chosen, step_mode, step_of, step_sent};
@@ -27,7 +27,7 @@ pub(super) enum Step<P> {
 }
 
 /// What an answer means to a scan that tries a key and expects something. One that it doesn't
-/// expect, or a number out of range, is refused.
+/// expect, or a number out of range, is refused. Memory may be wanting only where it is taken.
 pub(super) fn step_of<K, P: Clone + Drop>(
     trying: &Trying<K, P>,
     expected: &Expected<P>,
@@ -37,6 +37,8 @@ pub(super) fn step_of<K, P: Clone + Drop>(
     ensures ok { IfOk result (λ step. step_of trying.now expected.now answer ≡ Ok step) }
     ensures refused { IfErr result
         (λ fault. fault ≢ OutOfMemory → step_of trying.now expected.now answer ≡ Err fault) }
+    ensures takes { IfErr result (λ fault. fault ≡ OutOfMemory
+        → is_ok (step_of trying.now expected.now answer) ≡ true) }
 {
     match expected {
         Expected::Mode => mode(trying.retries, drawn(answer)?),
@@ -77,6 +79,8 @@ fn chosen<P: Clone + Drop>(peer: Option<&P>) -> Result<Step<P>, Fault>
     ensures ok { IfOk result (λ step. step_chosen (option_copied peer.entry) ≡ Ok step) }
     ensures refused { IfErr result
         (λ fault. fault ≢ OutOfMemory → step_chosen (option_copied peer.entry) ≡ Err fault) }
+    ensures takes { IfErr result (λ fault. fault ≡ OutOfMemory
+        → is_ok (step_chosen (option_copied peer.entry)) ≡ true) }
 {
     match peer {
         Some(peer) => Ok(Step::Expect(Expected::Checking(peer.clone()?))),

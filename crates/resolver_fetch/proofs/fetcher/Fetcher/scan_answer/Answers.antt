@@ -4,7 +4,7 @@ use Rattle.resolver_fetch.specs.Fetcher.{Fetcher}
 use Rattle.resolver_fetch.specs.Orders.{orders}
 use Rattle.resolver_fetch.specs.Seeking.{tried_next}
 use Rattle.resolver_fetch.specs.Stepping.{after_step}
-use Rattle.resolver_fetch.proofs.Stepping.{answer-refused, answer-taken, onto-ok, step-closed}
+use Rattle.resolver_fetch.proofs.Stepping.{answer-refused, answer-taken, answer-wanted, if-memory, onto-ok, step-closed}
 use Rattle.resolver_fetch.proofs.fetcher.Fetcher.scan_answer.Goals as goal
 
 pub returns-in-Ok-clause-ok : goal.returns-in-Ok-clause-ok
@@ -31,3 +31,23 @@ returns-in-Err-clause-refused g c = λ other.
     let right = rw held at c.self.invariant.1 in
     let tries : tried_next o c.args.self.now cursor.moment cursor.trail ≡ Some cursor.trying = rw (← c.self.view_is) right.tries in
     answer-refused o c.args.self.now cursor c.args.answer c.in-Err.fault scan tries (c.in-Err.ensures.refused other)
+
+pub returns-in-Ok-clause-takes : goal.returns-in-Ok-clause-takes
+returns-in-Ok-clause-takes g c =
+    let o = orders g.K.Ord.cmp g.P.Ord.cmp in
+    let cursor = c.in-Some.cursor in
+    let held : c.self.inside.cursor ≡ Some cursor = sym c.take.ensures.value ∙ c.in-Some.is in
+    let scan = sym (ap (λ (f : Fetcher g.row.K.Denot g.row.P.Denot). f.scan) c.self.view_is) ∙ ap (option_map scan_of) held in
+    let right = rw held at c.self.invariant.1 in
+    let tries : tried_next o c.args.self.now cursor.moment cursor.trail ≡ Some cursor.trying = rw (← c.self.view_is) right.tries in
+    if-memory c.go.result _ (ap (λ r. r.0) (answer-taken o c.args.self.now cursor c.args.answer c.in-Ok.step scan tries c.in-Ok.ensures.ok))
+
+pub returns-in-Err-clause-takes : goal.returns-in-Err-clause-takes
+returns-in-Err-clause-takes g c = λ wanting.
+    let o = orders g.K.Ord.cmp g.P.Ord.cmp in
+    let cursor = c.in-Some.cursor in
+    let held : c.self.inside.cursor ≡ Some cursor = sym c.take.ensures.value ∙ c.in-Some.is in
+    let scan = sym (ap (λ (f : Fetcher g.row.K.Denot g.row.P.Denot). f.scan) c.self.view_is) ∙ ap (option_map scan_of) held in
+    let right = rw held at c.self.invariant.1 in
+    let tries : tried_next o c.args.self.now cursor.moment cursor.trail ≡ Some cursor.trying = rw (← c.self.view_is) right.tries in
+    answer-wanted o c.args.self.now cursor c.args.answer scan tries (c.in-Err.ensures.takes wanting)
