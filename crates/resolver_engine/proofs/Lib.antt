@@ -1,7 +1,10 @@
 mod Agreeing
+mod Fails
 mod Opened
 mod Places
 mod Queues
+mod Requests
+mod Retrying
 mod Scanned
 mod Sent
 mod Slots
@@ -9,3 +12,4 @@ mod Snapshots
 mod Sorting
 mod Supplied
 mod Turns
+mod Wanted

@@ -160,7 +160,7 @@ module _ {K P : Type 0} where
       ap (λ es. insert_entry nat_cmp es x.0 x.1) (by_id-middle xs ys q apart.1)
       ∙ insert_entry-swap q.0 x.0 q.1 x.1 (by_id (xs ++ ys)) apart.0
 
-  all-by_id : (Q : ℕ → Type 0) (es : List (ℕ × Request K P)) → AllByRecursion Q (keys_of es) → AllByRecursion Q (keys_of (by_id es))
+  pub all-by_id : (Q : ℕ → Type 0) (es : List (ℕ × Request K P)) → AllByRecursion Q (keys_of es) → AllByRecursion Q (keys_of (by_id es))
   all-by_id Q [] all = tt
   all-by_id Q (e ∷ es) all = all-entry Q (by_id es) e.0 e.1 all.0 (all-by_id Q es all.1)
 

@@ -171,6 +171,27 @@ module _ {K : Type 0} {cmp : K → K → Ordering} (o : IsTotalOrder cmp) where
     change-slot f [] after key x i = rw (tied_itself o key) refl
     change-slot f (e ∷ before) after key x i = rw (i.above.0, change-slot f before after key x (record { above = i.above.1; below = i.below })) refl
 
+    -- a key that is equal finds what stands there, under its own name
+    pub lookup-found : (before after : List (K × X)) (k key : K) (was : Option X) → cmp k key ≡ Equal → IsAround before key after → lookup (is_at (cmp k)) (slot before key was after) ≡ was
+    lookup-found [] [] k key None same i = refl
+    lookup-found [] (e ∷ after) k key None same i = rw (o.congr k key e.0 same ∙ i.below.0, lookup-found [] after k key None same (record { above = tt; below = i.below.1 })) refl
+    lookup-found [] after k key (Some x) same i = rw same refl
+    lookup-found (e ∷ before) after k key was same i = rw (o.congr k key e.0 same ∙ i.above.0, lookup-found before after k key was same (record { above = i.above.1; below = i.below })) refl
+
+    pub remove-found : (before after : List (K × X)) (k key : K) (was : Option X) → cmp k key ≡ Equal → IsAround before key after → remove_entry (is_at (cmp k)) (slot before key was after) ≡ slot before key None after
+    remove-found [] [] k key None same i = refl
+    remove-found [] (e ∷ after) k key None same i = rw (o.congr k key e.0 same ∙ i.below.0, remove-found [] after k key None same (record { above = tt; below = i.below.1 })) refl
+    remove-found [] after k key (Some x) same i = rw same refl
+    remove-found (e ∷ before) after k key was same i = rw (o.congr k key e.0 same ∙ i.above.0, remove-found before after k key was same (record { above = i.above.1; below = i.below })) refl
+
+    pub set-found : (before after : List (K × X)) (k key : K) (x v : X) → cmp k key ≡ Equal → IsAround before key after → set_value (is_at (cmp k)) (slot before key (Some x) after) v ≡ slot before key (Some v) after
+    set-found [] after k key x v same i = rw same refl
+    set-found (e ∷ before) after k key x v same i = rw (o.congr k key e.0 same ∙ i.above.0, set-found before after k key x v same (record { above = i.above.1; below = i.below })) refl
+
+    pub change-found : (f : X → X) (before after : List (K × X)) (k key : K) (x : X) → cmp k key ≡ Equal → IsAround before key after → change_entry (is_at (cmp k)) f (slot before key (Some x) after) ≡ slot before key (Some (f x)) after
+    change-found f [] after k key x same i = rw same refl
+    change-found f (e ∷ before) after k key x same i = rw (o.congr k key e.0 same ∙ i.above.0, change-found f before after k key x same (record { above = i.above.1; below = i.below })) refl
+
     all-slot : (Q : K → Type 0) (before after : List (K × X)) (key : K) (was now : Option X) → Q key → AllByRecursion Q (keys_of (slot before key was after)) → AllByRecursion Q (keys_of (slot before key now after))
     all-slot Q [] after key None None here all = all
     all-slot Q [] after key None (Some y) here all = (here, all)

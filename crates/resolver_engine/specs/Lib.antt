@@ -1,3 +1,4 @@
+pub mod Aiming
 pub mod Answering
 pub mod Going
 pub mod Said

@@ -5,6 +5,7 @@
 #![tactic(auto)]
 
 pub mod effects;
+mod failing;
 mod fetching;
 pub mod inputs;
 mod parts;

@@ -85,13 +85,13 @@ module _ {K S P : Type 0} where
   IsFlagged completed d = d.1.accepted ≡ was_completed completed d.1.handed.response
 
 -- a number is at itself alone
-same_test : (number n : ℕ) → (number == n) ≡ is_at (nat_cmp number) n
+pub same_test : (number n : ℕ) → (number == n) ≡ is_at (nat_cmp number) n
 same_test number n = grind (arith)
 
 abbrev Test : Type 0
 Test = ℕ → Bool
 
-same_tests : (number : ℕ) → ◌≡◌ {A = Test} (λ n. number == n) (is_at (nat_cmp number))
+pub same_tests : (number : ℕ) → ◌≡◌ {A = Test} (λ n. number == n) (is_at (nat_cmp number))
 same_tests number = λ i n. same_test number n i
 
 module _ {K S P : Type 0} (a : Parties K S P) where
