@@ -9,3 +9,4 @@ mod fetching;
 pub mod inputs;
 mod parts;
 mod scanning;
+mod serving;
