@@ -2,3 +2,4 @@ mod Sorting
 mod Slots
 mod Queues
 mod Places
+mod Serves
