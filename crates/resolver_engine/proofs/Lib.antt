@@ -3,3 +3,5 @@ mod Slots
 mod Queues
 mod Places
 mod Serves
+mod Keeping
+mod Retained

@@ -1,3 +1,4 @@
 pub mod Tied
 pub mod Said
 pub mod Going
+pub mod Canceled

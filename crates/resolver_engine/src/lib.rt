@@ -8,5 +8,6 @@ pub mod effects;
 mod fetching;
 pub mod inputs;
 mod parts;
+mod retaining;
 mod scanning;
 mod serving;
