@@ -1,12 +1,15 @@
 mod Agreeing
 mod Fails
+mod Keeping
 mod Opened
 mod Places
 mod Queues
 mod Requests
+mod Retained
 mod Retrying
 mod Scanned
 mod Sent
+mod Serves
 mod Slots
 mod Snapshots
 mod Sorting

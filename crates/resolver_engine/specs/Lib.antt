@@ -1,5 +1,6 @@
 pub mod Aiming
 pub mod Answering
+pub mod Canceled
 pub mod Going
 pub mod Said
 pub mod Tied

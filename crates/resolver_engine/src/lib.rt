@@ -9,4 +9,6 @@ mod failing;
 mod fetching;
 pub mod inputs;
 mod parts;
+mod retaining;
 mod scanning;
+mod serving;
