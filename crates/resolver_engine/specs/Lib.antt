@@ -1,6 +1,9 @@
 pub mod Aiming
 pub mod Answering
 pub mod Canceled
+pub mod Ending
+pub mod EngineSteps
 pub mod Going
+pub mod Matching
 pub mod Said
 pub mod Tied

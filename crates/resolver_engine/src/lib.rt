@@ -4,7 +4,9 @@
 //! come with the inputs, and what is to be done comes out as effects.
 #![tactic(auto)]
 
+mod advancing;
 pub mod effects;
+pub mod engine;
 mod failing;
 mod fetching;
 pub mod inputs;
