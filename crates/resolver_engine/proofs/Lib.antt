@@ -6,3 +6,5 @@ mod Retrying
 mod Requests
 mod Fails
 mod Wanted
+mod Numbered
+mod Handed

@@ -4,6 +4,7 @@
 //! come with the inputs, and what is to be done comes out as effects.
 #![tactic(auto)]
 
+mod answering;
 pub mod effects;
 mod failing;
 mod fetching;

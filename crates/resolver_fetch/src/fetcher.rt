@@ -488,8 +488,9 @@ fn join_targets<K: Ord + Drop, P: Ord + Clone + Drop>(
     Ok(())
 }
 
-/// How long ago something began, at most `DURATION_MAX`; nothing where the clock went back.
-fn elapsed_since(start: u128, now: u128) -> u128
+/// How many nanoseconds ago something began, at most `DURATION_MAX`; nothing where the clock went
+/// back.
+pub fn elapsed_since(start: u128, now: u128) -> u128
     ensures { result ≡ elapsed_since start now }
 {
     now.saturating_sub(start).min(DURATION_MAX)
