@@ -1,4 +1,6 @@
-pub mod Tied
-pub mod Said
-pub mod Going
 pub mod Aiming
+pub mod Answering
+pub mod Canceled
+pub mod Going
+pub mod Said
+pub mod Tied

@@ -10,4 +10,6 @@ mod failing;
 mod fetching;
 pub mod inputs;
 mod parts;
+mod retaining;
 mod scanning;
+mod serving;
