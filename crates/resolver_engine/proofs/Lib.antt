@@ -1,8 +1,10 @@
 mod Agreeing
 mod Fails
+mod Handed
 mod Happening
 mod Keeping
 mod Lasting
+mod Numbered
 mod Opened
 mod Places
 mod Queues

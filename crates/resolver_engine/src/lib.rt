@@ -5,6 +5,7 @@
 #![tactic(auto)]
 
 mod advancing;
+mod answering;
 pub mod effects;
 pub mod engine;
 mod failing;

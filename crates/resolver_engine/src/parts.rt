@@ -16,13 +16,16 @@ use resolver_peer::named::{Serve, Source};
 use std::alloc::Global;
 use std::collections::BTreeMap;
 
+/// What is judged, with what is known of each response, and the moment at which its key was fetched
+/// first.
+pub(crate) type Judged<K, P, S> = Entries<K, S, Bytes, Source<P>, u128>;
+
 /// The parts of the engine. Each has what it says of one peer machine; together they are that
 /// machine.
 #[derive(Drop)]
 pub(crate) struct Parts<K: Ord, P: Ord, S: Ord> {
     pub(crate) demand: Tracker<K, S>,
-    /// With the moment at which a key was fetched first.
-    pub(crate) entries: Entries<K, S, Bytes, Source<P>, u128>,
+    pub(crate) entries: Judged<K, P, S>,
     pub(crate) fetcher: Fetcher<K, P>,
     pub(crate) serves: BTreeMap<u64, Serve<P>>,
     pub(crate) next_serve: Numbers,

@@ -176,6 +176,14 @@ module _ {K P : Type 0} (o : Orders K P) where
   abbrev pub pop_response : (id : ℕ) → P → (now : ℕ) → Fetcher K P → Option (K × ℕ) × Fetcher K P
   pop_response id peer now f = popped_response f id now (matching o.peer f.asked id peer)
 
+  abbrev pub popped_request : Fetcher K P → (id : ℕ) → Option (Request K P) → Option (Request K P) × Fetcher K P
+  popped_request f id None = (None, f)
+  popped_request f id (Some r) = (Some r, without_id id f)
+
+  -- the whole request of this id and this peer
+  abbrev pub pop_request : (id : ℕ) → P → Fetcher K P → Option (Request K P) × Fetcher K P
+  pop_request id peer f = popped_request f id (matching o.peer f.asked id peer)
+
   abbrev pub popped_missing : Fetcher K P → (id now : ℕ) → Option (Request K P) → Option K × Fetcher K P
   popped_missing f id now None = (None, f)
   popped_missing f id now (Some r) = (Some r.key, charge r.peer (elapsed_since r.start now) (without_id id f))

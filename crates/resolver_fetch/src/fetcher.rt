@@ -401,8 +401,21 @@ impl<K: Ord + Drop, P: Ord + Drop> Fetcher<K, P> {
         ensures idle { IfSome result
             (λ popped. calls.IsIdle (orders K.cmp P.cmp) self.new popped.0) }
     {
-        let request = self.requests.take_matching(id, peer)?;
+        let request = self.pop_request(id, peer)?;
         Some((request.key, elapsed_since(request.start, now)))
+    }
+
+    /// Takes out the request that a response of this peer under this id answers, as
+    /// `pop_response` does, and answers the whole of it.
+    pub fn pop_request(&mut self, id: ID, peer: &P) -> Option<Request<K, P>>
+        requires closed { is_some self.old.scan ≡ false }
+        ensures popped { (result, self.new)
+            ≡ calls.pop_request (orders K.cmp P.cmp) id peer.now self.old }
+        ensures idle { IfSome result
+            (λ request. calls.IsIdle (orders K.cmp P.cmp) self.new request.key) }
+    {
+        let request = self.requests.take_matching(id, peer)?;
+        Some(request)
     }
 
     /// Takes out the request that a peer answers without data, and charges the peer. Where there
@@ -475,8 +488,9 @@ fn join_targets<K: Ord + Drop, P: Ord + Clone + Drop>(
     Ok(())
 }
 
-/// How long ago something began, at most `DURATION_MAX`; nothing where the clock went back.
-fn elapsed_since(start: u128, now: u128) -> u128
+/// How many nanoseconds ago something began, at most `DURATION_MAX`; nothing where the clock went
+/// back.
+pub fn elapsed_since(start: u128, now: u128) -> u128
     ensures { result ≡ elapsed_since start now }
 {
     now.saturating_sub(start).min(DURATION_MAX)

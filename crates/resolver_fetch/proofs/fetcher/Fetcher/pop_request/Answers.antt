@@ -3,7 +3,7 @@ use Rattle.resolver_request.specs.Requests.{IsTaken}
 use Rattle.resolver_fetch.specs.Fetcher.{Fetcher}
 use Rattle.resolver_fetch.proofs.Kept.{closed-any, kept-taken}
 use Rattle.resolver_fetch.proofs.Phases.{idle-then}
-use Rattle.resolver_fetch.proofs.fetcher.Fetcher.pop_response.Goals as goal
+use Rattle.resolver_fetch.proofs.fetcher.Fetcher.pop_request.Goals as goal
 
 pub invariant_of-self-2 : goal.invariant_of-self-2
 invariant_of-self-2 g c =
