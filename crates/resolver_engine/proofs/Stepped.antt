@@ -121,10 +121,11 @@ module _ {K S P : Type 0} (a : Parties K S P) where
           let fed = fed_of c keeps moment input in
           let told : after ≡ map (written c) stepped.effects = stepped.told ∙ ap (λ before. before ++ map (written c) stepped.effects) none in
           let status : (if ends then Ended else Running) ≡ stepped.machine.status =
-          ap (λ ends. if ends then Ended else Running) ended ∙ sym (ends-behind moment input) ∙ ap (λ status. behind_input status fed.input) (sym runs) ∙ sym (status-behind a m stepped.machine fed stepped.effects stepped.is) in
-          (stepped.machine,
-          ap (λ r. (written_of a c r.0, r.1)) (step-running m fed runs ∙ stepped.is) ∙ ap (λ told. (Ok told, stepped.machine)) (sym told),
-          matches e (if ends then Ended else Running) stepped.machine status stepped.agrees)
+          ap (λ ends. if ends then Ended else Running) ended ∙ sym (ends-behind moment input) ∙ ap (λ status. behind_input status fed.input) (sym runs) ∙ sym (status-behind a m stepped.machine fed stepped.effects stepped.is) in (
+            stepped.machine,
+            ap (λ r. (written_of a c r.0, r.1)) (step-running m fed runs ∙ stepped.is) ∙ ap (λ told. (Ok told, stepped.machine)) (sym told),
+            matches e (if ends then Ended else Running) stepped.machine status stepped.agrees,
+          )
 
   -- a core that runs has parts that agree
   pub was-running : (e : Parts K P S) (code : CodeStatus) (now : Engine K S P) (m : Machine K S P) → core e (status_of code) ≡ now → code ≡ statuses.Running → Matches a now m

@@ -50,9 +50,12 @@ impl<K: Ord, P: Ord, S: Ord, Q> Model for Core<K, P, S, Q> {
         a.parts };
 }
 
-impl<K: Span + Drop, P: Ord + Clone + Drop, S: Ord + Clone + Drop, Q: Predicate<K, S> + Drop>
-    Core<K, P, S, Q>
-{
+impl<K: Span + Drop, P: Ord + Clone + Drop, S: Ord + Clone + Drop, Q: Predicate<K, S> + Drop> Core<
+    K,
+    P,
+    S,
+    Q,
+> {
     /// An engine without demand, that knows no peer.
     pub fn new(alloc: Global, configuration: Config<P>, priority_responses: bool) -> Self
         requires { IsTimely configuration.fetch_timeout configuration.retry_delay }

@@ -12,6 +12,7 @@ mod failing;
 mod fetching;
 pub mod inputs;
 mod parts;
+mod receiving;
 mod retaining;
 mod scanning;
 mod serving;

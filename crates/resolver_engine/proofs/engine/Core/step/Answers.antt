@@ -35,8 +35,9 @@ returns-after-ends g c = λ m moment matched.
     let was = was-running a c.self.inside.parts c.self.inside.status c.args.self.now m c.self.view_is c.in-Running.is matched in
     let becomes = taken-becomes a words g.Q.Predicate.keeps m moment c.args.input c.new-effects.result.items c.take.new.effects.items c.take.new.self was.1 c.new-effects.ensures.items (c.in-Ok.ensures m moment was.0) in
     elim c.if-ends.branch [
-    then-ends w ↦ let at = becomes true (sym w.if-ends.true ∙ c.is_end-ends.ensures) in rw w.self-is at
-    | else-ends w ↦ let at = becomes false (sym w.if-ends.false ∙ c.is_end-ends.ensures) in rw (w.self-is, c.in-Running.is) at ]
+      | then-ends w ↦ let at = becomes true (sym w.if-ends.true ∙ c.is_end-ends.ensures) in rw w.self-is at
+      | else-ends w ↦ let at = becomes false (sym w.if-ends.false ∙ c.is_end-ends.ensures) in rw (w.self-is, c.in-Running.is) at
+    ]
 
 pub returns-after-is_final : goal.returns-after-is_final
 returns-after-is_final g c = λ m moment matched.
@@ -46,6 +47,7 @@ returns-after-is_final g c = λ m moment matched.
     let fed = fed_of words g.Q.Predicate.keeps moment c.args.input in
     let taken = c.in-Err.ensures m moment was.0 in
     elim c.if-is_final.branch [
-    then-is_final w ↦ rw w.self-is (final-becomes a words m fed c.new-effects.result.items c.take.new.effects.items c.take.new.self was.1 c.in-Err.fault (sym c.is_final.ensures ∙ w.if-is_final.true) taken)
-    | else-is_final w ↦
-    rw (w.self-is, c.in-Running.is) (refused-becomes a words m fed c.new-effects.result.items c.take.new.effects.items c.take.new.self was.1 c.in-Err.fault (sym c.is_final.ensures ∙ w.if-is_final.false) taken) ]
+      | then-is_final w ↦ rw w.self-is (final-becomes a words m fed c.new-effects.result.items c.take.new.effects.items c.take.new.self was.1 c.in-Err.fault (sym c.is_final.ensures ∙ w.if-is_final.true) taken)
+      | else-is_final w ↦
+          rw (w.self-is, c.in-Running.is) (refused-becomes a words m fed c.new-effects.result.items c.take.new.effects.items c.take.new.self was.1 c.in-Err.fault (sym c.is_final.ensures ∙ w.if-is_final.false) taken)
+    ]
