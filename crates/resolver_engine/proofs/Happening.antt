@@ -1,5 +1,5 @@
 -- What an input does to the parts, by what its event does and by the scan behind it.
-use Rattle.std.proofs.Common.{◌≡◌, refl, ap, sym, ◌∙◌, subst, ℕ, Bool, true, false, not, ◌&&◌, List, [], ◌∷◌, ◌++◌, map, Option, None, Some, Result, Ok, Err, append_assoc}
+use Rattle.std.proofs.Common.{◌≡◌, refl, ap, sym, ◌∙◌, subst, ℕ, Bool, true, false, not, ◌&&◌, List, ◌++◌, map, Option, None, Some, Result, Ok, Err, append_assoc}
 use Rattle.std.proofs.lemmas.List.{map-append}
 use Rattle.std.specs.Option.{option_and_then}
 use Rattle.std.specs.Prelude.{is_err, is_none, is_some, ◌==◌}
@@ -10,21 +10,20 @@ use Rattle.resolver_request.specs.declared.requests.request.Request.{Request}
 use Rattle.resolver_request.specs.Requests.{overdue}
 use Rattle.resolver_fetch.specs.declared.fetcher.scan.Answer.{Answer}
 use Rattle.resolver_fetch.specs.Fetcher.{Fetcher, unless_over}
-use Rattle.resolver_fetch.specs.Scan.{Turn, is_over, takes}
+use Rattle.resolver_fetch.specs.Scan.{is_over, takes}
 use Rattle.resolver_peer.specs.declared.named.Serve.{Serve}
 use Rattle.resolver_peer.specs.Parties.{Parties, orders_of}
 use Rattle.resolver_peer.specs.Peer.{Done, Event, Fetch, Retain, PeerSet, Blocked, ActiveDue, PendingDue, Verdict, Served, Net, End, Happens, Answers, Machine, Open, and_then, asking, does, happen, is_due, quiet, scanned, served_by, snapshot, step_of, step_running, times_out, turned, verdict_on, wake_up}
 use Rattle.resolver_peer.specs.Peer as machines
-use Rattle.resolver_peer.specs.PeerRun.{Fed}
 use Rattle.resolver_peer.specs.PeerSteps.{is_passed_over, takes_no_memory}
 use Rattle.resolver_peer.proofs.AsksEligible.{IsCalmIfDone, does-calm}
 use Rattle.resolver_engine.specs.declared.effects.Effect.{Effect as Told}
 use Rattle.resolver_engine.specs.declared.parts.Parts.{Parts}
-use Rattle.resolver_engine.specs.Answering.{Answered, Turned}
+use Rattle.resolver_engine.specs.Answering.{Answered}
 use Rattle.resolver_engine.specs.EngineSteps.{Taken, running}
 use Rattle.resolver_engine.specs.Going.{Goes, Went}
 use Rattle.resolver_engine.specs.Said.{Codec, written}
-use Rattle.resolver_engine.specs.Tied.{Agrees, fetcher_of}
+use Rattle.resolver_engine.specs.Tied.{Agrees}
 
 some-same : {X : Type 0} (x y : X) → Some x ≡ Some y → x ≡ y
 some-same x y is = cc

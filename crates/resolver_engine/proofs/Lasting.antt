@@ -1,5 +1,5 @@
 -- The status of a machine once it took an input.
-use Rattle.std.proofs.Common.{◌≡◌, refl, ap, sym, ◌∙◌, subst, ℕ, ◌^◌, Bool, true, false, List, [], ◌∷◌, ◌++◌, Option, None, Some, Result, Ok, Err, if◌then◌else◌}
+use Rattle.std.proofs.Common.{◌≡◌, refl, ◌∙◌, subst, ℕ, ◌^◌, Bool, true, false, List, [], ◌∷◌, ◌++◌, Option, None, Some, Result, Ok, Err, if◌then◌else◌}
 use Rattle.std.specs.Option.{option_and_then, option_map}
 use Rattle.std.specs.Prelude.{nat_lt, ◌==◌, ⊤}
 use Rattle.std.specs.Map.{lookup}
@@ -18,7 +18,7 @@ use Rattle.resolver_machine.specs.Verdicts.{ruling}
 use Rattle.resolver_peer.specs.declared.named.Serve.{Serve}
 use Rattle.resolver_peer.specs.Parties.{Parties, orders_of}
 use Rattle.resolver_peer.specs.PeerRows.{Row, Phase, Waits, Asked, Judged}
-use Rattle.resolver_peer.specs.Peer.{Done, Effect, Event, Fetch, Retain, PeerSet, Blocked, ActiveDue, PendingDue, Verdict, Served, Net, End, Input, Happens, Answers, Item, Machine, Open, Status, Ended, account_for, and_then, answer_of, answered, asking, closed, does, fetch, fetch_one, happen, is_due, is_newer, misses, quiet, receive, responds, row_of, ruled, ruled_at, ruled_in, scanned, scanned_if, served_by, serves_rest, snapshot, step_of, step_running, times_out, turned, verdict_on, wake_up, with_sent}
+use Rattle.resolver_peer.specs.Peer.{Done, Effect, Event, Fetch, Retain, PeerSet, Blocked, ActiveDue, PendingDue, Verdict, Served, Net, End, Input, Happens, Answers, Item, Machine, Open, Status, Ended, account_for, and_then, answer_of, answered, closed, does, fetch, fetch_one, happen, is_due, is_newer, misses, quiet, receive, responds, row_of, ruled, ruled_at, ruled_in, scanned, scanned_if, served_by, serves_rest, snapshot, step_of, step_running, times_out, verdict_on, wake_up, with_sent}
 use Rattle.resolver_peer.specs.PeerRun.{Fed}
 use Rattle.resolver_engine.specs.EngineSteps.{running}
 

@@ -1,9 +1,9 @@
 -- What a step is to the machines that the engine's core matches.
-use Rattle.std.proofs.Common.{◌≡◌, ◌≢◌, refl, ap, sym, ◌∙◌, subst, ℕ, Bool, true, false, List, [], ◌∷◌, ◌++◌, map, Result, Ok, Err, if◌then◌else◌}
+use Rattle.std.proofs.Common.{◌≡◌, refl, ap, sym, ◌∙◌, subst, ℕ, Bool, true, false, List, [], ◌++◌, map, Result, Ok, Err, if◌then◌else◌}
 use Rattle.resolver_base.specs.declared.base.fault.Fault.{Fault}
 use Rattle.resolver_base.specs.declared.base.fault.Fault.TheVariants as faults
 use Rattle.resolver_peer.specs.Parties.{Parties}
-use Rattle.resolver_peer.specs.Peer.{Effect, Input, Happens, Answers, Machine, Status, Running, Ended, Failed}
+use Rattle.resolver_peer.specs.Peer.{Machine, Status, Running, Ended, Failed}
 use Rattle.resolver_peer.specs.Peer as machines
 use Rattle.resolver_peer.specs.PeerRun.{Fed}
 use Rattle.resolver_peer.specs.PeerSteps.{step_on}
@@ -17,7 +17,7 @@ use Rattle.resolver_engine.specs.declared.inputs.Input.TheVariants as inputs
 use Rattle.resolver_engine.specs.declared.parts.Parts.{Parts}
 use Rattle.resolver_engine.specs.Ending.{is_end, is_end_event}
 use Rattle.resolver_engine.specs.Going.{IsTied}
-use Rattle.resolver_engine.specs.EngineSteps.{Stepped, Taken, Takes, running, step_written, written_of}
+use Rattle.resolver_engine.specs.EngineSteps.{Stepped, Taken, Takes, running, written_of}
 use Rattle.resolver_engine.specs.Matching.{Engine, IsOf, IsTiedUnlessFailed, Matches, UnlessFailed, held_by, is_final, status_of}
 use Rattle.resolver_engine.specs.Said.{Codec, event_of, fed_of, written}
 use Rattle.resolver_engine.specs.Tied.{Agrees}

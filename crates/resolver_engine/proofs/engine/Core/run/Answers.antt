@@ -1,4 +1,4 @@
-use Rattle.std.proofs.Common.{◌≡◌, refl, sym, ◌∙◌, subst, rules, arith, [], ◌∷◌}
+use Rattle.std.proofs.Common.{◌≡◌, sym, subst, rules, arith, []}
 use Rattle.std.proofs.lemmas.List.{nil_from_length}
 use Rattle.std.specs.Vec.Iter.{into_iter_items}
 use Rattle.resolver_peer.specs.Parties.{parties}

@@ -1,4 +1,4 @@
-use Rattle.std.proofs.Common.{◌≡◌, refl, sym, ◌∙◌, subst, true, false, ℕ}
+use Rattle.std.proofs.Common.{sym, ◌∙◌, true, false}
 use Rattle.resolver_peer.specs.Parties.{parties}
 use Rattle.resolver_engine.specs.Said.{codec, fed_of}
 use Rattle.resolver_engine.proofs.Stepped.{final-becomes, refused-becomes, refused-same, still-tied, taken-becomes, was-running, was-tied}

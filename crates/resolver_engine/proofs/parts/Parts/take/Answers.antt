@@ -1,4 +1,3 @@
-use Rattle.std.proofs.Common.{◌≡◌, refl}
 use Rattle.resolver_peer.specs.Parties.{parties}
 use Rattle.resolver_engine.specs.Said.{codec, event_of}
 use Rattle.resolver_engine.proofs.Happening.{took-answer, took-event}
