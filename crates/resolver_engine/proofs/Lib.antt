@@ -18,3 +18,4 @@ mod Turns
 mod Wanted
 mod Numbered
 mod Handed
+mod Cached

@@ -4,3 +4,4 @@ pub mod Canceled
 pub mod Going
 pub mod Said
 pub mod Tied
+pub mod Ruled

@@ -9,6 +9,7 @@ pub mod effects;
 mod failing;
 mod fetching;
 pub mod inputs;
+mod judging;
 mod parts;
 mod retaining;
 mod scanning;
