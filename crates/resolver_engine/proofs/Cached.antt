@@ -53,7 +53,7 @@ module _ {K S V C State : Type 0} (cmp : K → K → Ordering) (key : K) (d : Nu
     pub response-is : response_of cmp d key ≡ Some x.response
     response-is = ap (option_and_then (λ e. e.response)) x.found ∙ x.caches
 
-    accepts-is : response_changed cmp key accepted d ≡ record d { keys = set_value (is_at (cmp key)) d.keys (flagged_entry true) }
+    pub accepts-is : response_changed cmp key accepted d ≡ record d { keys = set_value (is_at (cmp key)) d.keys (flagged_entry true) }
     accepts-is =
         ap (λ p. record d { keys = changed_at (is_at (cmp key)) p (λ e. with_response (option_map accepted e.response) e) d.keys }) x.found
         ∙ ap (λ p. record d { keys = set_value (is_at (cmp key)) d.keys (with_response (option_map accepted p) x.entry) }) x.caches

@@ -19,3 +19,4 @@ mod Wanted
 mod Numbered
 mod Handed
 mod Cached
+mod Rulings

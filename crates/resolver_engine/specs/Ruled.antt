@@ -69,6 +69,8 @@ pub record IsClosed {K S P : Type 0} (a : Parties K S P) (e : Parts K P S) (m : 
   pub last_index : e.last_index ≡ m.last_index
   pub priority : e.priority_responses ≡ m.priority_responses
 
--- this was handed out
-abbrev pub Names : {K S P : Type 0} → Open K S P → Delivery K S → Type 0
-Names h delivery = (h.handed.key ≡ delivery.key) × (h.handed.subscribers ≡ delivery.subscribers)
+-- this was handed out, of a response that was accepted then or not
+pub record Names {K S P : Type 0} (h : Open K S P) (delivery : Delivery K S) (accepted : Bool) : Type 0 where
+  pub named : h.handed.key ≡ delivery.key
+  pub handed : h.handed.subscribers ≡ delivery.subscribers
+  pub flag : h.accepted ≡ accepted

@@ -10,6 +10,7 @@ ghost use Rattle.resolver_request.specs.Requests.{is_asked};
 ghost use Rattle.resolver_demand.specs.Entries.{number_of, removed, response_of};
 ghost use Rattle.resolver_fetch.specs.Fetcher as calls;
 ghost use Rattle.resolver_fetch.specs.Orders.{orders};
+ghost use Rattle.resolver_machine.specs.Verdicts.{ruling};
 ghost use Rattle.resolver_peer.specs.Parties.{parties};
 ghost use Rattle.resolver_peer.specs.PeerRows.{Row};
 ghost use Rattle.resolver_peer.specs.Peer.{Machine, Open, ruled, verdict};
@@ -67,7 +68,7 @@ impl<K: Ord + Clone + Drop, P: Ord + Clone + Drop, S: Ord + Clone + Drop> Parts<
         if canceled {
             return Ok(());
         }
-        self.rule(now, delivery, rule_on(outcome, previously_accepted), effects)
+        self.rule(now, delivery, previously_accepted, outcome, effects)
     }
 
     /// Does what is ruled on a delivery that is closed.
@@ -75,24 +76,27 @@ impl<K: Ord + Clone + Drop, P: Ord + Clone + Drop, S: Ord + Clone + Drop> Parts<
         &mut self,
         now: u128,
         delivery: Delivery<K, S>,
-        ruling: Ruling,
+        accepted: bool,
+        outcome: Option<Outcome>,
         effects: &mut Vec<Effect<K, P, S>>,
     ) -> Result<(), Fault>
         requires closed { is_some self.old.fetcher.scan ≡ false }
-        requires tied { (m : Machine K S P) × (h : Open K S P) × Names h delivery
+        requires tied { (m : Machine K S P) × (h : Open K S P) × Names h delivery accepted
             × IsClosed (parties K.cmp S.cmp P.cmp) self.old m h }
         requires moment { now < 2 ^ 94 }
         requires keys_clone { (x y : K) → K.is_clone x y → y ≡ x }
         requires peers_clone { (x y : P) → P.is_clone x y → y ≡ x }
         requires subscribers_clone { (x y : S) → S.is_clone x y → y ≡ x }
-        ensures { (c : Codec K) (m : Machine K S P) (h : Open K S P) → Names h delivery
+        ensures { (c : Codec K) (m : Machine K S P) (h : Open K S P)
+            → Names h delivery accepted
             → (closed : IsClosed (parties K.cmp S.cmp P.cmp) self.old m h)
             → Goes (parties K.cmp S.cmp P.cmp) c
-            (ruled (parties K.cmp S.cmp P.cmp) m now h closed.row closed.judging.value ruling)
+            (ruled (parties K.cmp S.cmp P.cmp) m now h closed.row closed.judging.value
+            (ruling accepted outcome))
             effects.old.items effects.new.items self.new result }
     {
         let Delivery { key, subscribers } = delivery;
-        match ruling {
+        match rule_on(outcome, accepted) {
             Ruling::Serve { accepted } => {
                 let Some(subscribers) = self.demand.remove_delivered(&key, &subscribers)? else {
                     self.forget(&key);
