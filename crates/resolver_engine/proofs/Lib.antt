@@ -20,3 +20,4 @@ mod Numbered
 mod Handed
 mod Cached
 mod Rulings
+mod Verdicts

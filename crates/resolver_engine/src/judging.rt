@@ -1,9 +1,7 @@
 //! What a verdict does to the parts.
 
-ghost use Rattle.std.specs.Prelude.{◌≡◌, ◌<◌, ◌^◌, ◌++◌, ◌∷◌, [], Err, None, false, is_none, is_some, IfErr, IfSome, IsSome, OnOk};
+ghost use Rattle.std.specs.Prelude.{◌≡◌, ◌<◌, ◌^◌, ◌++◌, ◌∷◌, ◌==◌, [], Err, None, false, is_none, is_some, IfErr, IfSome, IsSome, OnOk};
 ghost use Rattle.std.specs.Map.{lookup};
-ghost use Rattle.std.specs.BTreeMap.{is_at};
-ghost use Rattle.std.specs.Ordering.{nat_cmp};
 ghost use Rattle.resolver_base.specs.Priorities.{has_item};
 ghost use Rattle.resolver_base.specs.declared.base.fault.Fault.TheVariants.{OutOfMemory};
 ghost use Rattle.resolver_request.specs.Requests.{is_asked};
@@ -51,7 +49,7 @@ impl<K: Ord + Clone + Drop, P: Ord + Clone + Drop, S: Ord + Clone + Drop> Parts<
             effects.old.items effects.new.items self.new result }
         ensures memory { result ≡ Err OutOfMemory
             → (m : Machine K S P) → Agrees (parties K.cmp S.cmp P.cmp) self.old m
-            → is_none (lookup (is_at (nat_cmp number)) m.deliveries) ≡ false }
+            → is_none (lookup (λ n. number == n) m.deliveries) ≡ false }
     {
         let Ok(completion) = self.entries.completed(number, outcome) else {
             return Ok(());
