@@ -17,7 +17,7 @@ use Rattle.resolver_fetch.specs.Scan.{Scan, Turn, begins, goes_on_with, next, qu
 use Rattle.resolver_fetch.specs.Snapshot.{Snapshot}
 use Rattle.resolver_fetch.specs.Waiting.{Waiting}
 use Rattle.resolver_peer.specs.Parties.{Parties, orders_of}
-use Rattle.resolver_peer.specs.Peer.{Effect, Machine, asking, is_due, question, scanned, snapshot, turned, wake_up}
+use Rattle.resolver_peer.specs.Peer.{Effect, Machine, asking, is_due, scanned, snapshot, turned, wake_up}
 use Rattle.resolver_peer.specs.Peer as machines
 use Rattle.resolver_engine.specs.declared.effects.Effect.{Effect as Told}
 use Rattle.resolver_engine.specs.declared.effects.Effect.TheVariants as told

@@ -4,13 +4,16 @@
 //! come with the inputs, and what is to be done comes out as effects.
 #![tactic(auto)]
 
+mod advancing;
 mod answering;
 pub mod effects;
+pub mod engine;
 mod failing;
 mod fetching;
 pub mod inputs;
 mod judging;
 mod parts;
+mod receiving;
 mod retaining;
 mod scanning;
 mod serving;

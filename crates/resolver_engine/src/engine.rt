@@ -1,0 +1,189 @@
+//! The engine's core.
+
+ghost use Rattle.std.specs.Prelude.{◌≡◌, ◌≢◌, ℕ, map, IfErr, IfOk, Ok, Err};
+ghost use Rattle.resolver_base.specs.declared.base.fault.Fault.TheVariants.{OutOfMemory};
+ghost use Rattle.resolver_fetch.specs.Fetcher.{IsTimely};
+ghost use Rattle.resolver_machine.specs.Steps.{stops};
+ghost use Rattle.resolver_peer.specs.Parties.{parties};
+ghost use Rattle.resolver_peer.specs.Peer as machines;
+ghost use Rattle.resolver_peer.specs.Peer.{Machine, active_deadline, opening, wake_up};
+ghost use Rattle.resolver_engine.specs.Ending.{is_end, is_end_event};
+ghost use Rattle.resolver_engine.specs.EngineSteps.{Runs, Takes, all_fed};
+ghost use Rattle.resolver_engine.specs.Matching.{Matches, is_final};
+ghost use Rattle.resolver_engine.specs.Said.{answer_of, codec, fed_of};
+
+use crate::effects::Effect;
+use crate::inputs::{Event, Input};
+use crate::parts::Parts;
+use resolver_base::base::{Fault, Predicate, Span};
+use resolver_fetch::fetcher::Config;
+use std::alloc::Global;
+use std::marker::{Model, PhantomData};
+
+#[derive(Clone, Copy)]
+enum Status {
+    Running,
+    Ended,
+    Failed,
+}
+
+/// Fetches keys from peers, each from one peer at a time, until no subscriber wants it.
+///
+/// Contracts say of which peer machines it is the code: of each that it matches it does what the
+/// machine does.
+#[derive(Drop)]
+pub struct Core<K: Ord, P: Ord, S: Ord, Q> {
+    parts: Parts<K, P, S>,
+    status: Status,
+    predicate: PhantomData<Q>,
+}
+
+impl<K: Ord, P: Ord, S: Ord, Q> Model for Core<K, P, S, Q> {
+    ghost use Rattle.resolver_peer.specs.Parties.{parties};
+    ghost use Rattle.resolver_engine.specs.Matching.{Engine, IsTiedUnlessFailed, held_by, status_of};
+
+    ghost Value = { Engine K S P };
+
+    ghost view = { λ a. record { held = held_by a.parts; status = status_of a.status } };
+
+    ghost invariant = { λ a. IsTiedUnlessFailed (parties K.cmp S.cmp P.cmp) (status_of a.status)
+        a.parts };
+}
+
+impl<K: Span + Drop, P: Ord + Clone + Drop, S: Ord + Clone + Drop, Q: Predicate<K, S> + Drop> Core<
+    K,
+    P,
+    S,
+    Q,
+> {
+    /// An engine without demand, that knows no peer.
+    pub fn new(alloc: Global, configuration: Config<P>, priority_responses: bool) -> Self
+        requires { IsTimely configuration.fetch_timeout configuration.retry_delay }
+        ensures { Matches (parties K.cmp S.cmp P.cmp) result
+            (opening configuration priority_responses) }
+    {
+        Core {
+            parts: Parts::new(alloc, configuration, priority_responses),
+            status: Status::Running,
+            predicate: PhantomData,
+        }
+    }
+
+    /// Takes one input and answers with its effects, in order.
+    ///
+    /// `OutOfMemory` and `Exhausted` fail the engine for good: each later step answers `Failed` and
+    /// changes nothing, as after `End` each answers `Ended`. While a scan expects an answer, an
+    /// event is `Busy`; an answer that no scan expects is `Unasked`, and a number past what was
+    /// asked for `OutOfRange`: then nothing changes. What is passed over takes no memory.
+    pub fn step(&mut self, input: Input<K, P, S, Q>) -> Result<Vec<Effect<K, P, S>>, Fault>
+        requires keys_clone { (x y : K) → K.is_clone x y → y ≡ x }
+        requires peers_clone { (x y : P) → P.is_clone x y → y ≡ x }
+        requires subscribers_clone { (x y : S) → S.is_clone x y → y ≡ x }
+        ensures { (m : Machine K S P) (moment : ℕ) → Matches (parties K.cmp S.cmp P.cmp) self.old m
+            → (n : Machine K S P) × Takes (parties K.cmp S.cmp P.cmp)
+            (codec K.SIZE K.bytes_of K.read_from) m
+            (fed_of (codec K.SIZE K.bytes_of K.read_from) Q.keeps moment input)
+            (answer_of result) n × Matches (parties K.cmp S.cmp P.cmp) self.new n }
+    {
+        match self.status {
+            Status::Running => {}
+            Status::Ended => return Err(Fault::Ended),
+            Status::Failed => return Err(Fault::Failed),
+        }
+        let ends = is_end(&input);
+        let mut effects = Vec::new(self.parts.alloc);
+        match self.parts.take(input, &mut effects) {
+            Ok(()) => {
+                if ends {
+                    self.status = Status::Ended;
+                }
+                Ok(effects)
+            }
+            Err(fault) => {
+                if is_final(fault) {
+                    self.status = Status::Failed;
+                }
+                Err(fault)
+            }
+        }
+    }
+
+    /// Takes inputs one after another, with one answer each, up to the first `OutOfMemory` or
+    /// `Exhausted` among the answers.
+    ///
+    /// The call itself answers `OutOfMemory` where the list of answers can't be made: then no
+    /// input was taken and nothing has changed.
+    pub fn run(
+        &mut self,
+        inputs: Vec<Input<K, P, S, Q>>,
+    ) -> Result<Vec<Result<Vec<Effect<K, P, S>>, Fault>>, Fault>
+        requires keys_clone { (x y : K) → K.is_clone x y → y ≡ x }
+        requires peers_clone { (x y : P) → P.is_clone x y → y ≡ x }
+        requires subscribers_clone { (x y : S) → S.is_clone x y → y ≡ x }
+        ensures runs { IfOk result (λ answers. (m : Machine K S P) (moment : ℕ)
+            → Matches (parties K.cmp S.cmp P.cmp) self.old m
+            → (n : Machine K S P) × Runs (parties K.cmp S.cmp P.cmp)
+            (codec K.SIZE K.bytes_of K.read_from) m
+            (all_fed (codec K.SIZE K.bytes_of K.read_from) Q.keeps moment inputs.items)
+            (map answer_of answers.items) n × Matches (parties K.cmp S.cmp P.cmp) self.new n) }
+        ensures err { IfErr result
+            (λ fault. (fault ≡ OutOfMemory) × (self.new ≡ self.old)) }
+    {
+        let mut answers = Vec::with_capacity(self.parts.alloc, inputs.len())?;
+        for input in inputs {
+            let answer = self.step(input);
+            let stops = stops(&answer);
+            answers.push(answer)?;
+            if stops {
+                return Ok(answers);
+            }
+        }
+        Ok(answers)
+    }
+
+    /// When a scan may do something, if a key waits. It takes time logarithmic in the waiting keys.
+    pub fn get_pending_deadline(&self) -> Option<u128>
+        ensures { (m : Machine K S P) → Matches (parties K.cmp S.cmp P.cmp) self.now m
+            → m.status ≢ machines.Failed → result ≡ wake_up (parties K.cmp S.cmp P.cmp) m }
+    {
+        self.parts.pending_deadline()
+    }
+
+    /// When the time of a request is over next, if there is a request.
+    pub fn get_active_deadline(&self) -> Option<u128>
+        ensures { (m : Machine K S P) → Matches (parties K.cmp S.cmp P.cmp) self.now m
+            → m.status ≢ machines.Failed → result ≡ active_deadline (parties K.cmp S.cmp P.cmp) m }
+    {
+        self.parts.active_deadline()
+    }
+}
+
+/// Whether this input ends the engine.
+fn is_end<K, P, S, Q>(input: &Input<K, P, S, Q>) -> bool
+    ensures { result ≡ is_end input.now }
+{
+    match input {
+        Input::Happens(happening) => is_end_event(&happening.event),
+        Input::Answers(_) => false,
+    }
+}
+
+fn is_end_event<K, P, S, Q>(event: &Event<K, P, S, Q>) -> bool
+    ensures { result ≡ is_end_event event.now }
+{
+    matches!(event, Event::End)
+}
+
+/// Whether a step that was refused so ends all later ones.
+fn is_final(fault: Fault) -> bool
+    ensures { result ≡ is_final fault }
+{
+    matches!(fault, Fault::OutOfMemory | Fault::Exhausted)
+}
+
+/// Whether a run ends with this answer.
+fn stops<T>(answer: &Result<T, Fault>) -> bool
+    ensures { result ≡ stops answer.now }
+{
+    matches!(answer, Err(Fault::OutOfMemory | Fault::Exhausted))
+}
