@@ -1,5 +1,5 @@
 -- Lists of which a part is kept, and what is made of them.
-use Rattle.std.proofs.Common.{◌≡◌, refl, ap, sym, ◌∙◌, Bool, true, false, cond, List, [], ◌∷◌, map, filter, Option, None, Some, IfSome}
+use Rattle.std.proofs.Common.{◌≡◌, refl, ap, sym, ◌∙◌, Bool, true, false, cond, List, [], ◌∷◌, map, filter, find, Option, None, Some, IfSome}
 use Rattle.std.specs.Cmp.{IsTotalOrder}
 use Rattle.std.specs.List.{AllByRecursion, cons_option, filter_map}
 use Rattle.std.specs.List.Sorted.{IsStrictlySortedBy}
@@ -63,6 +63,11 @@ module _ {X Y : Type 0} where
       at None is false here rest = rest
       at (Some y) is true here rest = rw (here, is, rest) refl
       at (Some y) is false here rest = rw here rest
+
+-- Where one passes, none after it does.
+abbrev pub IsSingle : {K : Type 0} → (K → Bool) → List K → Type 0
+IsSingle test [] = Unit {0}
+IsSingle test (k ∷ ks) = (test k ≡ true → find test ks ≡ None) × IsSingle test ks
 
 module _ {K : Type 0} {d : K → K → Ordering} (o : IsTotalOrder d) where
   -- no two are equal
@@ -138,3 +143,31 @@ module _ {K : Type 0} {d : K → K → Ordering} (o : IsTotalOrder d) where
   kept-in_turn p (k ∷ ks) apart =
       kept-put p k (in_turn ks) (ordered-in_turn ks) (all-in_turn (λ e. is_eq (d k e) ≡ false) ks apart.0)
       ∙ ap (λ es. cond (p k) (insert_key d es k) es) (kept-in_turn p ks apart.1) ∙ kept-pushed p k ks
+
+  find-put : (test : K → Bool) (k : K) (ks : List K) → AllByRecursion (λ e. is_eq (d k e) ≡ false) ks → (test k ≡ true → find test ks ≡ None)
+      → find test (insert_key d ks k) ≡ cond (test k) (Some k) (find test ks)
+  find-put test k [] apart single = refl
+  find-put test k (e ∷ ks) apart single = at (d k e) apart.0 (test k) refl (test e) refl (find-put test k ks apart.1) single
+    where
+      clash : {X : Type 0} → true ≡ false → X
+      clash same = absurd cc
+
+      none : Some e ≡ None → ⊥
+      none same = cc
+
+      at : (r : Ordering) → is_eq r ≡ false → (here : Bool) → test k ≡ here → (there : Bool) → test e ≡ there
+          → ((here ≡ true → find test ks ≡ None) → find test (insert_key d ks k) ≡ cond here (Some k) (find test ks)) → (here ≡ true → cond there (Some e) (find test ks) ≡ None)
+          → find test (match_ordering r (k ∷ e ∷ ks) (e ∷ ks) (e ∷ insert_key d ks k)) ≡ cond here (Some k) (cond there (Some e) (find test ks))
+      at Less other here k_is there e_is rest single = rw (k_is, e_is) refl
+      at Equal other here k_is there e_is rest single = clash other
+      at Greater other true k_is true e_is rest single = absurd (none (single refl))
+      at Greater other true k_is false e_is rest single = rw e_is (rest (λ passes. single refl))
+      at Greater other false k_is true e_is rest single = rw e_is refl
+      at Greater other false k_is false e_is rest single = rw e_is (rest (λ passes. clash (sym passes)))
+
+  -- the order doesn't matter to what is found
+  pub find-in_turn : (test : K → Bool) (ks : List K) → AreApart ks → IsSingle test ks → find test (in_turn ks) ≡ find test ks
+  find-in_turn test [] apart single = refl
+  find-in_turn test (k ∷ ks) apart single =
+      find-put test k (in_turn ks) (all-in_turn (λ e. is_eq (d k e) ≡ false) ks apart.0) (λ passes. find-in_turn test ks apart.1 single.1 ∙ single.0 passes)
+      ∙ ap (λ o. cond (test k) (Some k) o) (find-in_turn test ks apart.1 single.1)

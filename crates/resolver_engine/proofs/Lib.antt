@@ -5,3 +5,4 @@ mod Places
 mod Serves
 mod Keeping
 mod Retained
+mod Shown

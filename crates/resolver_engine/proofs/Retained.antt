@@ -52,10 +52,10 @@ over-closed f scan closed is = at scan.expects refl (sym (ap is_some is) ∙ clo
     at None same none = refl
     at (Some e) same none = let h : is_some (unless_over scan) ≡ true = rw same refl in cc
 
-abbrev by_number : {X : Type 0} → ℕ × X → ℕ × X → Ordering
+abbrev pub by_number : {X : Type 0} → ℕ × X → ℕ × X → Ordering
 by_number x y = nat_cmp x.0 y.0
 
-numbers_total : {X : Type 0} → IsTotalOrder (by_number {X = X})
+pub numbers_total : {X : Type 0} → IsTotalOrder (by_number {X = X})
 numbers_total = on_total (λ e. e.0) nat_cmp_total
 
 module _ {X : Type 0} where
@@ -75,12 +75,12 @@ module _ {X : Type 0} where
   ids-head : (r : ℕ × X) (rs : List (ℕ × X)) → IsDistinct same_id (keys_of (r ∷ rs)) → AllByRecursion (λ e. same_id r.0 e.0 ≡ false) rs
   ids-head r rs distinct = all-map-back (λ y. same_id r.0 y ≡ false) (λ e. e.0) rs (IsDistinct-head same_id r.0 (keys_of rs) distinct)
 
-  apart-ids : (rs : List (ℕ × X)) → IsDistinct same_id (keys_of rs) → AreApart numbers_total rs
+  pub apart-ids : (rs : List (ℕ × X)) → IsDistinct same_id (keys_of rs) → AreApart numbers_total rs
   apart-ids [] distinct = tt
   apart-ids (r ∷ rs) distinct = (ids-head r rs distinct, apart-ids rs (IsDistinct-tail same_id r.0 (keys_of rs) distinct))
 
 module _ {K P : Type 0} where
-  by_id-turn : (rs : List (ℕ × Request K P)) → IsDistinct same_id (keys_of rs) → by_id rs ≡ in_turn numbers_total rs
+  pub by_id-turn : (rs : List (ℕ × Request K P)) → IsDistinct same_id (keys_of rs) → by_id rs ≡ in_turn numbers_total rs
   by_id-turn [] distinct = refl
   by_id-turn (r ∷ rs) distinct =
       ap (λ es. insert_entry nat_cmp es r.0 r.1) (by_id-turn rs (IsDistinct-tail same_id r.0 (keys_of rs) distinct))
@@ -93,7 +93,7 @@ module _ {K P : Type 0} where
       ∙ sym (by_id-turn (filter p rs) (IsDistinct-keys_filter same_id p rs distinct))
 
 module _ {K S P : Type 0} (a : Parties K S P) (o : IsTotalOrder a.key) where
-  places_total : IsTotalOrder (pair_order place_order a.key)
+  pub places_total : IsTotalOrder (pair_order place_order a.key)
   places_total = pair_order-total o (then_total (on_total (λ p. p.is_retry) bool_cmp_total) (on_total (λ p. p.due) nat_cmp_total))
 
   apart-then : (r s : Ordering) → s ≡ Less → is_eq (ordering_then r s) ≡ false
@@ -102,7 +102,7 @@ module _ {K S P : Type 0} (a : Parties K S P) (o : IsTotalOrder a.key) where
   apart-then Greater s below = refl
 
   -- those that wait are apart, as their keys are
-  apart-places : (rows : List (K × Row K S P)) → IsStrictlySortedBy a.key (keys_of rows) → AreApart places_total (filter_map place_of rows)
+  pub apart-places : (rows : List (K × Row K S P)) → IsStrictlySortedBy a.key (keys_of rows) → AreApart places_total (filter_map place_of rows)
   unfolding IsStrictlySortedBy
   apart-places [] ordered = tt
   apart-places (r ∷ rows) ordered = at r.1.phase (apart-places rows ordered.1)
@@ -288,7 +288,7 @@ module _ {K S P : Type 0} (keep : K → S → Bool) where
           ∙ is-some (some r.1.subscribers) r.1.subscribers) (prune m.rows) found-table
 
 -- what a code's entry and a row say of a judgement
-number-held : {P : Type 0} (e : Option (Entry (List ℕ) (Source P) ℕ)) → option_and_then (λ e. e.number) e ≡ option_and_then (λ h. h.0) (option_map held_of e)
+pub number-held : {P : Type 0} (e : Option (Entry (List ℕ) (Source P) ℕ)) → option_and_then (λ e. e.number) e ≡ option_and_then (λ h. h.0) (option_map held_of e)
 number-held None = refl
 number-held (Some e) = refl
 

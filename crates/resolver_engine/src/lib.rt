@@ -9,5 +9,6 @@ mod fetching;
 pub mod inputs;
 mod parts;
 mod retaining;
+pub mod rows;
 mod scanning;
 mod serving;
