@@ -1,4 +1,4 @@
-use Rattle.std.proofs.Common.{◌≡◌, ap, sym, ◌∙◌, refl}
+use Rattle.std.proofs.Common.{◌≡◌, ap, ◌∙◌, refl}
 use Rattle.resolver_fetch.specs.Fetcher as calls
 use Rattle.resolver_peer.specs.Parties.{orders_of, parties}
 use Rattle.resolver_peer.specs.Peer.{row_of}

@@ -1,4 +1,4 @@
-use Rattle.std.proofs.Common.{◌≡◌, ap, sym, ◌∙◌}
+use Rattle.std.proofs.Common.{ap, sym, ◌∙◌}
 use Rattle.resolver_fetch.specs.Fetcher as calls
 use Rattle.resolver_request.specs.Requests.{request_for}
 use Rattle.resolver_peer.specs.Parties.{orders_of, parties}

@@ -1,4 +1,4 @@
-use Rattle.std.proofs.Common.{◌≡◌, ap, sym, ◌∙◌, subst, is_some, ◌∷◌}
+use Rattle.std.proofs.Common.{◌≡◌, ap, ◌∙◌, subst, is_some}
 use Rattle.resolver_demand.specs.Rows.{AreListed}
 use Rattle.resolver_peer.specs.Parties.{parties}
 use Rattle.resolver_peer.specs.Peer.{row_of}
