@@ -42,8 +42,11 @@ impl ActorSession {
                 key,
                 subscriber,
                 mark,
-                targets: None,
+                targets,
             } => {
+                if targets.is_some() {
+                    return Ok(false);
+                }
                 let fetch = self.fetch(key, subscriber, mark)?;
                 self.step(fetch, output)?;
             }
