@@ -25,3 +25,4 @@ mod Wanted
 mod Cached
 mod Rulings
 mod Verdicts
+mod Shown

@@ -8,3 +8,4 @@ pub mod Matching
 pub mod Said
 pub mod Tied
 pub mod Ruled
+pub mod Listed

@@ -15,5 +15,6 @@ mod judging;
 mod parts;
 mod receiving;
 mod retaining;
+pub mod rows;
 mod scanning;
 mod serving;
