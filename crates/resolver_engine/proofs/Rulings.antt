@@ -280,12 +280,13 @@ module _ {K S P : Type 0} (a : Parties K S P) (o : IsTotalOrder a.key) (e : Part
 
     -- what the keys hold before the number is noted
     flagged-holds : (b : Bool) → (r : Holds P) × (map (λ e. (e.0, held_of e.1)) (flagged a.key b key e.entries).keys ≡ slot (holds_of x.before) key (Some r) (holds_of x.after))
-    flagged-holds true =
-        (held_of (flagged_entry a.key key e.entries caches true),
-        ap (λ d. map (λ e. (e.0, held_of e.1)) d.keys) (accepts-is a.key key e.entries caches)
-        ∙ sym (set_value-seen held_of (is_at (a.key key)) e.entries.keys (flagged_entry a.key key e.entries caches true))
-        ∙ ap (λ es. set_value (is_at (a.key key)) es (held_of (flagged_entry a.key key e.entries caches true))) x.entries
-        ∙ set-slot o (holds_of x.before) (holds_of x.after) key (None, Some kept) (held_of (flagged_entry a.key key e.entries caches true)) around-holds)
+    flagged-holds true = (
+      held_of (flagged_entry a.key key e.entries caches true),
+      ap (λ d. map (λ e. (e.0, held_of e.1)) d.keys) (accepts-is a.key key e.entries caches)
+          ∙ sym (set_value-seen held_of (is_at (a.key key)) e.entries.keys (flagged_entry a.key key e.entries caches true))
+          ∙ ap (λ es. set_value (is_at (a.key key)) es (held_of (flagged_entry a.key key e.entries caches true))) x.entries
+          ∙ set-slot o (holds_of x.before) (holds_of x.after) key (None, Some kept) (held_of (flagged_entry a.key key e.entries caches true)) around-holds,
+    )
     flagged-holds false = ((None, Some kept), x.entries)
 
     pub served-agrees : (n : Parts K P S) → n.demand ≡ set_value (is_key a key) e.demand rest → n.entries ≡ handed_again a.key (record { key = key; subscribers = rest }) accepts e.entries

@@ -151,9 +151,10 @@ module _ {K S P : Type 0} (a : Parties K S P) (o : IsTotalOrder a.key) (e : Part
         → AreOwn less before × AreOwn less after
     others-own before after key was own same around =
         let i = around-equal o handed.handed.key key before after same around in
-        let itself = λ (k : K). (eq_by_cmp_equiv o).refl k in
-        (own-less a.key m.deliveries number handed before there (apart-first a o before after handed.handed.key i) itself (own-before m.deliveries before after key was own),
-        own-less a.key m.deliveries number handed after there (apart-last a o before after handed.handed.key i) itself (own-after m.deliveries before after key was own))
+        let itself = λ (k : K). (eq_by_cmp_equiv o).refl k in (
+          own-less a.key m.deliveries number handed before there (apart-first a o before after handed.handed.key i) itself (own-before m.deliveries before after key was own),
+          own-less a.key m.deliveries number handed after there (apart-last a o before after handed.handed.key i) itself (own-after m.deliveries before after key was own),
+        )
 
     -- a delivery that no key is judged by is closed
     dead-own : is_number (judged_number handed.handed.key) number ≡ false → AreOwn less m.rows
@@ -431,10 +432,26 @@ module _ {K S P : Type 0} (a : Parties K S P) (o : IsTotalOrder a.key) (e : Part
     where
       whole : (begun : Begun K S (Source P)) → lookup (is_at (nat_cmp number)) e.entries.going ≡ Some begun → (live : Bool) → is_live a.key e.entries number begun ≡ live → (v : Option Outcome)
           → (done ≡ completion begun v (not live)) × (d ≡ entries.closed a.key number begun e.entries) → Opened done d
-      whole begun found true live v same = record { begun = begun; found = found; shut = same.1; live = live ∙ ap (λ (c : Completion K S (Source P)). not c.canceled) (sym same.0);
-        response = ap (λ c. c.response) same.0; context = ap (λ c. c.context) same.0; delivery = ap (λ c. c.delivery) same.0; flag = ap (λ c. c.previously_accepted) same.0 }
-      whole begun found false live v same = record { begun = begun; found = found; shut = same.1; live = live ∙ ap (λ (c : Completion K S (Source P)). not c.canceled) (sym same.0);
-        response = ap (λ c. c.response) same.0; context = ap (λ c. c.context) same.0; delivery = ap (λ c. c.delivery) same.0; flag = ap (λ c. c.previously_accepted) same.0 }
+      whole begun found true live v same = record {
+        begun = begun;
+        found = found;
+        shut = same.1;
+        live = live ∙ ap (λ (c : Completion K S (Source P)). not c.canceled) (sym same.0);
+        response = ap (λ c. c.response) same.0;
+        context = ap (λ c. c.context) same.0;
+        delivery = ap (λ c. c.delivery) same.0;
+        flag = ap (λ c. c.previously_accepted) same.0;
+      }
+      whole begun found false live v same = record {
+        begun = begun;
+        found = found;
+        shut = same.1;
+        live = live ∙ ap (λ (c : Completion K S (Source P)). not c.canceled) (sym same.0);
+        response = ap (λ c. c.response) same.0;
+        context = ap (λ c. c.context) same.0;
+        delivery = ap (λ c. c.delivery) same.0;
+        flag = ap (λ c. c.previously_accepted) same.0;
+      }
 
       by-outcome : (begun : Begun K S (Source P)) → lookup (is_at (nat_cmp number)) e.entries.going ≡ Some begun → (live : Bool) → is_live a.key e.entries number begun ≡ live → (v : Option Outcome)
           → ◌≡◌ {A = Result (Completion K S (Source P)) Aborted × Entries} (Ok done, d) (completion_of begun v live, entries.closed a.key number begun e.entries) → Opened done d

@@ -62,7 +62,14 @@ impl<K: Ord + Clone + Drop, P: Ord + Clone + Drop, S: Ord + Clone + Drop> Parts<
             previously_accepted,
             ..
         } = completion;
-        account(&mut self.fetcher, response, context, previously_accepted, outcome, effects)?;
+        account(
+            &mut self.fetcher,
+            response,
+            context,
+            previously_accepted,
+            outcome,
+            effects,
+        )?;
         if canceled {
             return Ok(());
         }

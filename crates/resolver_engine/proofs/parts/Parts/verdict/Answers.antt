@@ -43,14 +43,15 @@ rule-requires-clause-tied g c =
     let is = c.requires.tied.1 in
     let scan = over a c.args.self.now m is c.requires.closed in
     let done = c.in-Ok.completion in
-    let x = opened a o c.args.self.now m is scan c.args.number c.args.outcome done c.completed.new.self c.in-Ok.ensures in
-    ((accounted a o c.args.self.now m is c.args.number x.begun x.found c.args.outcome).machine,
-    handed a o c.args.self.now m is c.args.number x.begun x.found,
-    record { named = sym (ap (λ (d : Delivery g.row.K.Denot g.row.S.Denot). d.key) x.delivery); handed = sym (ap (λ (d : Delivery g.row.K.Denot g.row.S.Denot). d.subscribers) x.delivery); flag = sym x.flag },
-    live-tied a o c.args.self.now m is c.args.number x.begun x.found c.args.outcome scan _ x.shut
-    (c.in_ok-account.ensures.ok ∙ ap (λ source. paid (orders_of a) source done.previously_accepted c.args.outcome c.args.self.now.fetcher) x.context
-    ∙ ap (λ flag. paid (orders_of a) x.begun.context flag c.args.outcome c.args.self.now.fetcher) x.flag)
-    refl (x.live ∙ ap not c.if-canceled.false))
+    let x = opened a o c.args.self.now m is scan c.args.number c.args.outcome done c.completed.new.self c.in-Ok.ensures in (
+      (accounted a o c.args.self.now m is c.args.number x.begun x.found c.args.outcome).machine,
+      handed a o c.args.self.now m is c.args.number x.begun x.found,
+      record { named = sym (ap (λ (d : Delivery g.row.K.Denot g.row.S.Denot). d.key) x.delivery); handed = sym (ap (λ (d : Delivery g.row.K.Denot g.row.S.Denot). d.subscribers) x.delivery); flag = sym x.flag },
+      live-tied a o c.args.self.now m is c.args.number x.begun x.found c.args.outcome scan _ x.shut
+          (c.in_ok-account.ensures.ok ∙ ap (λ source. paid (orders_of a) source done.previously_accepted c.args.outcome c.args.self.now.fetcher) x.context
+          ∙ ap (λ flag. paid (orders_of a) x.begun.context flag c.args.outcome c.args.self.now.fetcher) x.flag)
+          refl (x.live ∙ ap not c.if-canceled.false),
+    )
 
 pub returns-clause-goes : goal.returns-clause-goes
 returns-clause-goes g c = λ said m is.
