@@ -22,3 +22,7 @@ mod Stepped
 mod Supplied
 mod Turns
 mod Wanted
+mod Cached
+mod Rulings
+mod Verdicts
+mod Shown

@@ -148,10 +148,10 @@ module _ {K S P : Type 0} (a : Parties K S P) (o : IsTotalOrder a.key) (before a
     idle-waiting now none =
         ap (λ ps. has_item a.key ps key) (waiting-at now) ∙ rw none (not-waiting a o key (filter_map place_of before) (filter_map place_of after) apart-places-first apart-places-last)
 
-    pub idle-asked : (deliveries : List (ℕ × Open K S P)) (now : Option (Row K S P)) → AreOwn deliveries (rows_at now) → request_at now ≡ None → is_asked a.key (by_id (filter_map request_of (rows_at now))) key ≡ false
-    idle-asked deliveries now own none =
+    pub idle-asked : (deliveries : List (ℕ × Open K S P)) (now : Option (Row K S P)) → AreOwn deliveries before → AreOwn deliveries after → request_at now ≡ None → is_asked a.key (by_id (filter_map request_of (rows_at now))) key ≡ false
+    idle-asked deliveries now first last none =
         ap (λ rs. is_asked a.key (by_id rs) key) (requests-at now)
         ∙ rw none (not-asked a.key key (filter_map request_of before ++ filter_map request_of after)
         (all-append (λ r. is_for a.key key r ≡ false) (filter_map request_of before) (filter_map request_of after)
-        (all-requests deliveries (λ k. is_eq (a.key key k) ≡ false) before (own-before deliveries before after key now own) apart-first)
-        (all-requests deliveries (λ k. is_eq (a.key key k) ≡ false) after (own-after deliveries before after key now own) apart-last)))
+        (all-requests deliveries (λ k. is_eq (a.key key k) ≡ false) before first apart-first)
+        (all-requests deliveries (λ k. is_eq (a.key key k) ≡ false) after last apart-last)))

@@ -121,9 +121,10 @@ module _ {X : Type 0} where
   -- one id less in the midst
   apart-middle : (xs ys : List (ℕ × X)) (q : ℕ × X) → IsDistinct same_id (keys_of (xs ++ q ∷ ys)) → AllByRecursion (λ y. same_id q.0 y ≡ false) (keys_of (xs ++ ys))
   apart-middle [] ys q distinct = IsDistinct-head same_id q.0 (keys_of ys) distinct
-  apart-middle (x ∷ xs) ys q distinct =
-      ((eq_by_cmp_equiv nat_cmp_total).symm q.0 x.0 ∙ middle (λ y. same_id x.0 y ≡ false) xs ys q (IsDistinct-head same_id x.0 (keys_of (xs ++ q ∷ ys)) distinct),
-      apart-middle xs ys q (IsDistinct-tail same_id x.0 (keys_of (xs ++ q ∷ ys)) distinct))
+  apart-middle (x ∷ xs) ys q distinct = (
+    (eq_by_cmp_equiv nat_cmp_total).symm q.0 x.0 ∙ middle (λ y. same_id x.0 y ≡ false) xs ys q (IsDistinct-head same_id x.0 (keys_of (xs ++ q ∷ ys)) distinct),
+    apart-middle xs ys q (IsDistinct-tail same_id x.0 (keys_of (xs ++ q ∷ ys)) distinct),
+  )
     where
       middle : (Q : ℕ → Type 0) (xs ys : List (ℕ × X)) (q : ℕ × X) → AllByRecursion Q (keys_of (xs ++ q ∷ ys)) → Q q.0
       middle Q [] ys q all = all.0

@@ -1,5 +1,5 @@
 -- What is left of a machine's parts where some of its rows go.
-use Rattle.std.proofs.Common.{◌≡◌, refl, ap, sym, ◌∙◌, subst, ℕ, Bool, true, false, cond, is_some, not, nat_lt, length, List, [], ◌∷◌, ◌++◌, map, filter, Option, None, Some, IfSome}
+use Rattle.std.proofs.Common.{◌≡◌, refl, ap, sym, ◌∙◌, subst, ℕ, Bool, true, false, cond, is_some, not, nat_lt, length, List, [], ◌∷◌, map, filter, Option, None, Some, IfSome}
 use Rattle.std.proofs.lemmas.Cmp.{eq_by_cmp_equiv, nat_cmp_total, on_total, then_total}
 use Rattle.std.proofs.lemmas.Map.Entries.{lookup-filter-values, option_filter}
 use Rattle.std.proofs.lemmas.Map.Keys.{IsDistinct-from_sorted, IsDistinct-head, IsDistinct-tail}
@@ -35,7 +35,6 @@ use Rattle.resolver_peer.specs.declared.named.Source.{Source}
 use Rattle.resolver_peer.specs.Parties.{Parties, names_of, orders_of}
 use Rattle.resolver_peer.specs.PeerRows.{Row, Phase, Waits, Asked, Judged, request_in, request_of}
 use Rattle.resolver_peer.specs.Peer.{Machine, Open, cancel_in, cancels, end, has_subscribers, pruned, retain}
-use Rattle.resolver_engine.specs.declared.effects.Effect.{Effect as Told}
 use Rattle.resolver_engine.specs.declared.effects.Effect.TheVariants as told
 use Rattle.resolver_engine.specs.declared.parts.Parts.{Parts}
 use Rattle.resolver_engine.specs.Canceled.{all_canceled, canceled, each_canceled}
@@ -52,13 +51,16 @@ over-closed f scan closed is = at scan.expects refl (sym (ap is_some is) ∙ clo
     at None same none = refl
     at (Some e) same none = let h : is_some (unless_over scan) ≡ true = rw same refl in cc
 
-abbrev by_number : {X : Type 0} → ℕ × X → ℕ × X → Ordering
+-- entries by their numbers
+abbrev pub by_number : {X : Type 0} → ℕ × X → ℕ × X → Ordering
 by_number x y = nat_cmp x.0 y.0
 
-numbers_total : {X : Type 0} → IsTotalOrder (by_number {X = X})
+-- their order is total
+pub numbers_total : {X : Type 0} → IsTotalOrder (by_number {X = X})
 numbers_total = on_total (λ e. e.0) nat_cmp_total
 
 module _ {X : Type 0} where
+  -- an entry under a new number is put in as a whole
   as-key : (r : ℕ × X) (es : List (ℕ × X)) → AllByRecursion (λ e. same_id r.0 e.0 ≡ false) es → insert_entry nat_cmp es r.0 r.1 ≡ insert_key by_number es r
   as-key r [] apart = refl
   as-key r (e ∷ es) apart = at (nat_cmp r.0 e.0) apart.0 (as-key r es apart.1)
@@ -72,15 +74,18 @@ module _ {X : Type 0} where
           clash same = cc
       at Greater other rest = ap (λ es. e ∷ es) rest
 
+  -- the first id is not among the others
   ids-head : (r : ℕ × X) (rs : List (ℕ × X)) → IsDistinct same_id (keys_of (r ∷ rs)) → AllByRecursion (λ e. same_id r.0 e.0 ≡ false) rs
   ids-head r rs distinct = all-map-back (λ y. same_id r.0 y ≡ false) (λ e. e.0) rs (IsDistinct-head same_id r.0 (keys_of rs) distinct)
 
-  apart-ids : (rs : List (ℕ × X)) → IsDistinct same_id (keys_of rs) → AreApart numbers_total rs
+  -- entries under distinct ids are apart
+  pub apart-ids : (rs : List (ℕ × X)) → IsDistinct same_id (keys_of rs) → AreApart numbers_total rs
   apart-ids [] distinct = tt
   apart-ids (r ∷ rs) distinct = (ids-head r rs distinct, apart-ids rs (IsDistinct-tail same_id r.0 (keys_of rs) distinct))
 
 module _ {K P : Type 0} where
-  by_id-turn : (rs : List (ℕ × Request K P)) → IsDistinct same_id (keys_of rs) → by_id rs ≡ in_turn numbers_total rs
+  -- requests in the order of their ids are put in one after another
+  pub by_id-turn : (rs : List (ℕ × Request K P)) → IsDistinct same_id (keys_of rs) → by_id rs ≡ in_turn numbers_total rs
   by_id-turn [] distinct = refl
   by_id-turn (r ∷ rs) distinct =
       ap (λ es. insert_entry nat_cmp es r.0 r.1) (by_id-turn rs (IsDistinct-tail same_id r.0 (keys_of rs) distinct))
@@ -93,16 +98,18 @@ module _ {K P : Type 0} where
       ∙ sym (by_id-turn (filter p rs) (IsDistinct-keys_filter same_id p rs distinct))
 
 module _ {K S P : Type 0} (a : Parties K S P) (o : IsTotalOrder a.key) where
-  places_total : IsTotalOrder (pair_order place_order a.key)
+  -- the order of waiting keys is total
+  pub places_total : IsTotalOrder (pair_order place_order a.key)
   places_total = pair_order-total o (then_total (on_total (λ p. p.is_retry) bool_cmp_total) (on_total (λ p. p.due) nat_cmp_total))
 
+  -- what differs in its second part differs
   apart-then : (r s : Ordering) → s ≡ Less → is_eq (ordering_then r s) ≡ false
   apart-then Less s below = refl
   apart-then Equal s below = ap is_eq below
   apart-then Greater s below = refl
 
   -- those that wait are apart, as their keys are
-  apart-places : (rows : List (K × Row K S P)) → IsStrictlySortedBy a.key (keys_of rows) → AreApart places_total (filter_map place_of rows)
+  pub apart-places : (rows : List (K × Row K S P)) → IsStrictlySortedBy a.key (keys_of rows) → AreApart places_total (filter_map place_of rows)
   unfolding IsStrictlySortedBy
   apart-places [] ordered = tt
   apart-places (r ∷ rows) ordered = at r.1.phase (apart-places rows ordered.1)
@@ -123,6 +130,7 @@ module _ {K S P : Type 0} (a : Parties K S P) (o : IsTotalOrder a.key) where
       at (Asked id request) rest = rest
       at (Judged j) rest = rest
 
+  -- the rows that are kept are in order
   ordered-kept : (q : K × Row K S P → Bool) (rows : List (K × Row K S P)) → IsStrictlySortedBy a.key (keys_of rows) → IsStrictlySortedBy a.key (keys_of (filter q rows))
   unfolding IsStrictlySortedBy
   ordered-kept q [] ordered = ordered
@@ -146,6 +154,7 @@ module _ {K S P : Type 0} (a : Parties K S P) (o : IsTotalOrder a.key) where
     abbrev pub left : Machine K S P
     left = record m { rows = filter q m.rows; waiter = None }
 
+    -- what waits, is asked for or is counted under a row's key is kept as the row is
     waiting-alike : (r : K × Row K S P) → test r.0 ≡ q r → IfSome (place_of r) (λ p. test p.1 ≡ q r)
     waiting-alike r same = at r.1.phase
       where
@@ -176,6 +185,7 @@ module _ {K S P : Type 0} (a : Parties K S P) (o : IsTotalOrder a.key) where
         at None = tt
         at (Some n) = same
 
+    -- what is left of each table of the fetcher
     waiting-left : retained test (sorted a (filter_map place_of m.rows)) ≡ sorted a (filter_map place_of (filter q m.rows))
     waiting-left =
         kept-in_turn places_total (λ p. test p.1) (filter_map place_of m.rows) (apart-places m.rows sound.ordered)
@@ -200,9 +210,11 @@ module _ {K S P : Type 0} (a : Parties K S P) (o : IsTotalOrder a.key) where
     pub fetcher-left : calls.retain (orders_of a) test (fetcher_of a m) ≡ fetcher_of a left
     fetcher-left = rw (waiting-left, asked-left, targets-left, retries-left) refl
 
+    -- what is left of the entries
     pub holds-left : filter (λ e. test e.0) (holds_of m.rows) ≡ holds_of (filter q m.rows)
     holds-left = kept-map (λ r. (r.0, holds_in r.1.phase)) (λ e. test e.0) q m.rows alike
 
+    -- a machine with the rows that are kept is sound
     pub sound-left : IsSound a left
     sound-left = record {
       ordered = ordered-kept q m.rows sound.ordered;
@@ -213,6 +225,7 @@ module _ {K S P : Type 0} (a : Parties K S P) (o : IsTotalOrder a.key) where
     }
 
 module _ {K S P : Type 0} (keep : K → S → Bool) where
+  -- the rows with the subscribers that are kept
   abbrev prune : List (K × Row K S P) → List (K × Row K S P)
   prune rows = map (pruned keep) rows
 
@@ -221,6 +234,7 @@ module _ {K S P : Type 0} (keep : K → S → Bool) where
   given-pruned h same [] = refl
   given-pruned h same (r ∷ rows) = rw (same r, given-pruned h same rows) refl
 
+  -- what of the rows stays as it is
   keys-pruned : (rows : List (K × Row K S P)) → keys_of (prune rows) ≡ keys_of rows
   keys-pruned [] = refl
   keys-pruned (r ∷ rows) = ap (λ ks. r.0 ∷ ks) (keys-pruned rows)
@@ -229,10 +243,12 @@ module _ {K S P : Type 0} (keep : K → S → Bool) where
   holds-pruned [] = refl
   holds-pruned (r ∷ rows) = ap (λ es. (r.0, holds_in r.1.phase) ∷ es) (holds-pruned rows)
 
+  -- the demand with the subscribers that are kept
   demand-pruned : (rows : List (K × Row K S P)) → map (tables.pruned keep) (demand_of rows) ≡ demand_of (prune rows)
   demand-pruned [] = refl
   demand-pruned (r ∷ rows) = ap (λ es. (r.0, filter (λ s. keep r.0 s.0) r.1.subscribers) ∷ es) (demand-pruned rows)
 
+  -- requests and deliveries stay the rows' own
   own-pruned : (deliveries : List (ℕ × Open K S P)) (rows : List (K × Row K S P)) → AreOwn deliveries rows → AreOwn deliveries (prune rows)
   own-pruned deliveries [] own = tt
   own-pruned deliveries (r ∷ rows) own = (own.0, own-pruned deliveries rows own.1)
@@ -242,10 +258,12 @@ module _ {K S P : Type 0} (keep : K → S → Bool) where
     abbrev pub thinned : Machine K S P
     thinned = record m { rows = prune m.rows }
 
+    -- the fetcher doesn't know the subscribers
     fetcher-pruned : fetcher_of a thinned ≡ fetcher_of a m
     fetcher-pruned =
         rw (given-pruned place_of (λ r. refl) m.rows, given-pruned request_of (λ r. refl) m.rows, given-pruned targets_in (λ r. refl) m.rows, given-pruned retries_in (λ r. refl) m.rows) refl
 
+    -- a machine with fewer subscribers is sound
     sound-pruned : IsSound a m → m.scan.expects ≡ None → IsSound a thinned
     sound-pruned sound over = record {
       ordered = subst (IsStrictlySortedBy a.key) (sym (keys-pruned m.rows)) sound.ordered;
@@ -256,23 +274,29 @@ module _ {K S P : Type 0} (keep : K → S → Bool) where
     }
 
     module _ (o : IsTotalOrder a.key) (sound : IsSound a m) where
+      -- whether there are any subscribers
       abbrev some : List (S × ℕ) → Bool
       some subscribers = nat_lt 0 (length subscribers)
 
+      -- the demand with the subscribers that are kept, before keys go
       abbrev table : List (K × List (S × ℕ))
       table = demand_of (prune m.rows)
 
+      -- the keys of the demand are the rows'
       keys-table : (rows : List (K × Row K S P)) → keys_of (demand_of rows) ≡ keys_of rows
       keys-table [] = refl
       keys-table (r ∷ rows) = ap (λ ks. r.0 ∷ ks) (keys-table rows)
 
+      -- no two keys of it are equal
       distinct-table : IsDistinct (same_key (names_of a)) (keys_of table)
       distinct-table =
           subst (IsDistinct (same_key (names_of a))) (sym (keys-table (prune m.rows) ∙ keys-pruned m.rows)) (IsDistinct-from_sorted a.key (keys_of m.rows) sound.ordered)
 
+      -- each key finds its subscribers there
       found-table : AllByRecursion (λ r. lookup (same_key (names_of a) r.0) table ≡ Some r.1.subscribers) (prune m.rows)
       found-table = all-map-back (λ e. lookup (same_key (names_of a) e.0) table ≡ Some e.1) (λ r. (r.0, r.1.subscribers)) (prune m.rows) (each_found (names_of a) (eq_by_cmp_equiv o) table distinct-table)
 
+      -- what is found is what passes
       is-some : (b : Bool) (s : List (S × ℕ)) → is_some (cond b (Some s) None) ≡ b
       is-some true s = refl
       is-some false s = refl
@@ -288,11 +312,12 @@ module _ {K S P : Type 0} (keep : K → S → Bool) where
           ∙ is-some (some r.1.subscribers) r.1.subscribers) (prune m.rows) found-table
 
 -- what a code's entry and a row say of a judgement
-number-held : {P : Type 0} (e : Option (Entry (List ℕ) (Source P) ℕ)) → option_and_then (λ e. e.number) e ≡ option_and_then (λ h. h.0) (option_map held_of e)
+pub number-held : {P : Type 0} (e : Option (Entry (List ℕ) (Source P) ℕ)) → option_and_then (λ e. e.number) e ≡ option_and_then (λ h. h.0) (option_map held_of e)
 number-held None = refl
 number-held (Some e) = refl
 
 module _ {K S P : Type 0} (a : Parties K S P) (c : Codec K) where
+  -- what some keys call off, by the entries and by the rows
   tell : (numbered : Numbered K S (List ℕ) (Source P) ℕ) (rows : List (K × Row K S P)) → AllByRecursion (λ r. number_of a.key numbered r.0 ≡ (holds_in r.1.phase).0) rows
       → each_canceled a.key numbered (keys_of rows) ≡ map (written c) (cancels rows)
   tell numbered [] all = refl
@@ -323,6 +348,7 @@ module _ {K S P : Type 0} (a : Parties K S P) (c : Codec K) where
           at (Judged j) rest = ap (λ ts. told.Cancel j.number ∷ ts) rest
 
   module _ (o : IsTotalOrder a.key) (keep : K → S → Bool) (m : Machine K S P) (sound : IsSound a m) where
+    -- the keys that are emptied are those of the rows that go
     keys-gone : emptied keep (demand_of m.rows) ≡ keys_of (filter (λ r. not (has_subscribers r)) (prune keep m.rows))
     keys-gone =
         ap (λ d. keys_of (filter (λ e. not (tables.has_subscribers e)) d)) (demand-pruned keep m.rows)
@@ -330,6 +356,7 @@ module _ {K S P : Type 0} (a : Parties K S P) (c : Codec K) where
         (all-by (λ r. not (tables.has_subscribers (r.0, r.1.subscribers)) ≡ not (has_subscribers r)) (λ r. refl) (prune keep m.rows)))
         ∙ keys-table keep a m o sound (filter (λ r. not (has_subscribers r)) (prune keep m.rows))
 
+    -- the number of each row's judgement is that of its entry
     numbers-held : (numbered : Numbered K S (List ℕ) (Source P) ℕ) → map (λ x. (x.0, held_of x.1)) numbered.keys ≡ holds_of m.rows
         → AllByRecursion (λ r. number_of a.key numbered r.0 ≡ (holds_in r.1.phase).0) (prune keep m.rows)
     numbers-held numbered is =

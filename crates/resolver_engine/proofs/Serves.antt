@@ -1,5 +1,5 @@
 -- Peers' requests by their numbers.
-use Rattle.std.proofs.Common.{◌≡◌, ap, sym, ◌∙◌, ℕ, Bool, ◌==◌, List, [], ◌∷◌, Option, None, Some, arith}
+use Rattle.std.proofs.Common.{◌≡◌, ap, ◌∙◌, ℕ, Bool, ◌==◌, List, [], ◌∷◌, Option, None, Some, arith}
 use Rattle.std.specs.Map.{lookup, remove_entry}
 use Rattle.std.specs.BTreeMap.{BTreeMap, is_at}
 use Rattle.std.specs.Ordering.{nat_cmp}
@@ -13,13 +13,16 @@ use Rattle.resolver_engine.specs.Tied.{Agrees}
 pub same_test : (number n : ℕ) → (number == n) ≡ is_at (nat_cmp number) n
 same_test number n = grind (arith)
 
+-- a test of numbers
 abbrev Test : Type 0
 Test = ℕ → Bool
 
+-- the two tests of a number are one
 pub same_tests : (number : ℕ) → ◌≡◌ {A = Test} (λ n. number == n) (is_at (nat_cmp number))
 same_tests number = λ i n. same_test number n i
 
 module _ {K S P : Type 0} (m : Machine K S P) (serve : ℕ) (value : Option (List ℕ)) where
+  -- what is done is told by what is open under the number
   found : (s : Option (Serve P)) → lookup (is_at (nat_cmp serve)) m.serves ≡ s → served m serve value ≡ served_by m serve value s
   found s is = ap (λ test. served_by m serve value (lookup test m.serves)) (same_tests serve) ∙ ap (served_by m serve value) is
 
@@ -34,6 +37,7 @@ module _ {K S P : Type 0} (m : Machine K S P) (serve : ℕ) (value : Option (Lis
     effects = Reply s.peer (record { id = s.id; payload = payload_of value }) m.priority_responses ∷ [];
   }
 
+  -- a serve that is open is answered
   pub sends : (s : Serve P) → lookup (is_at (nat_cmp serve)) m.serves ≡ Some s → served m serve value ≡ sent s
   sends s some =
       found (Some s) some

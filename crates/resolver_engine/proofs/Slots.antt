@@ -207,9 +207,10 @@ module _ {K : Type 0} {cmp : K → K → Ordering} (o : IsTotalOrder cmp) where
     ordered-slot [] after key None (Some y) i ordered = (i.below, ordered)
     ordered-slot [] after key (Some x) None i ordered = ordered.1
     ordered-slot [] after key (Some x) (Some y) i ordered = (i.below, ordered.1)
-    ordered-slot (e ∷ before) after key was now i ordered =
-        (all-slot (λ k. cmp e.0 k ≡ Less) before after key was now (o.antisymm e.0 key ∙ ap ordering_reverse i.above.0) ordered.0,
-        ordered-slot before after key was now (record { above = i.above.1; below = i.below }) ordered.1)
+    ordered-slot (e ∷ before) after key was now i ordered = (
+      all-slot (λ k. cmp e.0 k ≡ Less) before after key was now (o.antisymm e.0 key ∙ ap ordering_reverse i.above.0) ordered.0,
+      ordered-slot before after key was now (record { above = i.above.1; below = i.below }) ordered.1,
+    )
 
   module _ {X Y : Type 0} (h : X → Option Y) where
     -- what a table gives of the values, by key

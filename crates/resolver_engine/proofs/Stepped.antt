@@ -137,5 +137,11 @@ module _ {K S P : Type 0} (a : Parties K S P) where
   pub was-tied : (e : Parts K P S) (code : CodeStatus) → code ≡ statuses.Running → IsTiedUnlessFailed a (status_of code) e → IsTied a e
   was-tied e code is tied = subst (λ code. IsTiedUnlessFailed a (status_of code) e) is tied
 
+  -- the same of a core that has ended
+  pub was-ended : (e : Parts K P S) (code : CodeStatus) (now : Engine K S P) (m : Machine K S P) → core e (status_of code) ≡ now → code ≡ statuses.Ended → Matches a now m → Agrees a e m
+  was-ended e code now m view is matched =
+      let ends = subst (λ code. Matches a (core e (status_of code)) m) is (subst (λ now. Matches a now m) (sym view) matched) in
+      agrees-of e m ends.held
+
   pub still-tied : (e : Parts K P S) (code : CodeStatus) → code ≡ statuses.Running → IsTied a e → IsTiedUnlessFailed a (status_of code) e
   still-tied e code is tied = subst (λ code. IsTiedUnlessFailed a (status_of code) e) (sym is) tied

@@ -208,8 +208,9 @@ module _ {K S P : Type 0} (a : Parties K S P) (o : IsTotalOrder a.key) (m : Mach
     pub new-not_asked : not (tables.is_asked (names_of a) e.demand key) ≡ true → is_asked a.key e.fetcher.asked key ≡ false
     new-not_asked new =
         let at = around-none o m.rows key sound.ordered (absent new) in
+        let owned = subst (λ rows. AreOwn m.deliveries rows) at.whole sound.own in
         ap (λ f. is_asked a.key f.asked key) is.fetcher ∙ ap (λ rows. is_asked a.key (by_id (filter_map request_of rows)) key) at.whole
-        ∙ idle-asked a o at.before at.after key at.around m.deliveries None (subst (λ rows. AreOwn m.deliveries rows) at.whole sound.own) refl
+        ∙ idle-asked a o at.before at.after key at.around m.deliveries None (own-before m.deliveries at.before at.after key None owned) (own-after m.deliveries at.before at.after key None owned) refl
 
     abbrev new_row : Row K S P
     new_row = record {

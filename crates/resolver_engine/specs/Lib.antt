@@ -7,3 +7,5 @@ pub mod Going
 pub mod Matching
 pub mod Said
 pub mod Tied
+pub mod Ruled
+pub mod Listed

@@ -47,7 +47,10 @@ impl<K: Ord + Clone + Drop, P: Ord + Clone + Drop, S: Ord + Clone + Drop> Parts<
             return Ok(());
         };
         let Request {
-            key, peer, start, ..
+            key,
+            peer,
+            start,
+            ..
         } = request;
         let Some(subscribers) = self.demand.pending(&key)? else {
             unreachable!()
@@ -57,7 +60,13 @@ impl<K: Ord + Clone + Drop, P: Ord + Clone + Drop, S: Ord + Clone + Drop> Parts<
             elapsed: elapsed_since(start, now),
             bytes: value.len() as u64,
         };
-        hand_out(&mut self.entries, Delivery { key, subscribers }, source, value, effects)
+        hand_out(
+            &mut self.entries,
+            Delivery { key, subscribers },
+            source,
+            value,
+            effects,
+        )
     }
 }
 

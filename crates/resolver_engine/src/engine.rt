@@ -1,6 +1,9 @@
 //! The engine's core.
 
-ghost use Rattle.std.specs.Prelude.{◌≡◌, ◌≢◌, ℕ, map, IfErr, IfOk, Ok, Err};
+ghost use Rattle.std.specs.Prelude.{◌≡◌, ◌≢◌, ◌⊎◌, ℕ, map, IfErr, IfOk, Ok, Err};
+ghost use Rattle.std.specs.List.{IsDistinct};
+ghost use Rattle.std.specs.List.Sorted.{IsStrictlySortedBy};
+ghost use Rattle.std.specs.Ordering.{is_eq};
 ghost use Rattle.resolver_base.specs.declared.base.fault.Fault.TheVariants.{OutOfMemory};
 ghost use Rattle.resolver_fetch.specs.Fetcher.{IsTimely};
 ghost use Rattle.resolver_machine.specs.Steps.{stops};
@@ -9,12 +12,14 @@ ghost use Rattle.resolver_peer.specs.Peer as machines;
 ghost use Rattle.resolver_peer.specs.Peer.{Machine, active_deadline, opening, wake_up};
 ghost use Rattle.resolver_engine.specs.Ending.{is_end, is_end_event};
 ghost use Rattle.resolver_engine.specs.EngineSteps.{Runs, Takes, all_fed};
+ghost use Rattle.resolver_engine.specs.Listed.{listed};
 ghost use Rattle.resolver_engine.specs.Matching.{Matches, is_final};
 ghost use Rattle.resolver_engine.specs.Said.{answer_of, codec, fed_of};
 
 use crate::effects::Effect;
 use crate::inputs::{Event, Input};
 use crate::parts::Parts;
+use crate::rows::Row;
 use resolver_base::base::{Fault, Predicate, Span};
 use resolver_fetch::fetcher::Config;
 use std::alloc::Global;
@@ -40,6 +45,7 @@ pub struct Core<K: Ord, P: Ord, S: Ord, Q> {
 
 impl<K: Ord, P: Ord, S: Ord, Q> Model for Core<K, P, S, Q> {
     ghost use Rattle.resolver_peer.specs.Parties.{parties};
+    ghost use Rattle.resolver_engine.specs.Listed.{listed};
     ghost use Rattle.resolver_engine.specs.Matching.{Engine, IsTiedUnlessFailed, held_by, status_of};
 
     ghost Value = { Engine K S P };
@@ -139,6 +145,28 @@ impl<K: Span + Drop, P: Ord + Clone + Drop, S: Ord + Clone + Drop, Q: Predicate<
             }
         }
         Ok(answers)
+    }
+
+    /// The demanded keys, in their order: each stands in one row, so in one phase. Once the engine
+    /// has failed the answer is `Failed`. It takes time linear in what is listed, times a logarithm.
+    pub fn rows(&self) -> Result<Vec<Row<K, S, P>>, Fault>
+        requires keys_clone { (x y : K) → K.is_clone x y → y ≡ x }
+        requires peers_clone { (x y : P) → P.is_clone x y → y ≡ x }
+        requires subscribers_clone { (x y : S) → S.is_clone x y → y ≡ x }
+        ensures rows { (m : Machine K S P) → Matches (parties K.cmp S.cmp P.cmp) self.now m
+            → IfOk result (λ rows. rows.items ≡ map listed m.rows) }
+        ensures once { IfOk result
+            (λ rows. IsDistinct (λ k l. is_eq (K.cmp k l)) (map (λ row. row.key) rows.items)) }
+        ensures ordered { IfOk result
+            (λ rows. IsStrictlySortedBy K.cmp (map (λ row. row.key) rows.items)) }
+        ensures only { IfErr result (λ fault. (fault ≡ OutOfMemory)
+            ⊎ ((fault ≡ Fault.Failed) × (self.now.status ≡ machines.Failed))) }
+    {
+        match self.status {
+            Status::Running => self.parts.rows(),
+            Status::Ended => self.parts.rows(),
+            Status::Failed => Err(Fault::Failed),
+        }
     }
 
     /// When a scan may do something, if a key waits. It takes time logarithmic in the waiting keys.

@@ -6,6 +6,7 @@ pub mod TriesPairs
 pub mod WakesLater
 pub mod NeedsPairs
 pub mod ChoosesBelow
+pub mod DrawCounts
 pub mod Askable
 pub mod Among
 pub mod Dues

@@ -3,14 +3,21 @@ use Rattle.std.specs.Prelude.{◌≡◌, ℕ, ◌<◌, ◌⊎◌, Bool, true, fa
 use Rattle.resolver_base.specs.declared.base.fault.Fault.{Fault}
 use Rattle.resolver_request.specs.declared.score.Averages.{Averages}
 use Rattle.resolver_fetch.specs.declared.fetcher.scan.Answer.{Answer}
+use Rattle.resolver_fetch.specs.declared.fetcher.scan.Answer.TheVariants.{Drawn}
+use Rattle.resolver_fetch.specs.declared.fetcher.scan.Ask.{Ask}
+use Rattle.resolver_fetch.specs.declared.fetcher.scan.Ask.TheVariants as asks
+use Rattle.resolver_fetch.specs.declared.fetcher.trail.Expected.{Expected}
+use Rattle.resolver_fetch.specs.declared.fetcher.trail.Expected.TheVariants.{Mode, ByWeight, ByPlace, Checking}
 use Rattle.resolver_fetch.specs.declared.fetcher.trail.Reason.{Reason}
 use Rattle.resolver_fetch.specs.declared.fetcher.trail.Reason.TheVariants.{Limited, Refused}
 use Rattle.resolver_fetch.specs.declared.fetcher.trail.Try.{Try}
+use Rattle.resolver_request.specs.Choice.{count_below}
+use Rattle.resolver_request.specs.Scores.{weight_of}
 use Rattle.resolver_request.specs.Times.{never}
-use Rattle.resolver_fetch.specs.Orders.{Orders}
+use Rattle.resolver_fetch.specs.Orders.{Orders, same_peer}
 use Rattle.resolver_fetch.specs.Waiting.{Waiting}
 use Rattle.resolver_fetch.specs.Snapshot.{Snapshot, eligible}
-use Rattle.resolver_fetch.specs.Scan.{Scan, Turn, is_over, is_due, was_tried, least_until, weights, by_weight, by_place, begins, takes, question}
+use Rattle.resolver_fetch.specs.Scan.{Scan, Turn, is_over, is_due, was_tried, least_until, weights, by_weight, by_place, left, begins, answered, takes, question_for, question}
 use Rattle.resolver_fetch.specs.Fetcher.{Fetcher, pending_deadline, scan_begin, scan_answer, snapshot, turned, weight}
 
 -- each of these is so
@@ -111,6 +118,38 @@ module _ {K P : Type 0} (o : Orders K P) where
   pub record KeepsWeights : Type 0 where
     pub begun : (f : Fetcher K P) (peer : P) (now : ℕ) → weight o peer (scan_begin o now f) ≡ weight o peer f
     pub answered : (f : Fetcher K P) (peer : P) (answer : Answer) → weight o peer (scan_answer o answer f).1 ≡ weight o peer f
+
+-- how many of the numbers that a question asks for pass as its answers
+abbrev pub count_answers : {K P : Type 0} → Ask K P → (Answer → Bool) → ℕ
+count_answers (asks.Draw bound) passes = count_below bound (λ number. passes (Drawn number))
+count_answers ask passes = 0
+
+-- whether an answer is taken, and what is expected then passes
+abbrev pub leads_to : {K P : Type 0} → (Option (Expected P) → Bool) → Result (Turn K P) Fault → Bool
+leads_to passes (Ok t) = passes t.scan.expects
+leads_to passes (Err fault) = false
+
+-- whether the peer is drawn by weight
+abbrev pub is_weighted : {P : Type 0} → Option (Expected P) → Bool
+is_weighted (Some ByWeight) = true
+is_weighted expected = false
+
+module _ {K P : Type 0} (o : Orders K P) where
+  -- whether a word on this peer is expected
+  abbrev pub is_check : P → Option (Expected P) → Bool
+  is_check peer (Some (Checking other)) = same_peer o peer other
+  is_check peer expected = false
+
+  -- Of the numbers that a scan asks for while it tries a key, so many choose the way to draw and each peer left.
+  pub record DrawCounts (s : Snapshot K P) : Type 0 where
+    -- four mean that a peer is drawn by weight
+    pub mode : (scan : Scan K P) (w : K × Waiting P) → count_answers (question_for o s scan w Mode) (λ a. leads_to is_weighted (answered o s scan w Mode a)) ≡ 4
+    -- by weight: as many as it weighs choose each
+    pub weighted : (scan : Scan K P) (w : K × Waiting P) (p : P × Averages) → IsAmong p (left o s scan.trail w)
+        → count_answers (question_for o s scan w ByWeight) (λ a. leads_to (is_check p.0) (answered o s scan w ByWeight a)) ≡ weight_of p.1
+    -- by place: one chooses each
+    pub uniform : (scan : Scan K P) (w : K × Waiting P) (p : P × Averages) → IsAmong p (left o s scan.trail w)
+        → count_answers (question_for o s scan w ByPlace) (λ a. leads_to (is_check p.0) (answered o s scan w ByPlace a)) ≡ 1
 
 -- A number chooses a peer exactly where it is below the asked bound.
 pub record ChoosesBelow (P : Type 0) : Type 0 where

@@ -514,3 +514,37 @@ fn blocked_target(rt: HostRuntime) -> Result<(), Fail> {
     goes(&rt, rt.alloc(), &calls)?;
     Ok(())
 }
+
+/// What a peer weighs, where it is known.
+fn weighs(peer: u8, weight: Option<u64>) -> (Call<'static>, Seen) {
+    (Call::Weight(peer), Seen::Weight(weight))
+}
+
+#[test]
+fn sets_of_each_length(rt: HostRuntime) -> Result<(), Fail> {
+    let calls = [
+        (Call::Peers(&[]), Seen::Done),
+        weighs(4, None),
+        (Call::Peers(&[4]), Seen::Done),
+        weighs(4, Some(1)),
+        weighs(3, None),
+        (Call::Blocked(&[]), Seen::Done),
+        (Call::Peers(&[5, 3, 4]), Seen::Done),
+        weighs(3, Some(1)),
+        weighs(4, Some(1)),
+        weighs(5, Some(1)),
+        (Call::Blocked(&[4]), Seen::Done),
+        weighs(3, Some(1)),
+        weighs(4, Some(0)),
+        (Call::Blocked(&[5, 3, 4]), Seen::Done),
+        weighs(3, Some(0)),
+        weighs(4, Some(0)),
+        weighs(5, Some(0)),
+        (Call::Blocked(&[]), Seen::Done),
+        weighs(5, Some(1)),
+        (Call::Peers(&[]), Seen::Done),
+        weighs(5, None),
+    ];
+    goes(&rt, rt.alloc(), &calls)?;
+    Ok(())
+}

@@ -75,6 +75,24 @@ fn nothing_to_choose(rt: HostRuntime) -> Result<(), Fail> {
 }
 
 #[test]
+fn weights_of_each_length(rt: HostRuntime) -> Result<(), Fail> {
+    let none: [u64; 0] = [];
+    for weights in [none.as_slice(), [7].as_slice(), [3, 0, 2].as_slice()] {
+        let index = WeightedIndex::new(rt.alloc(), weights)?;
+        has_weights(&rt, &index, weights);
+    }
+    let mut index = WeightedIndex::new(rt.alloc(), &[1, 1, 1])?;
+    index.update(&[]);
+    has_weights(&rt, &index, &[1, 1, 1]);
+    assert!(rt; index.count() == 3);
+    index.update(&[(1, 4)]);
+    has_weights(&rt, &index, &[1, 4, 1]);
+    index.update(&[(2, 5), (0, 6), (2, 7)]);
+    has_weights(&rt, &index, &[6, 4, 7]);
+    Ok(())
+}
+
+#[test]
 fn widest_weights(rt: HostRuntime) -> Result<(), Fail> {
     let index = WeightedIndex::new(rt.alloc(), &[u64::MAX; 3])?;
     assert_eq!(rt; index.total(), 55_340_232_221_128_654_845);

@@ -2,8 +2,11 @@
 //! them, and does nothing. They are no part of the surface.
 
 ghost use Rattle.resolver_fetch.specs.FetcherRows.{BlockedTarget, FirstRequest, MissingAndRetry, NextIds, RefusedSends, TwoKinds, WakeUp};
-ghost use Rattle.resolver_fetch.specs.FetcherLaws.{ChoosesBelow, KeepsWeights, NeedsPairs, TriesAll, TriesPairs, WakesLater};
+ghost use Rattle.resolver_fetch.specs.FetcherLaws.{ChoosesBelow, DrawCounts, KeepsWeights, NeedsPairs, TriesAll, TriesPairs, WakesLater};
+ghost use Rattle.resolver_fetch.specs.Fetcher.{snapshot};
 ghost use Rattle.resolver_fetch.specs.Orders.{orders};
+
+use crate::fetcher::Fetcher;
 
 /// The next id is held by no request, and 0 follows the last.
 pub fn next_ids()
@@ -70,3 +73,11 @@ pub fn needs_pairs<K: Ord, P: Ord>()
 pub fn chooses_below<P: Ord>()
     ensures { ChoosesBelow P }
 {}
+
+/// Of the numbers that a scan of this fetcher asks for while it tries a key, as many as its weight
+/// choose each peer left by weight, one chooses each by place, and four mean a draw by weight.
+pub fn draw_counts<K: Ord + Drop, P: Ord + Drop>(fetcher: &Fetcher<K, P>)
+    ensures { DrawCounts (orders K.cmp P.cmp) (snapshot (orders K.cmp P.cmp) fetcher.now) }
+{
+    fetcher.peers.law();
+}

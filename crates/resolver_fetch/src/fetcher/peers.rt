@@ -1,9 +1,11 @@
 //! The peers that may be asked.
 
 ghost use Rattle.std.specs.Prelude.{◌≡◌, ◌↔◌, None, Some, [], option_map, option_to_list, IsTrue, IfOk, IfErr, OnErr, OnOk};
+ghost use Rattle.std.specs.List.{IsDistinct};
 ghost use Rattle.std.specs.List.Sorted.{IsStrictlySortedBy};
 ghost use Rattle.std.specs.Map.{keys_of};
 ghost use Rattle.std.specs.Option.{option_copied};
+ghost use Rattle.std.specs.Ordering.{eq_by_cmp};
 ghost use Rattle.resolver_base.specs.declared.base.fault.Fault.TheVariants.{OutOfMemory};
 ghost use Rattle.resolver_fetch.specs.Known.{askable, askable_at, eligible, is_eligible, is_local, is_target, may_be_asked, weight_in};
 ghost use Rattle.resolver_fetch.specs.Peers.{observed, replaced, set_of};
@@ -53,6 +55,13 @@ impl<P: Ord + Drop> Peers<P> {
             allowed: 0,
             alloc,
         }
+    }
+
+    /// No peer stands twice in the set. This does nothing.
+    pub(super) fn law(&self)
+        ensures { IsDistinct (eq_by_cmp P.cmp) (keys_of self.now.set) }
+    {
+        let _count = self.set.len();
     }
 
     /// Whether no peer may be asked for any key, in constant time.

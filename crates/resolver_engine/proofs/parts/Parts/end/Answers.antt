@@ -1,5 +1,4 @@
-use Rattle.std.proofs.Common.{rules, ap, sym, ◌∙◌, refl, ◌++◌, Some, false}
-use Rattle.resolver_base.specs.Answering.{AnswersBy}
+use Rattle.std.proofs.Common.{rules, ap, ◌∙◌, refl, ◌++◌, false}
 use Rattle.resolver_peer.specs.Parties.{parties}
 use Rattle.resolver_peer.specs.Peer.{end}
 use Rattle.resolver_engine.specs.Said.{codec}

@@ -1,4 +1,4 @@
-use Rattle.std.proofs.Common.{ap, sym, ◌∙◌, refl, ◌++◌, Some}
+use Rattle.std.proofs.Common.{ap, ◌∙◌, refl, ◌++◌}
 use Rattle.resolver_base.specs.Table.{emptied}
 use Rattle.resolver_peer.specs.Parties.{parties}
 use Rattle.resolver_peer.specs.Peer.{retain}

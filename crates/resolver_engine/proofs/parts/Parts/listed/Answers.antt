@@ -1,0 +1,27 @@
+use Rattle.std.proofs.Common.{◌≡◌, ap, ◌∙◌, refl}
+use Rattle.resolver_fetch.specs.Fetcher as calls
+use Rattle.resolver_peer.specs.Parties.{orders_of, parties}
+use Rattle.resolver_peer.specs.Peer.{row_of}
+use Rattle.resolver_engine.specs.declared.rows.Row.{Row as ListedRow}
+use Rattle.resolver_engine.specs.Listed.{listed, listed_phase}
+use Rattle.resolver_engine.proofs.Shown.{if-some, retries-shown, some-at}
+use Rattle.resolver_engine.proofs.parts.Parts.listed.Goals as goal
+
+pub returns-clause-row : goal.returns-clause-row
+returns-clause-row g c = λ m agrees.
+    let a = parties g.K.Ord.cmp g.S.Ord.cmp g.P.Ord.cmp in
+    let key = c.args.key.now in
+    let shown : ListedRow _ _ _ = record {
+      key = c.in_ok-clone.field-0;
+      subscribers = c.subscribers.inside.items.items;
+      targets = c.in_ok-listed_targets.field-0;
+      retries = c.retries.result;
+      phase = c.in_ok-listed_phase.field-0;
+    } in
+    if-some (row_of a m key) (λ row. c.args.subscribers.now ≡ row.subscribers → shown ≡ listed (key, row))
+    (λ row found same.
+    let targets = some-at (row_of a m key) (λ row. c.in_ok-listed_targets.field-0 ≡ row.targets) row found (c.in_ok-listed_targets.ensures.targets m agrees) in
+    let phase = some-at (row_of a m key) (λ row. c.in_ok-listed_phase.field-0 ≡ listed_phase row.phase) row found (c.in_ok-listed_phase.ensures.phase m agrees) in
+    let retries = c.retries.ensures ∙ ap (λ f. calls.retries_of (orders_of a) f key) agrees.fetcher ∙ retries-shown a g.met.K.Ord.total m agrees.sound key row found in
+    let subscribers = c.subscribers.view_is ∙ c.in-Ok.ensures.ok ∙ c.in_ok-copied.ensures ∙ same in
+    rw (c.requires.keys_clone _ _ c.in_ok-clone.ensures.cases, subscribers, targets, retries, phase) refl)
