@@ -26,3 +26,4 @@ mod Cached
 mod Rulings
 mod Verdicts
 mod Shown
+mod RunLaws

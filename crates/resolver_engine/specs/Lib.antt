@@ -9,3 +9,4 @@ pub mod Said
 pub mod Tied
 pub mod Ruled
 pub mod Listed
+pub mod EngineLaws

@@ -11,7 +11,8 @@ ghost use Rattle.resolver_peer.specs.Parties.{parties};
 ghost use Rattle.resolver_peer.specs.Peer as machines;
 ghost use Rattle.resolver_peer.specs.Peer.{Machine, active_deadline, opening, wake_up};
 ghost use Rattle.resolver_engine.specs.Ending.{is_end, is_end_event};
-ghost use Rattle.resolver_engine.specs.EngineSteps.{Runs, Takes, all_fed};
+ghost use Rattle.resolver_engine.specs.EngineLaws.{RunsWell};
+ghost use Rattle.resolver_engine.specs.EngineSteps.{Takes, all_fed};
 ghost use Rattle.resolver_engine.specs.Listed.{listed};
 ghost use Rattle.resolver_engine.specs.Matching.{Matches, is_final};
 ghost use Rattle.resolver_engine.specs.Said.{answer_of, codec, fed_of};
@@ -117,6 +118,12 @@ impl<K: Span + Drop, P: Ord + Clone + Drop, S: Ord + Clone + Drop, Q: Predicate<
     /// Takes inputs one after another, with one answer each, up to the first `OutOfMemory` or
     /// `Exhausted` among the answers.
     ///
+    /// From a new engine on, the rows have the pairs that were fetched and not since retired; a
+    /// response earns its peer at most one credit or one block; requests go to eligible peers, under
+    /// ids that no other request holds; no due key is left behind a wake-up while moments never go
+    /// back; and a key that was asked for is not asked for again before it has no subscriber or is
+    /// retried.
+    ///
     /// The call itself answers `OutOfMemory` where the list of answers can't be made: then no
     /// input was taken and nothing has changed.
     pub fn run(
@@ -128,10 +135,9 @@ impl<K: Span + Drop, P: Ord + Clone + Drop, S: Ord + Clone + Drop, Q: Predicate<
         requires subscribers_clone { (x y : S) → S.is_clone x y → y ≡ x }
         ensures runs { IfOk result (λ answers. (m : Machine K S P) (moment : ℕ)
             → Matches (parties K.cmp S.cmp P.cmp) self.old m
-            → (n : Machine K S P) × Runs (parties K.cmp S.cmp P.cmp)
-            (codec K.SIZE K.bytes_of K.read_from) m
+            → RunsWell (parties K.cmp S.cmp P.cmp) (codec K.SIZE K.bytes_of K.read_from) m
             (all_fed (codec K.SIZE K.bytes_of K.read_from) Q.keeps moment inputs.items)
-            (map answer_of answers.items) n × Matches (parties K.cmp S.cmp P.cmp) self.new n) }
+            (map answer_of answers.items) self.new) }
         ensures err { IfErr result
             (λ fault. (fault ≡ OutOfMemory) × (self.new ≡ self.old)) }
     {
