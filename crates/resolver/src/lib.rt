@@ -2,8 +2,8 @@
 //! request at a time, and a response serves late subscribers too.
 //!
 //! The machines here take one input at a time and answer with effects; they hold no clock, no
-//! socket and no thread. `opaque::Actor` fetches from one opaque source. What the peer machine will
-//! stand on are libraries by themselves: `subscribers`, `delivery`, `mailbox` and `p2p`.
+//! socket and no thread. `opaque::Actor` fetches from one opaque source, and `p2p::engine::Core` from
+//! peers.
 #![tactic(auto)]
 
 pub use resolver_base::base;
