@@ -1,31 +1,33 @@
 //! Effects and rows as lines.
 
-pub mod actor;
-pub mod engine;
-
 use bytes::Bytes;
-use resolver::Delivery;
+use resolver::opaque::{Effect, Phase, Row};
 use resolver::p2p::mocks::Key;
 use std::io;
 use std::io::Write;
 
-/// Prints what is handed out under this number as one line, with the response's name where that is
-/// another number.
-fn deliver<W: Write>(
-    output: &mut W,
-    number: u64,
-    response: u64,
-    delivery: &Delivery<Key, u16>,
-    value: &Bytes,
-) -> io::Result<()> {
-    write!(output, "deliver {number} {} ", delivery.key.0)?;
-    subscribers(output, delivery.subscribers.as_slice())?;
-    write!(output, " ")?;
-    bytes(output, value.as_slice())?;
-    if response != number {
-        write!(output, " again {response}")?;
+/// Prints an effect as one line.
+pub fn effect<W: Write>(output: &mut W, effect: &Effect<Key, Bytes, u16>) -> io::Result<()> {
+    match effect {
+        Effect::Start { attempt, key } => writeln!(output, "start {attempt} {}", key.0),
+        Effect::Abort { attempt } => writeln!(output, "abort {attempt}"),
+        Effect::Deliver {
+            number,
+            response,
+            delivery,
+            value,
+        } => {
+            write!(output, "deliver {number} {} ", delivery.key.0)?;
+            subscribers(output, delivery.subscribers.as_slice())?;
+            write!(output, " ")?;
+            bytes(output, value.as_slice())?;
+            if response != number {
+                write!(output, " again {response}")?;
+            }
+            writeln!(output)
+        }
+        Effect::Cancel { number } => writeln!(output, "cancel {number}"),
     }
-    writeln!(output)
 }
 
 /// Prints the subscribers' names, joined by commas.
@@ -47,15 +49,19 @@ fn bytes<W: Write>(output: &mut W, bytes: &[u8]) -> io::Result<()> {
     Ok(())
 }
 
-/// Prints a demanded key and its subscribers with their marks.
-fn demanded<W: Write>(output: &mut W, key: Key, subscribers: &[(u16, u64)]) -> io::Result<()> {
-    write!(output, "key {} subs ", key.0)?;
+/// Prints a demanded key as one line.
+pub fn row<W: Write>(output: &mut W, row: &Row<Key, u16>) -> io::Result<()> {
+    write!(output, "key {} subs ", row.key.0)?;
     let mut comma = "";
-    for (subscriber, mark) in subscribers {
+    for (subscriber, mark) in row.subscribers.as_slice() {
         write!(output, "{comma}{subscriber}:{mark}")?;
         comma = ",";
     }
-    Ok(())
+    match row.phase {
+        Phase::Waiting { due } => writeln!(output, " phase waiting {due}"),
+        Phase::Asked { attempt } => writeln!(output, " phase asked {attempt}"),
+        Phase::Judged { number } => writeln!(output, " phase judged {number}"),
+    }
 }
 
 /// Prints the wake-up as one line.

@@ -3,13 +3,14 @@
 ghost use Rattle.std.specs.Prelude.{◌≡◌};
 ghost use Rattle.resolver_replay.specs.declared.replay.Fault.TheVariants.{Memory};
 
-mod actor;
-mod engine;
-
-use crate::script::{Command, Unread, is_skipped, parse};
-use actor::ActorSession;
-use engine::EngineSession;
-use resolver::base;
+use crate::kept::Kept;
+use crate::print;
+use crate::script::{Command, Moment, Unread, is_skipped, parse};
+use bytes::Bytes;
+use resolver::base::NonEmptyVec;
+use resolver::ingress::FetchKey;
+use resolver::opaque::{Actor, Effect, Event, Input};
+use resolver::p2p::mocks::Key;
 use std::alloc::{AllocError, AllocFailed, Global};
 use std::io;
 use std::io::{BufRead, BufReader, ErrorKind, Read, Write};
@@ -69,11 +70,12 @@ fn written(done: io::Result<()>) -> Result<(), Fault> {
     })
 }
 
-/// The machine that a script feeds.
+/// The machine that a script feeds, and the moment of its next input.
 #[derive(Drop)]
-enum Session {
-    Opaque(ActorSession),
-    P2p(EngineSession),
+struct Session {
+    actor: Actor<Key, Bytes, u16, Kept>,
+    now: Moment,
+    alloc: Global,
 }
 
 /// Reads the script, feeds its inputs one after another, and prints what comes of each before more
@@ -150,35 +152,100 @@ fn take_line<W: Write>(
     };
     match session {
         None => Ok(start(alloc, session, command)),
-        Some(Session::Opaque(session)) => session.take(command, output),
-        Some(Session::P2p(session)) => session.take(command, output),
+        Some(session) => session.take(command, output),
     }
 }
 
 /// Opens the machine. False where the line is another command.
 fn start(alloc: Global, session: &mut Option<Session>, command: Command) -> bool {
-    match command {
-        Command::Opaque { delay } => {
-            *session = Some(Session::Opaque(ActorSession::new(alloc, delay)));
-            true
+    let Command::Opaque { delay } = command else {
+        return false;
+    };
+    *session = Some(Session {
+        actor: Actor::new(alloc, delay.nanoseconds),
+        now: Moment { nanoseconds: 0 },
+        alloc,
+    });
+    true
+}
+
+impl Session {
+    /// Does what a command says. False where it may not stand here.
+    fn take<W: Write>(&mut self, command: Command, output: &mut W) -> Result<bool, Fault> {
+        match command {
+            Command::Opaque { .. } => return Ok(false),
+            Command::At(moment) => self.now = moment,
+            Command::Fetch {
+                key,
+                subscriber,
+                mark,
+            } => {
+                let fetch = self.fetch(key, subscriber, mark)?;
+                self.step(fetch, output)?;
+            }
+            Command::Fetched { attempt, value } => {
+                self.step(Event::Fetched { attempt, value }, output)?
+            }
+            Command::Verdict { number, outcome } => {
+                self.step(Event::Verdict { number, outcome }, output)?
+            }
+            Command::Retain(kept) => self.step(Event::Retain(kept), output)?,
+            Command::Wake => self.step(Event::RetriesDue, output)?,
+            Command::Stop => self.step(Event::End, output)?,
+            Command::Show => self.show(output)?,
         }
-        Command::P2p { me, timeout, delay } => {
-            let engine = EngineSession::new(alloc, me, timeout, delay);
-            *session = Some(Session::P2p(engine));
-            true
+        Ok(true)
+    }
+
+    fn fetch(
+        &self,
+        key: u8,
+        subscriber: u16,
+        mark: u64,
+    ) -> Result<Event<Key, Bytes, u16, Kept>, Fault> {
+        let item = FetchKey {
+            key: Key(key),
+            subscribers: NonEmptyVec::new(self.alloc, (subscriber, mark))?,
+            metadata: (),
+        };
+        let mut items = Vec::new(self.alloc);
+        items.push(item)?;
+        Ok(Event::Fetch(items))
+    }
+
+    /// Feeds an input, and prints its effects or its refusal.
+    fn step<W: Write>(
+        &mut self,
+        event: Event<Key, Bytes, u16, Kept>,
+        output: &mut W,
+    ) -> Result<(), Fault> {
+        let now = self.now.nanoseconds;
+        match self.actor.step(Input { now, event }) {
+            Ok(effects) => print_all(&effects, output),
+            Err(fault) => {
+                let number = fault.number();
+                let name = fault.name();
+                written(writeln!(output, "refused {number} {name}"))
+            }
         }
-        _ => false,
+    }
+
+    /// Prints the rows and the wake-up.
+    fn show<W: Write>(&self, output: &mut W) -> Result<(), Fault> {
+        let rows = self.actor.rows().map_err(|_| Fault::Memory)?;
+        for row in &rows {
+            written(print::row(output, row))?;
+        }
+        written(print::wake(output, self.actor.next_retry()))
     }
 }
 
-/// Prints that the machine refused an input.
-fn refused<W: Write>(output: &mut W, fault: base::Fault) -> Result<(), Fault> {
-    let number = fault.number();
-    let name = fault.name();
-    written(writeln!(output, "refused {number} {name}"))
+fn print_all<W: Write>(effects: &[Effect<Key, Bytes, u16>], output: &mut W) -> Result<(), Fault> {
+    for effect in effects {
+        written(print::effect(output, effect))?;
+    }
+    Ok(())
 }
 
-#[cfg(test)]
-mod engine_tests;
 #[cfg(test)]
 mod tests;

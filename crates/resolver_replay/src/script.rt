@@ -9,8 +9,6 @@ ghost use Rattle.std.specs.List.{list_all};
 
 use crate::kept::Kept;
 use bytes::Bytes;
-use resolver::base::{Check, NonEmptyVec};
-use resolver::p2p::fetcher::Answer;
 use resolver::{Outcome, Resolution};
 use std::alloc::{AllocError, AllocFailed, Global};
 use std::str;
@@ -23,14 +21,6 @@ pub struct Moment {
     ghost in_range: { nanoseconds < 2 ^ 94 },
 }
 
-/// How long a request may take, in nanoseconds: at least 1, and below 2^94.
-#[derive(Clone, Copy, Debug, PartialEq, Eq)]
-pub struct Timeout {
-    pub nanoseconds: u128,
-    ghost positive: { 0 < nanoseconds },
-    ghost in_range: { nanoseconds < 2 ^ 94 },
-}
-
 /// What a line says.
 #[derive(Debug, Drop)]
 pub enum Command {
@@ -38,20 +28,13 @@ pub enum Command {
     Opaque {
         delay: Moment,
     },
-    /// `p2p ME TIMEOUT DELAY`: a new engine, with its own name, if it has one.
-    P2p {
-        me: Option<u8>,
-        timeout: Timeout,
-        delay: Moment,
-    },
     /// `at T`: the moment from now on.
     At(Moment),
-    /// `fetch K S M`: a subscriber wants a key. `fetch K S M LIST`: of these peers.
+    /// `fetch K S M`: a subscriber wants a key.
     Fetch {
         key: u8,
         subscriber: u16,
         mark: u64,
-        targets: Option<NonEmptyVec<u8>>,
     },
     /// `fetched A BYTES` or `fetched A none`: what the source answered.
     Fetched {
@@ -65,30 +48,8 @@ pub enum Command {
     },
     /// `keep-sub S` and `drop-key K`: subscribers want their keys no more.
     Retain(Kept),
-    /// `wake`: the waiting keys that are due are asked for.
+    /// `wake`: the waiting keys that are due are asked for again.
     Wake,
-    /// `timeout`: a request's time is over.
-    Timeout,
-    /// `peers INDEX LIST`: a set of peers.
-    Peers {
-        index: u64,
-        peers: Vec<u8>,
-    },
-    /// `blocked LIST`: all peers that are blocked.
-    Blocked(Vec<u8>),
-    /// `net P BYTES`: what a peer sent.
-    Net {
-        peer: u8,
-        bytes: Bytes,
-    },
-    /// `served N BYTES` or `served N dropped`: what the producer has.
-    Served {
-        serve: u64,
-        value: Option<Bytes>,
-    },
-    /// `drawn N`, `checked clear`, `checked T`, `sent accepted` and `sent refused`: what the scan
-    /// asked is answered.
-    Answer(Answer),
     /// `stop`: nothing is wanted any more.
     Stop,
     /// `show`: prints the rows and the wake-up.
@@ -128,119 +89,36 @@ pub fn is_skipped(line: &[u8]) -> bool {
 pub fn parse(alloc: Global, line: &[u8]) -> Result<Command, Unread> {
     let text = str::from_utf8(line).map_err(|_| Unread::Unreadable)?;
     let mut fields = text.split(' ');
-    let command = read_command(alloc, &mut fields)?;
+    let command = match fields.next() {
+        Some("opaque") => Command::Opaque {
+            delay: read_moment(fields.next())?,
+        },
+        Some("at") => Command::At(read_moment(fields.next())?),
+        Some("fetch") => fetch(&mut fields)?,
+        Some("fetched") => fetched(alloc, &mut fields)?,
+        Some("verdict") => verdict(&mut fields)?,
+        Some("keep-sub") => Command::Retain(Kept::Subscriber(subscriber(fields.next())?)),
+        Some("drop-key") => Command::Retain(Kept::AllBut(key(fields.next())?)),
+        Some("wake") => Command::Wake,
+        Some("stop") => Command::Stop,
+        Some("show") => Command::Show,
+        _ => return Err(Unread::Unreadable),
+    };
     match fields.next() {
         None => Ok(command),
         Some(_) => Err(Unread::Unreadable),
     }
 }
 
-/// What the fields say, up to the last that the command takes.
-fn read_command(alloc: Global, fields: &mut Split<'_, char>) -> Result<Command, Unread> {
-    let command = match fields.next() {
-        Some("opaque") => Command::Opaque {
-            delay: read_moment(fields.next())?,
-        },
-        Some("p2p") => p2p(fields)?,
-        Some("at") => Command::At(read_moment(fields.next())?),
-        Some("fetch") => fetch(alloc, fields)?,
-        Some("fetched") => fetched(alloc, fields)?,
-        Some("verdict") => verdict(fields)?,
-        Some("keep-sub") => Command::Retain(Kept::Subscriber(subscriber(fields.next())?)),
-        Some("drop-key") => Command::Retain(Kept::AllBut(key(fields.next())?)),
-        Some("wake") => Command::Wake,
-        Some("timeout") => Command::Timeout,
-        Some("peers") => peer_set(alloc, fields)?,
-        Some("blocked") => Command::Blocked(peers(alloc, fields.next())?),
-        Some("net") => net(alloc, fields)?,
-        Some("served") => served(alloc, fields)?,
-        Some("drawn") => Command::Answer(Answer::Drawn(number(fields.next(), u128::MAX)?)),
-        Some("checked") => Command::Answer(Answer::Checked(check(fields.next())?)),
-        Some("sent") => Command::Answer(Answer::Sent(is_accepted(fields.next())?)),
-        Some("stop") => Command::Stop,
-        Some("show") => Command::Show,
-        _ => return Err(Unread::Unreadable),
-    };
-    Ok(command)
-}
-
-fn p2p(fields: &mut Split<'_, char>) -> Result<Command, Unread> {
-    let me = match fields.next() {
-        Some("-") => None,
-        field => Some(peer(field)?),
-    };
-    let timeout = read_moment(fields.next())?.nanoseconds;
-    if timeout == 0 {
-        return Err(Unread::Unreadable);
-    }
-    Ok(Command::P2p {
-        me,
-        timeout: Timeout {
-            nanoseconds: timeout,
-        },
-        delay: read_moment(fields.next())?,
-    })
-}
-
-fn fetch(alloc: Global, fields: &mut Split<'_, char>) -> Result<Command, Unread> {
+fn fetch(fields: &mut Split<'_, char>) -> Result<Command, Unread> {
     let key = key(fields.next())?;
     let subscriber = subscriber(fields.next())?;
     let mark = number(fields.next(), u128::from(u64::MAX))? as u64;
-    let targets = targets(alloc, fields.next())?;
     Ok(Command::Fetch {
         key,
         subscriber,
         mark,
-        targets,
     })
-}
-
-/// The peers that may be asked, if the line names any: then at least one.
-fn targets(alloc: Global, field: Option<&str>) -> Result<Option<NonEmptyVec<u8>>, Unread> {
-    if field.is_none() {
-        return Ok(None);
-    }
-    match NonEmptyVec::try_from(peers(alloc, field)?) {
-        Ok(targets) => Ok(Some(targets)),
-        Err(_) => Err(Unread::Unreadable),
-    }
-}
-
-fn peer_set(alloc: Global, fields: &mut Split<'_, char>) -> Result<Command, Unread> {
-    let index = number(fields.next(), u128::from(u64::MAX))? as u64;
-    let peers = peers(alloc, fields.next())?;
-    Ok(Command::Peers { index, peers })
-}
-
-fn net(alloc: Global, fields: &mut Split<'_, char>) -> Result<Command, Unread> {
-    let peer = peer(fields.next())?;
-    let bytes = bytes(alloc, fields.next())?;
-    Ok(Command::Net { peer, bytes })
-}
-
-fn served(alloc: Global, fields: &mut Split<'_, char>) -> Result<Command, Unread> {
-    let serve = number(fields.next(), u128::from(u64::MAX))? as u64;
-    let value = match fields.next() {
-        Some("dropped") => None,
-        field => Some(bytes(alloc, field)?),
-    };
-    Ok(Command::Served { serve, value })
-}
-
-/// Whether a peer may be sent to, or the moment before which it may not.
-fn check(field: Option<&str>) -> Result<Check, Unread> {
-    match field {
-        Some("clear") => Ok(Check::Clear),
-        field => Ok(Check::Until(number(field, u128::MAX)?)),
-    }
-}
-
-fn is_accepted(field: Option<&str>) -> Result<bool, Unread> {
-    match field {
-        Some("accepted") => Ok(true),
-        Some("refused") => Ok(false),
-        _ => Err(Unread::Unreadable),
-    }
 }
 
 fn fetched(alloc: Global, fields: &mut Split<'_, char>) -> Result<Command, Unread> {
@@ -268,23 +146,6 @@ fn verdict(fields: &mut Split<'_, char>) -> Result<Command, Unread> {
 
 fn key(field: Option<&str>) -> Result<u8, Unread> {
     Ok(number(field, u128::from(u8::MAX))? as u8)
-}
-
-fn peer(field: Option<&str>) -> Result<u8, Unread> {
-    Ok(number(field, u128::from(u8::MAX))? as u8)
-}
-
-/// Peers joined by commas, or `-` where there are none.
-fn peers(alloc: Global, field: Option<&str>) -> Result<Vec<u8>, Unread> {
-    let text = field.ok_or(Unread::Unreadable)?;
-    let mut peers = Vec::new(alloc);
-    if text == "-" {
-        return Ok(peers);
-    }
-    for name in text.split(',') {
-        peers.push(peer(Some(name))?)?;
-    }
-    Ok(peers)
 }
 
 fn subscriber(field: Option<&str>) -> Result<u16, Unread> {

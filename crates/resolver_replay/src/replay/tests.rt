@@ -2,10 +2,7 @@ use super::*;
 use std::test::Fail;
 
 /// What a script prints, and how it ended.
-pub(super) fn replayed(
-    alloc: Global,
-    script: &[u8],
-) -> io::Result<(Vec<u8>, Result<Ending, Fault>)> {
+fn replayed(alloc: Global, script: &[u8]) -> io::Result<(Vec<u8>, Result<Ending, Fault>)> {
     let mut output = Vec::new(alloc);
     let mut input = BufReader::new(alloc, script)?;
     let ended = run(alloc, &mut input, &mut output);
@@ -128,8 +125,9 @@ fn scripts(rt: HostRuntime) -> Result<(), Fail> {
 }
 
 /// Scripts with a line that can't be read, and what they print.
-const UNREADABLE: [(&[u8], &[u8]); 42] = [
+const UNREADABLE: [(&[u8], &[u8]); 43] = [
     (b"show\n", b"line 1 unreadable\n"),
+    (b"p2p 9 50 10\n", b"line 1 unreadable\n"),
     (b"\n# \nfetch 1 10 7\n", b"line 3 unreadable\n"),
     (b"opaque 1\nopaque 1\nshow\n", b"line 2 unreadable\n"),
     (
