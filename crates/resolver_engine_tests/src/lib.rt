@@ -1,0 +1,9 @@
+//! Tests of the engine's core, through its public calls.
+//!
+//! They stand in a crate of their own, so that the library isn't proved a second time with them.
+#![tactic(auto)]
+
+#[cfg(test)]
+mod runs;
+#[cfg(test)]
+mod serves;
