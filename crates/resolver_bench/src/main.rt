@@ -1,12 +1,14 @@
-//! `resolver-bench` drives the opaque actor and a full mailbox with many keys, and one
+//! `resolver-bench` drives the opaque actor, the engine's core and a full mailbox with many keys, and one
 //! key with many subscribers, and prints how many steps that took and what they had. With a number
 //! of keys as its argument, and of that key's subscribers, it prints nanoseconds a step too. It is no
 //! part of the product.
 #![tactic(auto)]
 
 mod actor;
+mod engine;
 mod fault;
 mod mailbox;
+mod name;
 mod spent;
 mod tracker;
 mod workload;
@@ -46,6 +48,12 @@ fn run<R: AllocGlobal + Clock + Env + Print + Wait + RandomSource + Copy + Drop>
     }
     for one in &tracker::run(rt, keys)? {
         print(rt, one, size.is_some())?;
+    }
+    for peers in [16, 256] {
+        println!(rt; "with {peers} peers:")?;
+        for one in &engine::run(rt, keys, peers)? {
+            print(rt, one, size.is_some())?;
+        }
     }
     Ok(())
 }

@@ -10,10 +10,7 @@ pub enum Kind {
     Put,
     Take,
     Wait,
-    Idle,
-    Wake,
-    Scan,
-    Respond,
+    Ask,
     Attach,
     Together,
     Merge,
@@ -24,10 +21,8 @@ impl Kind {
     pub fn counts(self) -> &'static str {
         match self {
             Kind::Fetch | Kind::Answer | Kind::Complete | Kind::End => "effects",
+            Kind::Wait | Kind::Ask => "effects",
             Kind::Put | Kind::Take => "fetches",
-            Kind::Wait | Kind::Respond => "keys",
-            Kind::Idle | Kind::Scan => "questions",
-            Kind::Wake => "moments",
             Kind::Attach | Kind::Together | Kind::Merge => "subscribers",
         }
     }
@@ -42,10 +37,7 @@ impl Kind {
             Kind::Put => "put",
             Kind::Take => "take",
             Kind::Wait => "wait",
-            Kind::Idle => "idle scan",
-            Kind::Wake => "wake-up",
-            Kind::Scan => "scan",
-            Kind::Respond => "respond",
+            Kind::Ask => "ask",
             Kind::Attach => "attach",
             Kind::Together => "attach together",
             Kind::Merge => "merge",
@@ -53,8 +45,8 @@ impl Kind {
     }
 }
 
-/// What the steps of one kind took, and how many effects of the actor, fetches of the mailbox,
-/// keys, questions or moments of the fetcher, or subscribers of a key they had.
+/// What the steps of one kind took, and how many effects, fetches of the mailbox, or subscribers of a key
+/// they had.
 #[derive(Clone, Copy, Debug)]
 pub struct Spent {
     pub kind: Kind,

@@ -12,10 +12,10 @@ use std::alloc::Global;
 #[derive(Clone, Copy, Debug)]
 pub struct All;
 
-impl<S: Eq> Predicate<u64, S> for All {
+impl<K: Eq, S: Eq> Predicate<K, S> for All {
     ghost keeps = { λ _ _ _. true };
 
-    fn keep(&self, _: &u64, _: &S) -> bool {
+    fn keep(&self, _: &K, _: &S) -> bool {
         true
     }
 
