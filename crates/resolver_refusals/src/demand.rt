@@ -1,0 +1,108 @@
+//! Who wants which key.
+
+ghost use Rattle.std.specs.Prelude.{◌==◌};
+ghost use Rattle.std.specs.Nat.{◌%◌};
+ghost use Rattle.std.proofs.Common.{rules};
+
+use crate::part::{Part, note};
+use resolver::base::{Fault, NonEmptyVec, Predicate};
+use resolver::subscribers::Tracker;
+use std::alloc::Global;
+
+/// Keeps the subscribers with even names.
+struct Even;
+
+impl Predicate<u8, u16> for Even {
+    ghost keeps = { λ _ _ s. s % 2 == 0 };
+
+    fn keep(&self, _: &u8, subscriber: &u16) -> bool {
+        *subscriber % 2 == 0
+    }
+
+    ghost alike = { λ q k l s t same_key same_subscriber. Prim.search rules };
+}
+
+/// A call of a tracker.
+pub enum Call {
+    Insert(u8, &'static [(u16, u64)]),
+    Pending(u8),
+    RetainEven,
+    RemoveDelivered(u8, &'static [(u16, u64)]),
+    Remove(u8),
+}
+
+/// The worked row of the tracker.
+pub const TRACKER: [Call; 9] = [
+    Call::Insert(1, &[(10, 7), (11, 7)]),
+    Call::Insert(1, &[(11, 8), (12, 8)]),
+    Call::Pending(1),
+    Call::Insert(2, &[(11, 0)]),
+    Call::Insert(3, &[(20, 0), (21, 0)]),
+    Call::RemoveDelivered(1, &[(10, 0), (12, 0)]),
+    Call::RetainEven,
+    Call::RemoveDelivered(3, &[(20, 0)]),
+    Call::Remove(3),
+];
+
+/// A tracker.
+#[derive(Drop)]
+pub struct Demand {
+    tracker: Tracker<u8, u16>,
+    alloc: Global,
+}
+
+impl Part for Demand {
+    type Call = Call;
+
+    fn new(alloc: Global) -> Self {
+        Demand {
+            tracker: Tracker::new(alloc),
+            alloc,
+        }
+    }
+
+    fn take(&mut self, call: &Call) -> Result<(), Fault> {
+        match call {
+            Call::Insert(key, named) => {
+                let subscribers = listed(self.alloc, named)?;
+                self.tracker.insert(*key, subscribers)?;
+            }
+            Call::Pending(key) => {
+                self.tracker.pending(key)?;
+            }
+            Call::RetainEven => {
+                self.tracker.retain(&Even)?;
+            }
+            Call::RemoveDelivered(key, named) => {
+                let delivered = listed(self.alloc, named)?;
+                self.tracker.remove_delivered(key, &delivered)?;
+            }
+            Call::Remove(key) => {
+                self.tracker.remove(key);
+            }
+        }
+        Ok(())
+    }
+
+    fn show(&mut self, text: &mut String) -> Result<(), Fault> {
+        for (key, subscribers) in self.tracker.iter() {
+            note(text, u128::from(*key))?;
+            note_subscribers(text, subscribers.copied(self.alloc)?.as_slice())?;
+        }
+        Ok(())
+    }
+}
+
+/// Writes subscribers with their marks.
+pub fn note_subscribers(text: &mut String, named: &[(u16, u64)]) -> Result<(), Fault> {
+    for (subscriber, mark) in named {
+        note(text, u128::from(*subscriber))?;
+        note(text, u128::from(*mark))?;
+    }
+    Ok(())
+}
+
+/// The subscribers with their marks, as a list that isn't empty.
+pub fn listed(alloc: Global, named: &[(u16, u64)]) -> Result<NonEmptyVec<(u16, u64)>, Fault> {
+    NonEmptyVec::try_from(named.to_vec(alloc)?).map_err(|_| Fault::EndOfBuffer)
+}

@@ -1,0 +1,108 @@
+//! Deliveries by their numbers.
+
+use crate::demand::listed;
+use crate::part::{Part, note, note_if_any};
+use resolver::base::Fault;
+use resolver::delivery::Entries;
+use resolver::{Delivery, Outcome};
+use std::alloc::Global;
+
+/// A call of the entries.
+pub enum Call {
+    Insert(u8),
+    Remove(u8),
+    Deliver(u8),
+    Redeliver(u8),
+    Complete(u64),
+}
+
+/// The worked row of the entries, and deliveries.
+pub const ENTRIES: [Call; 10] = [
+    Call::Insert(1),
+    Call::Insert(1),
+    Call::Remove(1),
+    Call::Remove(1),
+    Call::Insert(1),
+    Call::Insert(2),
+    Call::Deliver(1),
+    Call::Complete(0),
+    Call::Redeliver(1),
+    Call::Deliver(2),
+];
+
+/// Numbered deliveries of numbers.
+#[derive(Drop)]
+pub struct Deliveries {
+    entries: Entries<u8, u16, u64, (), ()>,
+    alloc: Global,
+}
+
+impl Part for Deliveries {
+    type Call = Call;
+
+    fn new(alloc: Global) -> Self {
+        Deliveries {
+            entries: Entries::new(alloc),
+            alloc,
+        }
+    }
+
+    fn take(&mut self, call: &Call) -> Result<(), Fault> {
+        match call {
+            Call::Insert(key) => {
+                self.entries.insert(*key)?;
+            }
+            Call::Remove(key) => {
+                self.entries.remove(key);
+            }
+            Call::Deliver(key) => self.deliver(*key)?,
+            Call::Redeliver(key) => self.redeliver(*key)?,
+            Call::Complete(number) => {
+                let _ = self.entries.completed(*number, Some(Outcome::Unresolved));
+            }
+        }
+        Ok(())
+    }
+
+    fn show(&mut self, text: &mut String) -> Result<(), Fault> {
+        for key in 0..4_u8 {
+            note(text, u128::from(self.entries.contains(&key)))?;
+            note_if_any(text, self.entries.number(&key).map(u128::from))?;
+            note_if_any(
+                text,
+                self.entries.response(&key).map(|it| u128::from(it.value)),
+            )?;
+        }
+        for number in 0..4_u64 {
+            note(text, u128::from(self.entries.open(number).is_some()))?;
+        }
+        Ok(())
+    }
+}
+
+impl Deliveries {
+    /// Hands a value out, where a delivery of the key may begin.
+    fn deliver(&mut self, key: u8) -> Result<(), Fault> {
+        let delivery = delivery(self.alloc, key)?;
+        if self.entries.contains(&key) && self.entries.number(&key).is_none() {
+            self.entries.deliver(delivery, (), 7)?;
+        }
+        Ok(())
+    }
+
+    /// Hands the cached value out once more, where that may begin.
+    fn redeliver(&mut self, key: u8) -> Result<(), Fault> {
+        let delivery = delivery(self.alloc, key)?;
+        if self.entries.response(&key).is_some() && self.entries.number(&key).is_none() {
+            self.entries.redeliver(delivery)?;
+        }
+        Ok(())
+    }
+}
+
+fn delivery(alloc: Global, key: u8) -> Result<Delivery<u8, u16>, Fault> {
+    Ok(Delivery {
+        key,
+        subscribers: listed(alloc, &[(10, 7), (11, 8)])?,
+    })
+}

@@ -1,0 +1,162 @@
+//! What waits behind a full mailbox.
+
+ghost use Rattle.std.specs.Prelude.{true};
+ghost use Rattle.std.specs.Nat.{nat_le};
+ghost use Rattle.std.proofs.Common.{rules};
+
+use crate::demand::note_subscribers;
+use crate::part::{Part, note};
+use resolver::base::{Fault, NonEmptyVec};
+use resolver::ingress::{FetchKey, Message, Metadata, Pending, Predicate};
+use std::alloc::Global;
+
+type Targets = Option<NonEmptyVec<u16>>;
+
+/// Keeps the subscribers of the keys from this one on.
+#[derive(Clone, Copy, Debug)]
+pub struct From(u16);
+
+impl Predicate<u16, u16> for From {
+    ghost keeps = { λ first k _. nat_le first.0 k };
+
+    fn keep(&self, key: &u16, _: &u16) -> bool {
+        *key >= self.0
+    }
+
+    ghost alike = { λ q k l s t same_key same_subscriber. Prim.search rules };
+}
+
+/// A call of an overflow.
+pub enum Call {
+    /// A fetch of a key for a subscriber, of these peers; with none of them any peer may be asked.
+    Fetch(u16, u16, &'static [u16]),
+    /// The keys from this one on are kept.
+    Retain(u16),
+    /// A drain that takes nothing.
+    Reject,
+    /// A drain that takes the retains alone.
+    TakeRetains,
+}
+
+/// The worked row of a drain that is rejected.
+pub const REJECTED_DRAIN: [Call; 7] = [
+    Call::Fetch(2, 10, &[]),
+    Call::Fetch(1, 20, &[]),
+    Call::Retain(0),
+    Call::Reject,
+    Call::TakeRetains,
+    Call::Fetch(2, 11, &[]),
+    Call::Fetch(3, 30, &[]),
+];
+
+/// The worked row of a retain, with fewer keys.
+pub const RETAIN: [Call; 7] = [
+    Call::Fetch(0, 10, &[]),
+    Call::Fetch(1, 10, &[]),
+    Call::Fetch(98, 10, &[]),
+    Call::Fetch(99, 10, &[]),
+    Call::Retain(99),
+    Call::Fetch(99, 11, &[]),
+    Call::Fetch(0, 12, &[]),
+];
+
+/// The worked row of targets that are joined, and of none.
+pub const TARGETS: [Call; 5] = [
+    Call::Fetch(1, 10, &[2, 3]),
+    Call::Fetch(1, 10, &[3, 4]),
+    Call::Fetch(2, 10, &[2]),
+    Call::Fetch(2, 10, &[]),
+    Call::Fetch(2, 10, &[3]),
+];
+
+/// An overflow.
+#[derive(Drop)]
+pub struct Overflow {
+    pending: Pending<u16, u16, Targets, From>,
+    alloc: Global,
+}
+
+impl Part for Overflow {
+    type Call = Call;
+
+    fn new(alloc: Global) -> Self {
+        Overflow {
+            pending: Pending::new(alloc),
+            alloc,
+        }
+    }
+
+    fn take(&mut self, call: &Call) -> Result<(), Fault> {
+        match call {
+            Call::Fetch(key, subscriber, peers) => {
+                let message = fetch(self.alloc, *key, *subscriber, peers)?;
+                self.pending.handle(message)
+            }
+            Call::Retain(first) => self.pending.handle(Message::Retain(From(*first))),
+            Call::Reject => {
+                self.pending.drain(|message| Some(message));
+                Ok(())
+            }
+            Call::TakeRetains => {
+                self.pending.drain(|message| match message {
+                    Message::Retain(_) => None,
+                    Message::Fetch(items) => Some(Message::Fetch(items)),
+                });
+                Ok(())
+            }
+        }
+    }
+
+    fn show(&mut self, text: &mut String) -> Result<(), Fault> {
+        note(text, u128::from(self.pending.is_empty()))?;
+        while let Some(message) = self.pending.pop() {
+            note_message(text, &message)?;
+        }
+        Ok(())
+    }
+}
+
+/// A fetch of one key for one subscriber.
+fn fetch(
+    alloc: Global,
+    key: u16,
+    subscriber: u16,
+    peers: &[u16],
+) -> Result<Message<u16, u16, Targets, From>, Fault> {
+    let mut items = Vec::new(alloc);
+    items.push(FetchKey {
+        key,
+        subscribers: NonEmptyVec::new(alloc, (subscriber, u64::from(key)))?,
+        metadata: NonEmptyVec::try_from(peers.to_vec(alloc)?).ok(),
+    })?;
+    Ok(Message::Fetch(items))
+}
+
+/// Writes a message whole.
+fn note_message(
+    text: &mut String,
+    message: &Message<u16, u16, Targets, From>,
+) -> Result<(), Fault> {
+    match message {
+        Message::Retain(first) => note(text, u128::from(first.0)),
+        Message::Fetch(items) => {
+            for item in items {
+                note(text, u128::from(item.key))?;
+                note_subscribers(text, item.subscribers.as_slice())?;
+                note_targets(text, &item.metadata)?;
+            }
+            Ok(())
+        }
+    }
+}
+
+/// Writes how many targets there are, and each of them.
+fn note_targets(text: &mut String, targets: &Targets) -> Result<(), Fault> {
+    if let Some(targets) = targets {
+        note(text, targets.len() as u128)?;
+        for peer in targets.as_slice() {
+            note(text, u128::from(*peer))?;
+        }
+    }
+    Ok(())
+}
