@@ -13,7 +13,10 @@ fn main(rt: HostRuntime) -> Result<()> {
     fill(&mut store)?;
     println!(rt; "chunk  value  subscribers  at")?;
     for one in store.arrived() {
-        println!(rt; "{:>5}  {:>5}  {:>11}  {}", one.key, one.value, one.subscribers, one.at)?;
+        println!(rt;
+            "{:>5}  {:>5}  {:>11}  {}",
+            one.key, one.value, one.subscribers, one.at
+        )?;
     }
     Ok(())
 }

@@ -148,7 +148,12 @@ impl Store {
                     ..
                 } => {
                     let (key, subscribers) = (delivery.key, delivery.subscribers.len());
-                    let chunk = Arrived { key, value, subscribers, at: now };
+                    let chunk = Arrived {
+                        key,
+                        value,
+                        subscribers,
+                        at: now,
+                    };
                     self.delivered.push((number, chunk))?;
                 }
             }
