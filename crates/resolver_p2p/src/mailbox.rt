@@ -74,10 +74,10 @@ impl<
 }
 
 impl<
-    K: Ord + Hash,
+    K: Ord + Hash + Drop,
     P: Ord + Faithful + Drop,
-    S: Ord,
-    Q: Predicate<K, S>,
+    S: Ord + Drop,
+    Q: Predicate<K, S> + Drop,
     N: Naming,
     R: Copy,
 > Clone for Mailbox<K, P, S, Q, N, R> {

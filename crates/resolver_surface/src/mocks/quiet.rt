@@ -30,6 +30,15 @@ impl<P> Quiet<P> {
             peers: PhantomData,
         }
     }
+
+    /// Nothing came, and nothing will.
+    fn wait<T>(&mut self, cx: &mut Context<'_>) -> Poll<T>
+        ensures pending { result ≡ Pending }
+        ensures armed { IsArmed cx.new }
+        ensures kept { Keeps cx.old cx.new }
+    {
+        cx.register(&self.silence, &mut self.waker)
+    }
 }
 
 impl<P: PublicKey> Provider for Quiet<P> {
@@ -40,7 +49,7 @@ impl<P: PublicKey> Provider for Quiet<P> {
         ensures armed { IsArmed cx.new }
         ensures kept { Keeps cx.old cx.new }
     {
-        cx.register(&self.silence, &mut self.waker)
+        self.wait(cx)
     }
 }
 
@@ -57,6 +66,6 @@ impl<P: PublicKey> Blocker for Quiet<P> {
         ensures armed { IsArmed cx.new }
         ensures kept { Keeps cx.old cx.new }
     {
-        cx.register(&self.silence, &mut self.waker)
+        self.wait(cx)
     }
 }
