@@ -11,3 +11,5 @@ mod names;
 mod producer;
 #[cfg(test)]
 mod quiet;
+#[cfg(test)]
+mod sources;
