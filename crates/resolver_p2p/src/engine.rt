@@ -58,17 +58,8 @@ pub struct Engine<
     producer: O,
 }
 
-impl<
-    P: Ord + Faithful + Drop,
-    D,
-    B,
-    K: Ord + Hash,
-    S: Ord,
-    C,
-    O,
-    Q: Predicate<K, S>,
-    R,
-> Model for Engine<P, D, B, K, S, C, O, Q, R> {
+impl<P: Ord + Faithful + Drop, D, B, K: Ord + Hash, S: Ord, C, O, Q: Predicate<K, S>, R> Model
+    for Engine<P, D, B, K, S, C, O, Q, R> {
     ghost use Rattle.resolver_engine.specs.Matching as matching;
 
     ghost Value = { matching.Engine K S P };

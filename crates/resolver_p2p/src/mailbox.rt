@@ -33,14 +33,8 @@ pub struct Mailbox<
     sender: Sender<K, S, Option<NonEmptyVec<P>>, Q, N, R>,
 }
 
-impl<
-    K: Ord + Hash,
-    P: Ord + Faithful + Drop,
-    S: Ord,
-    Q: Predicate<K, S>,
-    N: Naming,
-    R,
-> Model for Mailbox<K, P, S, Q, N, R> {
+impl<K: Ord + Hash, P: Ord + Faithful + Drop, S: Ord, Q: Predicate<K, S>, N: Naming, R> Model
+    for Mailbox<K, P, S, Q, N, R> {
     ghost use Rattle.std.specs.Prelude.{List, Option};
     ghost use Rattle.resolver_mailbox.specs.Shares.{Share};
 
@@ -49,14 +43,14 @@ impl<
     ghost view = { λ a. a.sender };
 }
 
-impl<
-    K: Ord + Hash,
-    P: Ord + Faithful + Drop,
-    S: Ord,
-    Q: Predicate<K, S>,
-    N: Naming,
+impl<K: Ord + Hash, P: Ord + Faithful + Drop, S: Ord, Q: Predicate<K, S>, N: Naming, R> Mailbox<
+    K,
+    P,
+    S,
+    Q,
+    N,
     R,
-> Mailbox<K, P, S, Q, N, R> {
+> {
     /// A handle that puts what it is told by this sender.
     pub fn over(sender: Sender<K, S, Option<NonEmptyVec<P>>, Q, N, R>) -> Self
         ensures { result ≡ sender }
