@@ -2,15 +2,16 @@
 //! request at a time, and a response serves late subscribers too.
 //!
 //! The machines here take one input at a time and answer with effects; they hold no clock, no
-//! socket and no thread. `opaque::Actor` fetches from one opaque source, and `p2p::engine::Core` from
-//! peers.
+//! socket and no thread. `opaque::Actor` fetches from one opaque source, and `p2p::Core` from peers.
+//! `p2p::Engine` is such a core with all that its loop will poll.
 #![tactic(auto)]
 
-pub use resolver_base::base;
 pub use resolver_base::root::{Delivery, Fetch, Outcome, Resolution};
 pub use resolver_demand::{delivery, ingress, subscribers};
 pub use resolver_mailbox::mailbox;
+pub use resolver_surface::Consumer;
 
+pub mod base;
 pub mod laws;
 pub mod opaque;
 pub mod p2p;

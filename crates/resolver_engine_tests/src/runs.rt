@@ -5,8 +5,8 @@ ghost use Rattle.std.proofs.Common.{rules};
 
 use resolver::base::{Check, Fault, NonEmptyVec};
 use resolver::ingress::{FetchKey, Predicate};
+use resolver::p2p::Core;
 use resolver::p2p::effects::Effect;
-use resolver::p2p::engine::Core;
 use resolver::p2p::fetcher::{Answer, Ask, Config};
 use resolver::p2p::inputs::{Event, Happening, Input};
 use resolver::p2p::mocks::Key;

@@ -3,8 +3,8 @@
 use crate::runs::All;
 use bytes::Bytes;
 use resolver::base::Fault;
+use resolver::p2p::Core;
 use resolver::p2p::effects::Effect;
-use resolver::p2p::engine::Core;
 use resolver::p2p::fetcher::Config;
 use resolver::p2p::inputs::{Event, Happening, Input};
 use resolver::p2p::mocks::Key;

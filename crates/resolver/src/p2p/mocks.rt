@@ -6,6 +6,7 @@ use bytes::{BufMut, BytesMut};
 use resolver_base::base::{Faithful, Span};
 use resolver_mailbox::mailbox::Exact;
 pub use resolver_request::wire::{Message, Payload};
+pub use resolver_surface::mocks::{Consumer, Producer, Quiet};
 use std::alloc::AllocError;
 use std::fmt;
 

@@ -1,0 +1,8 @@
+//! Names, refusals, tests of subscribers, lists that are never empty, sets ordered by priority,
+//! numbers that are given once, and what the caller lends to a machine or to its loop.
+
+pub use resolver_base::base::{
+    Check, Draws, Faithful, Fault, Feedback, NonEmptyVec, Numbers, Predicate, PrioritySet,
+    PublicKey, Seeded, Sender, Span, Unreliable,
+};
+pub use resolver_surface::{Blocker, Clock, Provider, Receiver};

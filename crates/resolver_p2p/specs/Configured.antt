@@ -1,0 +1,12 @@
+-- What an engine's configuration says of its fetcher.
+use Rattle.resolver_fetch.specs.declared.fetcher.config.Config.{Config as Fetching}
+use Rattle.resolver_p2p.specs.declared.config.Config.{Config}
+
+-- how requests are made
+abbrev pub fetching : {P D B C O : Type 0} → Config P D B C O → Fetching P
+fetching cfg = record {
+  me = cfg.me;
+  fetch_timeout = cfg.fetch_timeout;
+  retry_delay = cfg.fetch_retry_delay;
+  priority_requests = cfg.priority_requests;
+}

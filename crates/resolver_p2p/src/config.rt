@@ -1,0 +1,28 @@
+//! What an engine is made of.
+
+use std::num::NonZeroUsize;
+
+/// What an engine is made of, and how it asks. Durations are in nanoseconds, below 2^94.
+#[derive(Drop)]
+pub struct Config<P, D, B, C, O> {
+    /// What gives the sets of peers.
+    pub peer_provider: D,
+    /// What blocks peers, and says which are blocked.
+    pub blocker: B,
+    /// What judges the values that were fetched.
+    pub consumer: C,
+    /// What has the data that peers ask for.
+    pub producer: O,
+    /// How many messages the mailbox has ready before it merges what comes.
+    pub mailbox_size: NonZeroUsize,
+    /// The local name, which is never asked, if there is one.
+    pub me: Option<P>,
+    /// How long a request may take: at least 1.
+    pub fetch_timeout: u128,
+    /// How long a key waits before it is tried again.
+    pub fetch_retry_delay: u128,
+    /// Whether requests are sent before other messages.
+    pub priority_requests: bool,
+    /// Whether replies are sent before other messages.
+    pub priority_responses: bool,
+}

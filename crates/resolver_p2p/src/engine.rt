@@ -1,0 +1,198 @@
+//! The engine, with all that it owns.
+
+ghost use Rattle.std.specs.Prelude.{◌≡◌, ◌≢◌, ◌⊎◌, ℕ, map, None, IfErr, IfOk};
+ghost use Rattle.std.specs.List.{IsDistinct};
+ghost use Rattle.std.specs.List.Sorted.{IsStrictlySortedBy};
+ghost use Rattle.std.specs.Ordering.{is_eq};
+ghost use Rattle.resolver_base.specs.declared.base.fault.Fault.TheVariants.{OutOfMemory};
+ghost use Rattle.resolver_fetch.specs.Fetcher.{IsTimely};
+ghost use Rattle.resolver_peer.specs.Parties.{parties};
+ghost use Rattle.resolver_peer.specs.Peer as machines;
+ghost use Rattle.resolver_peer.specs.Peer.{Machine, active_deadline, opening, wake_up};
+ghost use Rattle.resolver_engine.specs.EngineLaws.{RunsWell};
+ghost use Rattle.resolver_engine.specs.EngineSteps.{Takes, all_fed};
+ghost use Rattle.resolver_engine.specs.Listed.{listed};
+ghost use Rattle.resolver_engine.specs.Matching.{Matches};
+ghost use Rattle.resolver_engine.specs.Said.{answer_of, codec, fed_of};
+ghost use Rattle.resolver_p2p.specs.Configured.{fetching};
+
+use crate::config::Config;
+use crate::mailbox::Mailbox;
+use bytes::Bytes;
+use resolver_base::base::{Faithful, Fault, NonEmptyVec, Predicate, PublicKey, Span};
+use resolver_engine::effects::Effect;
+use resolver_engine::engine::Core;
+use resolver_engine::inputs::Input;
+use resolver_engine::rows::Row;
+use resolver_fetch::fetcher;
+use resolver_mailbox::mailbox;
+use resolver_mailbox::mailbox::{Receiver, Unrecorded};
+use resolver_surface::{Blocker, Consumer, Producer, Provider};
+use std::alloc::Global;
+use std::hash::Hash;
+use std::marker::Model;
+
+/// Fetches keys from peers, and owns what its loop is to poll: the end of its mailbox that takes
+/// messages, the sources of peers, the consumer and the producer.
+///
+/// Contracts see it as its core: of each peer machine that it matches it does what the machine
+/// does. `step` and what it is made of take no lock, and touch neither consumer nor producer: what
+/// they are to do comes out as effects.
+#[derive(Drop)]
+pub struct Engine<
+    P: Ord + Faithful + Drop,
+    D,
+    B,
+    K: Ord + Hash,
+    S: Ord,
+    C,
+    O,
+    Q: Predicate<K, S>,
+    R,
+> {
+    core: Core<K, P, S, Q>,
+    mail: Receiver<K, S, Option<NonEmptyVec<P>>, Q, Unrecorded, R>,
+    peer_provider: D,
+    blocker: B,
+    consumer: C,
+    producer: O,
+}
+
+impl<P: Ord + Faithful + Drop, D, B, K: Ord + Hash, S: Ord, C, O, Q: Predicate<K, S>, R> Model
+    for Engine<P, D, B, K, S, C, O, Q, R> {
+    ghost use Rattle.resolver_engine.specs.Matching as matching;
+
+    ghost Value = { matching.Engine K S P };
+
+    ghost view = { λ a. a.core };
+}
+
+impl<
+    P: PublicKey + Faithful + Drop,
+    D: Provider<PublicKey = P> + Drop,
+    B: Blocker<PublicKey = P> + Drop,
+    K: Span + Faithful + Drop,
+    S: Ord + Faithful + Drop,
+    C: Consumer<Key = K, Value = Bytes, Subscriber = S> + Drop,
+    O: Producer<Key = K> + Drop,
+    Q: Predicate<K, S> + Faithful + Drop,
+    R: Copy,
+> Engine<P, D, B, K, S, C, O, Q, R> {
+    /// An engine without demand, that knows no peer, and a handle of its mailbox.
+    pub fn new(
+        rt: R,
+        alloc: Global,
+        cfg: Config<P, D, B, C, O>,
+    ) -> Result<(Self, Mailbox<K, P, S, Q, Unrecorded, R>), Fault>
+        requires { IsTimely cfg.fetch_timeout cfg.fetch_retry_delay }
+        ensures opens { IfOk result (λ made. Matches (parties K.cmp S.cmp P.cmp) made.0
+            (opening (fetching cfg) cfg.priority_responses)) }
+        ensures share { IfOk result (λ made. made.1 ≡ None) }
+        ensures only { IfErr result (λ fault. fault ≡ OutOfMemory) }
+    {
+        let (sender, mail) = mailbox::new(rt, alloc, cfg.mailbox_size.get())?;
+        let configuration = fetcher::Config {
+            me: cfg.me,
+            fetch_timeout: cfg.fetch_timeout,
+            retry_delay: cfg.fetch_retry_delay,
+            priority_requests: cfg.priority_requests,
+        };
+        let engine = Engine {
+            core: Core::new(alloc, configuration, cfg.priority_responses),
+            mail,
+            peer_provider: cfg.peer_provider,
+            blocker: cfg.blocker,
+            consumer: cfg.consumer,
+            producer: cfg.producer,
+        };
+        Ok((engine, Mailbox::over(sender)))
+    }
+}
+
+impl<
+    P: Ord + Faithful + Drop,
+    D,
+    B,
+    K: Span + Drop,
+    S: Ord + Clone + Drop,
+    C,
+    O,
+    Q: Predicate<K, S> + Drop,
+    R,
+> Engine<P, D, B, K, S, C, O, Q, R> {
+    /// Takes one input and answers with its effects, in order. It waits for nobody.
+    ///
+    /// `OutOfMemory` and `Exhausted` fail the engine for good: each later step answers `Failed` and
+    /// changes nothing, as after `End` each answers `Ended`. While a scan expects an answer, an
+    /// event is `Busy`; an answer that no scan expects is `Unasked`, and a number past what was
+    /// asked for `OutOfRange`: then nothing changes. What is passed over takes no memory.
+    pub fn step(&mut self, input: Input<K, P, S, Q>) -> Result<Vec<Effect<K, P, S>>, Fault>
+        requires keys_clone { (x y : K) → K.is_clone x y → y ≡ x }
+        requires peers_clone { (x y : P) → P.is_clone x y → y ≡ x }
+        requires subscribers_clone { (x y : S) → S.is_clone x y → y ≡ x }
+        ensures { (m : Machine K S P) (moment : ℕ) → Matches (parties K.cmp S.cmp P.cmp) self.old m
+            → (n : Machine K S P) × Takes (parties K.cmp S.cmp P.cmp)
+            (codec K.SIZE K.bytes_of K.read_from) m
+            (fed_of (codec K.SIZE K.bytes_of K.read_from) Q.keeps moment input)
+            (answer_of result) n × Matches (parties K.cmp S.cmp P.cmp) self.new n }
+    {
+        self.core.step(input)
+    }
+
+    /// Takes inputs one after another, with one answer each, up to the first `OutOfMemory` or
+    /// `Exhausted` among the answers. It runs well, as the core does.
+    ///
+    /// The call itself answers `OutOfMemory` where the list of answers can't be made: then no
+    /// input was taken and nothing has changed.
+    pub fn run(
+        &mut self,
+        inputs: Vec<Input<K, P, S, Q>>,
+    ) -> Result<Vec<Result<Vec<Effect<K, P, S>>, Fault>>, Fault>
+        requires keys_clone { (x y : K) → K.is_clone x y → y ≡ x }
+        requires peers_clone { (x y : P) → P.is_clone x y → y ≡ x }
+        requires subscribers_clone { (x y : S) → S.is_clone x y → y ≡ x }
+        ensures runs { IfOk result (λ answers. (m : Machine K S P) (moment : ℕ)
+            → Matches (parties K.cmp S.cmp P.cmp) self.old m
+            → RunsWell (parties K.cmp S.cmp P.cmp) (codec K.SIZE K.bytes_of K.read_from) m
+            (all_fed (codec K.SIZE K.bytes_of K.read_from) Q.keeps moment inputs.items)
+            (map answer_of answers.items) self.new) }
+        ensures err { IfErr result
+            (λ fault. (fault ≡ OutOfMemory) × (self.new ≡ self.old)) }
+    {
+        self.core.run(inputs)
+    }
+
+    /// The demanded keys, in their order: each stands in one row, so in one phase. Once the engine
+    /// has failed the answer is `Failed`. It takes time linear in what is listed, times a logarithm.
+    pub fn rows(&self) -> Result<Vec<Row<K, S, P>>, Fault>
+        requires keys_clone { (x y : K) → K.is_clone x y → y ≡ x }
+        requires peers_clone { (x y : P) → P.is_clone x y → y ≡ x }
+        requires subscribers_clone { (x y : S) → S.is_clone x y → y ≡ x }
+        ensures rows { (m : Machine K S P) → Matches (parties K.cmp S.cmp P.cmp) self.now m
+            → IfOk result (λ rows. rows.items ≡ map listed m.rows) }
+        ensures once { IfOk result
+            (λ rows. IsDistinct (λ k l. is_eq (K.cmp k l)) (map (λ row. row.key) rows.items)) }
+        ensures ordered { IfOk result
+            (λ rows. IsStrictlySortedBy K.cmp (map (λ row. row.key) rows.items)) }
+        ensures only { IfErr result (λ fault. (fault ≡ OutOfMemory)
+            ⊎ ((fault ≡ Fault.Failed) × (self.now.status ≡ machines.Failed))) }
+    {
+        self.core.rows()
+    }
+
+    /// When a scan may do something, if a key waits. It takes time logarithmic in the waiting keys.
+    pub fn get_pending_deadline(&self) -> Option<u128>
+        ensures { (m : Machine K S P) → Matches (parties K.cmp S.cmp P.cmp) self.now m
+            → m.status ≢ machines.Failed → result ≡ wake_up (parties K.cmp S.cmp P.cmp) m }
+    {
+        self.core.get_pending_deadline()
+    }
+
+    /// When the time of a request is over next, if there is a request.
+    pub fn get_active_deadline(&self) -> Option<u128>
+        ensures { (m : Machine K S P) → Matches (parties K.cmp S.cmp P.cmp) self.now m
+            → m.status ≢ machines.Failed → result ≡ active_deadline (parties K.cmp S.cmp P.cmp) m }
+    {
+        self.core.get_active_deadline()
+    }
+}

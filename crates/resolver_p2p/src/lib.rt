@@ -1,0 +1,14 @@
+//! What fetches from peers, as its users see it: an engine, and the mailbox through which it is
+//! asked.
+//!
+//! `Engine` owns the core that fetches, the end of its mailbox that takes messages, and what its
+//! caller lends. `Mailbox` is a handle of that mailbox.
+#![tactic(auto)]
+
+mod config;
+mod engine;
+mod mailbox;
+
+pub use config::Config;
+pub use engine::Engine;
+pub use mailbox::{FetchKey, Mailbox, Message};

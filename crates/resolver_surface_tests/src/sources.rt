@@ -1,0 +1,90 @@
+use crate::names::Letter;
+use bytes::Bytes;
+use futures::Stream;
+use futures::channel::mpsc;
+use futures::task::{Context, Poll, Source, Waker};
+use futures::test::MockTask;
+use resolver_surface::{Clock, Receiver};
+use std::test::Fail;
+
+/// A network over memory.
+#[derive(Drop)]
+struct Wire {
+    messages: mpsc::UnboundedReceiver<(Letter, Bytes)>,
+}
+
+impl Receiver for Wire {
+    type PublicKey = Letter;
+
+    fn poll_recv(&mut self, cx: &mut Context<'_>) -> Poll<Option<(Letter, Bytes)>> {
+        self.messages.poll_next(cx)
+    }
+}
+
+/// A clock that stands.
+#[derive(Drop)]
+struct Watch {
+    now: u64,
+    changed: Source,
+    waker: Option<Waker>,
+}
+
+impl Clock for Watch {
+    fn now(&self) -> u128 {
+        self.now as u128
+    }
+
+    fn poll_until(&mut self, cx: &mut Context<'_>, moment: u128) -> Poll<()> {
+        if moment <= self.now as u128 {
+            return Poll::Ready(());
+        }
+        cx.register(&self.changed, &mut self.waker)
+    }
+}
+
+/// What comes next.
+fn next<I: Receiver<PublicKey = Letter>>(
+    task: &MockTask,
+    network: &mut I,
+) -> Poll<Option<(Letter, Bytes)>> {
+    task.enter(|cx| network.poll_recv(cx))
+}
+
+/// How long it is from the clock's moment to a later one, and whether the later one has come.
+fn left<C: Clock>(task: &MockTask, clock: &mut C, moment: u128) -> (u128, bool) {
+    let ready = matches!(
+        task.enter(|cx| clock.poll_until(cx, moment)),
+        Poll::Ready(())
+    );
+    (moment.saturating_sub(clock.now()), ready)
+}
+
+#[test]
+fn a_network_gives_what_was_sent(rt: HostRuntime) -> Result<(), Fail> {
+    let task = MockTask::new(&rt)?;
+    let (sender, messages) = mpsc::unbounded(rt.alloc())?;
+    let mut network = Wire { messages };
+    let hi = Bytes::from_static(b"hi");
+    assert_eq!(rt; next(&task, &mut network), Poll::Pending);
+    sender.unbounded_send((Letter(4), hi.clone()?))?;
+    drop(sender);
+    assert_eq!(rt;
+        next(&task, &mut network),
+        Poll::Ready(Some((Letter(4), hi)))
+    );
+    assert_eq!(rt; next(&task, &mut network), Poll::Ready(None));
+    Ok(())
+}
+
+#[test]
+fn a_moment_comes_at_its_time(rt: HostRuntime) -> Result<(), Fail> {
+    let task = MockTask::new(&rt)?;
+    let mut clock = Watch {
+        now: 5,
+        changed: Source::new(),
+        waker: None,
+    };
+    assert_eq!(rt; left(&task, &mut clock, 5), (0, true));
+    assert_eq!(rt; left(&task, &mut clock, 8), (3, false));
+    Ok(())
+}
