@@ -1,6 +1,6 @@
 -- Of the numbers that a scan asks for, as many as is right choose each peer left.
 use Rattle.std.proofs.Common.{◌≡◌, refl, sym, ap, ◌∙◌, inl, inr, ℕ, zero, suc, ◌+◌, ◌<◌, Bool, true, false, ◌==◌, List, [], ◌∷◌, length, Option, None, Some, slice_index, if◌then◌else◌, subst, arith}
-use Rattle.std.specs.Prelude.{nat_lt, not, sum}
+use Rattle.std.specs.Prelude.{not, sum}
 use Rattle.std.specs.Cmp.{IsEquivalence}
 use Rattle.std.specs.List.{AllByRecursion, IsDistinct}
 use Rattle.std.specs.Map.{keys_of}
@@ -13,7 +13,6 @@ use Rattle.resolver_request.specs.declared.score.Averages.{Averages}
 use Rattle.resolver_request.specs.Choice.{chosen, count_below, means_weighted}
 use Rattle.resolver_request.specs.Scores.{weight_of}
 use Rattle.resolver_request.proofs.ChoiceCounts.{chooses_by_weight, four_mean_weighted}
-use Rattle.resolver_request.proofs.Choices.{chosen-within}
 use Rattle.resolver_request.proofs.Counts.{count_from-same, count_from-one}
 use Rattle.resolver_fetch.specs.declared.fetcher.scan.Answer.TheVariants.{Drawn}
 use Rattle.resolver_fetch.specs.declared.fetcher.trail.Expected.TheVariants.{Mode, ByWeight, ByPlace}

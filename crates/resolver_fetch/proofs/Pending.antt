@@ -1,36 +1,43 @@
--- Bounds of the waiting keys, and the next due behind them.
-use Rattle.std.proofs.Common.{◌≡◌, refl, ap, sym, ◌∙◌, ℕ, ◌+◌, ◌≤◌, Bool, true, false, List, [], ◌∷◌, filter, length, Option, None, Some, IsSome, OnErr, OnOk, Result, Ok, Err, option_map, arith}
+-- A bound of the waiting keys, and the next due behind it.
+use Rattle.std.proofs.Common.{◌≡◌, refl, ap, sym, ◌∙◌, ℕ, Bool, true, false, not, List, [], ◌∷◌, ◌++◌, filter, Option, None, Some, OnErr, OnOk, Result, Ok, Err, option_map, if◌then◌else◌, arith}
 use Rattle.std.proofs.lemmas.Bool.Decides.{nat_tests}
 use Rattle.std.proofs.lemmas.Cmp.{tied_itself}
 use Rattle.std.proofs.lemmas.Grind.{common_steps}
-use Rattle.std.proofs.lemmas.List.Elements.{All-filter, All-head, All-nil, All-tail}
-use Rattle.std.proofs.lemmas.List.Kept.{IsStrictlySortedBy-filter}
+use Rattle.std.proofs.lemmas.List.Elements.{All-cons, All-filter, All-head, All-nil, All-same, All-tail}
+use Rattle.std.proofs.lemmas.Map.Keys.{sorted_head, sorted_tail}
 use Rattle.std.proofs.lemmas.Map.Views.{All-insert_key}
 use Rattle.std.specs.Cmp.{IsTotalOrder}
-use Rattle.std.specs.List.{All}
+use Rattle.std.specs.List.{All, AllByRecursion}
 use Rattle.std.specs.List.Sorted.{IsStrictlySortedBy}
-use Rattle.std.specs.Ordering.{bool_cmp, is_gt, is_le, is_lt, nat_cmp, ordering_reverse, ordering_then}
+use Rattle.std.specs.Ordering.{is_gt, is_lt, nat_cmp, ordering_reverse, ordering_then}
+use Rattle.std.specs.Prelude.{nat_le}
 use Rattle.std.specs.declared.cmp.Ordering.{Ordering}
 use Rattle.std.specs.declared.cmp.Ordering.TheVariants.{Less, Equal, Greater}
-use Rattle.resolver_base.specs.Priorities.{after, first_of, from, pair_order, priorities_of, put, without}
+use Rattle.resolver_base.specs.Priorities.{first_of, pair_order, put, without}
 use Rattle.resolver_fetch.specs.declared.fetcher.place.Place.{Place}
-use Rattle.resolver_fetch.specs.Pending.{IsBound, due_behind, first_due, later_due, raised}
+use Rattle.resolver_fetch.specs.Pending.{IsBound, due_behind, later_due, raised}
+use Rattle.resolver_fetch.specs.Queues.{IsQueued, fresh_queue, placed, retry_queue}
 use Rattle.resolver_fetch.specs.Scan.{least}
-use Rattle.resolver_fetch.specs.Waiting.{fresh_at, place_order, retry_at}
-use Rattle.resolver_fetch.proofs.Dues.{next-dues}
+use Rattle.resolver_fetch.specs.Waiting.{place_order}
+use Rattle.resolver_fetch.proofs.Dues.{later-append, later-least, least-apart}
 
 reversed : (x : Ordering) → is_lt (ordering_reverse x) ≡ is_gt x
 reversed Less = refl
 reversed Equal = refl
 reversed Greater = refl
 
--- behind a place and a key that is no less than the other one are the places that are later
-past : (r s : Bool) (m d : ℕ) (more : Ordering) → is_lt more ≡ false
-    → is_lt (ordering_then (ordering_then (bool_cmp r s) (nat_cmp m d)) more) ≡ is_le (ordering_then (bool_cmp r s) (nat_cmp (m + 1) d))
-past false false m d more le = grind (arith, nat_tests, common_steps, le)
-past false true m d more le = refl
-past true false m d more le = refl
-past true true m d more le = grind (arith, nat_tests, common_steps, le)
+-- behind a moment and a key that is no less than the other one are the dues that are later
+past : (m d : ℕ) (more : Ordering) → is_lt more ≡ false → is_lt (ordering_then (nat_cmp m d) more) ≡ not (nat_le d m)
+past m d more le = grind (arith, nat_tests, common_steps, le)
+
+module _ {X : Type 0} (Q : X → Type 0) where
+  all-left : (xs ys : List X) → All Q (xs ++ ys) → All Q xs
+  all-left [] ys all = All-nil Q
+  all-left (x ∷ xs) ys all = All-cons Q x xs (All-head Q x (xs ++ ys) all) (all-left xs ys (All-tail Q x (xs ++ ys) all))
+
+  all-right : (xs ys : List X) → All Q (xs ++ ys) → All Q ys
+  all-right [] ys all = all
+  all-right (x ∷ xs) ys all = all-right xs ys (All-tail Q x (xs ++ ys) all)
 
 module _ {K : Type 0} {by_key : K → K → Ordering} (o : IsTotalOrder by_key) where
   abbrev UpTo : K → Place × K → Type 0
@@ -53,19 +60,19 @@ module _ {K : Type 0} {by_key : K → K → Ordering} (o : IsTotalOrder by_key) 
   all-below top key pairs gt all = λ k d within. below _ top key (all k d within) gt
 
   -- a raised bound is one still
-  pub raised-bound : (place : Place) (key : K) (pairs : List (Place × K)) (bound : Option (Place × K)) → IsBound by_key place pairs bound
-      → IsBound by_key place pairs (Some (raised by_key place key bound))
-  raised-bound place key pairs None is = (refl, rw is (All-nil (UpTo key)))
-  raised-bound place key pairs (Some b) is = at (is_gt (by_key key b.1)) refl where
-    at : (more : Bool) → is_gt (by_key key b.1) ≡ more → IsBound by_key place pairs (Some (raised by_key place key (Some b)))
+  pub raised-bound : (moment : ℕ) (key : K) (pairs : List (Place × K)) (bound : Option (ℕ × K)) → IsBound by_key moment pairs bound
+      → IsBound by_key moment pairs (Some (raised by_key moment key bound))
+  raised-bound moment key pairs None is = (refl, rw is (All-nil (UpTo key)))
+  raised-bound moment key pairs (Some b) is = at (is_gt (by_key key b.1)) refl where
+    at : (more : Bool) → is_gt (by_key key b.1) ≡ more → IsBound by_key moment pairs (Some (raised by_key moment key (Some b)))
     at true gt = rw gt (refl, all-below b.1 key pairs gt is.1)
     at false le = rw le is
 
   -- and is not exceeded by the key
-  raised-above : (place : Place) (key : K) (bound : Option (Place × K)) → is_gt (by_key key (raised by_key place key bound).1) ≡ false
-  raised-above place key None = ap is_gt (tied_itself o key)
-  raised-above place key (Some b) = at (is_gt (by_key key b.1)) refl where
-    at : (more : Bool) → is_gt (by_key key b.1) ≡ more → is_gt (by_key key (raised by_key place key (Some b)).1) ≡ false
+  raised-above : (moment : ℕ) (key : K) (bound : Option (ℕ × K)) → is_gt (by_key key (raised by_key moment key bound).1) ≡ false
+  raised-above moment key None = ap is_gt (tied_itself o key)
+  raised-above moment key (Some b) = at (is_gt (by_key key b.1)) refl where
+    at : (more : Bool) → is_gt (by_key key b.1) ≡ more → is_gt (by_key key (raised by_key moment key (Some b)).1) ≡ false
     at true gt = rw gt (ap is_gt (tied_itself o key))
     at false le = rw le le
 
@@ -78,66 +85,78 @@ module _ {K : Type 0} {by_key : K → K → Ordering} (o : IsTotalOrder by_key) 
       grind (arith, common_steps, here, rest)
 
   -- a key that is put among those that are bounded
-  pub put-bound : (place : Place) (p : Place × K) (pairs : List (Place × K)) (bound : Option (Place × K)) → IsBound by_key place pairs bound
-      → IsBound by_key place (put place_order by_key pairs p) (Some (raised by_key place p.1 bound))
-  put-bound place p pairs bound is =
-      let at = raised-bound place p.1 pairs bound is in
-      let top = (raised by_key place p.1 bound).1 in
+  pub put-bound : (moment : ℕ) (p : Place × K) (pairs : List (Place × K)) (bound : Option (ℕ × K)) → IsBound by_key moment pairs bound
+      → IsBound by_key moment (put place_order by_key pairs p) (Some (raised by_key moment p.1 bound))
+  put-bound moment p pairs bound is =
+      let at = raised-bound moment p.1 pairs bound is in
+      let top = (raised by_key moment p.1 bound).1 in
       let kept = first_of by_key pairs p.1 in (
         at.0,
         All-insert_key (pair_order place_order by_key) (p.0, kept) (UpTo top) (without by_key kept pairs)
             (All-filter _ (UpTo top) pairs at.1)
-            (first-up-to top p.1 pairs at.1 (raised-above place p.1 bound)),
+            (first-up-to top p.1 pairs at.1 (raised-above moment p.1 bound)),
       )
 
   -- where fewer keys wait the bound is one still
-  pub kept-bound : (test : Place × K → Bool) (place : Place) (pairs : List (Place × K)) (bound : Option (Place × K)) → IsBound by_key place pairs bound
-      → IsBound by_key place (filter test pairs) bound
-  kept-bound test place pairs None is = rw is refl
-  kept-bound test place pairs (Some b) is = (is.0, All-filter test (UpTo b.1) pairs is.1)
+  pub kept-bound : (test : Place × K → Bool) (moment : ℕ) (pairs : List (Place × K)) (bound : Option (ℕ × K)) → IsBound by_key moment pairs bound
+      → IsBound by_key moment (filter test pairs) bound
+  kept-bound test moment pairs None is = rw is refl
+  kept-bound test moment pairs (Some b) is = (is.0, All-filter test (UpTo b.1) pairs is.1)
 
-  -- a bound at another place
-  pub moved-bound : (place other : Place) (pairs : List (Place × K)) (bound : Option (Place × K)) → IsBound by_key place pairs bound
+  -- a bound at another moment
+  pub moved-bound : (moment other : ℕ) (pairs : List (Place × K)) (bound : Option (ℕ × K)) → IsBound by_key moment pairs bound
       → IsBound by_key other pairs (option_map (λ b. (other, b.1)) bound)
-  moved-bound place other pairs None is = is
-  moved-bound place other pairs (Some b) is = (refl, is.1)
+  moved-bound moment other pairs None is = is
+  moved-bound moment other pairs (Some b) is = (refl, is.1)
 
-  -- the keys behind a bound of a kind and a moment are due later, or are of the other kind
-  behind-bound : (r : Bool) (m : ℕ) (top : K) (pairs : List (Place × K)) → All (UpTo top) pairs
-      → after place_order by_key (record { is_retry = r; due = m }, top) pairs ≡ from place_order (record { is_retry = r; due = m + 1 }) pairs
-  behind-bound r m top [] all = refl
-  behind-bound r m top (p ∷ pairs) all =
-      let here = All-head (UpTo top) p pairs all in
-      let rest = behind-bound r m top pairs (All-tail (UpTo top) p pairs all) in
-      let more : is_lt (by_key top p.1) ≡ false = ap is_lt (o.antisymm top p.1) ∙ reversed (by_key p.1 top) ∙ here in
-      let same = past r p.0.is_retry m p.0.due (by_key top p.1) more in
-      grind (arith, common_steps, rest, same)
+  -- of keys behind one, none is due earlier
+  no-earlier : (m : ℕ) (r : Bool) (p : ℕ × K) (queue : List (ℕ × K)) → AllByRecursion (λ q. pair_order nat_cmp by_key p q ≡ Less) queue
+      → least (Some p.0) (later_due m (placed r queue)) ≡ Some p.0
+  no-earlier m r p [] all = refl
+  no-earlier m r p (q ∷ queue) all = at (nat_le q.0 m) refl (no-earlier m r p queue all.1) where
+    rest : Option ℕ
+    rest = later_due m (placed r queue)
 
-  due-bound : (r : Bool) (m : ℕ) (pairs : List (Place × K)) (b : Place × K) → IsBound by_key (record { is_retry = r; due = m }) pairs (Some b)
-      → due_behind by_key pairs (Some b) ≡ first_due r (from place_order (record { is_retry = r; due = m + 1 }) pairs)
-  due-bound r m pairs b is =
-      ap (λ (place : Place). first_due place.is_retry (after place_order by_key (place, b.1) pairs)) is.0
-      ∙ ap (first_due r) (behind-bound r m b.1 pairs is.1)
+    at : (due : Bool) → nat_le q.0 m ≡ due → least (Some p.0) rest ≡ Some p.0 → least (Some p.0) (least (if nat_le q.0 m then None else Some q.0) rest) ≡ Some p.0
+    at true due is = rw due is
+    at false due is = rw due (
+        least-apart (Some p.0) (Some q.0) rest
+        ∙ ap (λ x. least x rest) (later-least p.0 q.0 (by_key p.1 q.1) all.0)
+        ∙ is
+        )
 
-  -- the next due is found behind the two bounds
-  pub due-later : (m : ℕ) (pairs : List (Place × K)) (fresh retry : Option (Place × K)) → (IsSome fresh → IsStrictlySortedBy (pair_order place_order by_key) pairs)
-      → IsBound by_key (fresh_at m) pairs fresh → IsBound by_key (retry_at m) pairs retry
-      → least (due_behind by_key pairs fresh) (due_behind by_key pairs retry) ≡ later_due m pairs
-  due-later m pairs None None sorted fresh_is retry_is = rw fresh_is refl
-  due-later m pairs None (Some b) sorted fresh_is retry_is = rw fresh_is refl
-  due-later m pairs (Some a) None sorted fresh_is retry_is = rw retry_is refl
-  due-later m pairs (Some a) (Some b) sorted fresh_is retry_is =
-      ap (λ x. least x (due_behind by_key pairs (Some b))) (due-bound false m pairs a fresh_is)
-      ∙ ap (least (first_due false (from place_order (fresh_at (m + 1)) pairs))) (due-bound true m pairs b retry_is)
-      ∙ sym (next-dues by_key m pairs (IsStrictlySortedBy-filter _ _ pairs (sorted refl)))
+  -- the next due of a queue is found behind a bound
+  behind-later : (m : ℕ) (r : Bool) (top : K) (queue : List (ℕ × K)) → IsStrictlySortedBy (pair_order nat_cmp by_key) queue → All (UpTo top) (placed r queue)
+      → due_behind by_key queue (m, top) ≡ later_due m (placed r queue)
+  behind-later m r top [] sorted all = refl
+  behind-later m r top (p ∷ queue) sorted all =
+      at (nat_le p.0 m) refl (behind-later m r top queue (sorted_tail (pair_order nat_cmp by_key) p queue sorted) (All-tail (UpTo top) _ (placed r queue) all)) where
+        more : is_lt (by_key top p.1) ≡ false
+        more = ap is_lt (o.antisymm top p.1) ∙ reversed (by_key p.1 top) ∙ All-head (UpTo top) _ (placed r queue) all
+
+        here : is_lt (pair_order nat_cmp by_key (m, top) p) ≡ not (nat_le p.0 m)
+        here = past m p.0 (by_key top p.1) more
+
+        at : (due : Bool) → nat_le p.0 m ≡ due → due_behind by_key queue (m, top) ≡ later_due m (placed r queue)
+            → due_behind by_key (p ∷ queue) (m, top) ≡ later_due m (placed r (p ∷ queue))
+        at true due rest = rw (here, due) rest
+        at false due rest = rw (here, due) (sym (no-earlier m r p queue (sorted_head (pair_order nat_cmp by_key) p queue sorted)))
+
+  -- the next due is found behind a bound of both queues
+  pub due-later : (m : ℕ) (pairs : List (Place × K)) (b : ℕ × K) → IsQueued pairs
+      → IsStrictlySortedBy (pair_order nat_cmp by_key) (fresh_queue pairs) → IsStrictlySortedBy (pair_order nat_cmp by_key) (retry_queue pairs)
+      → IsBound by_key m pairs (Some b) → least (due_behind by_key (fresh_queue pairs) b) (due_behind by_key (retry_queue pairs) b) ≡ later_due m pairs
+  due-later m pairs b queued sorted others is =
+      let fresh = placed false (fresh_queue pairs) in
+      let retry = placed true (retry_queue pairs) in
+      let all : All (UpTo b.1) (fresh ++ retry) = All-same (UpTo b.1) (fresh ++ retry) pairs (sym queued) is.1 in
+      ap (λ moment. least (due_behind by_key (fresh_queue pairs) (moment, b.1)) (due_behind by_key (retry_queue pairs) (moment, b.1))) is.0
+      ∙ ap (λ x. least x (due_behind by_key (retry_queue pairs) (m, b.1))) (behind-later m false b.1 (fresh_queue pairs) sorted (all-left (UpTo b.1) fresh retry all))
+      ∙ ap (least (later_due m fresh)) (behind-later m true b.1 (retry_queue pairs) others (all-right (UpTo b.1) fresh retry all))
+      ∙ sym (later-append m fresh retry)
+      ∙ ap (later_due m) (sym queued)
 
 -- what either outcome gives
 pub either_way : {T E : Type 0} (r : Result T E) (A B G : Type 0) → OnOk r A → OnErr r B → (A → G) → (B → G) → G
 either_way (Ok x) A B G a b f g = f a
 either_way (Err e) A B G a b f g = g b
-
--- no key has more places among some of them
-pub fewer-filtered : {K : Type 0} (by_key : K → K → Ordering) (test : Place × K → Bool) (key : K) (ps : List (Place × K))
-    → length (priorities_of by_key (filter test ps) key) ≤ length (priorities_of by_key ps key)
-fewer-filtered by_key test key [] = omega arith
-fewer-filtered by_key test key (p ∷ ps) = let rest = fewer-filtered by_key test key ps in grind (arith, common_steps, rest)

@@ -1,5 +1,5 @@
 -- No key stands twice among the waiting and the asked ones.
-use Rattle.std.proofs.Common.{◌≡◌, refl, ap, sym, ◌∙◌, ℕ, ◌+◌, ◌≤◌, Bool, true, false, List, [], ◌∷◌, length, filter, Option, None, Some, option_map, cond, find, arith}
+use Rattle.std.proofs.Common.{◌≡◌, refl, ap, sym, ◌∙◌, ℕ, ◌+◌, ◌≤◌, Bool, true, false, List, [], ◌∷◌, length, map, filter, Option, None, Some, option_map, cond, find, arith}
 use Rattle.std.proofs.lemmas.Bool.Decides.{nat_tests}
 use Rattle.std.proofs.lemmas.Cmp.{nat_cmp_total, on_total, then_total, tied_itself}
 use Rattle.std.proofs.lemmas.Grind.{common_steps}
@@ -134,6 +134,21 @@ module _ {K P : Type 0} (o : Orders K P) (total : IsTotalOrder o.key) (f : Fetch
       let here : q ≡ p → is_eq (o.key p.1 q.1) ≡ true = λ same. ap (λ (x : Place × K). is_eq (o.key p.1 x.1)) same ∙ itself in
       grind (arith, common_steps, rest, here, is)
 
+  none-left : (places : List Place) → length places ≤ 0 → places ≡ []
+  none-left [] few = refl
+  none-left (place ∷ places) few = absurd (omega (arith, few))
+
+  -- it has no other place
+  found-alone : (test : Place × K → Bool) (ps : List (Place × K)) (p : Place × K) → find test ps ≡ Some p → length (priorities_of o.key ps p.1) ≤ 1 → priorities_of o.key ps p.1 ≡ p.0 ∷ []
+  found-alone test [] p is once = absurd cc
+  found-alone test (q ∷ ps) p is once =
+      let rest = found-alone test ps p in
+      let waits = found-waits test ps p in
+      let none = none-left (priorities_of o.key ps p.1) in
+      let itself : is_eq (o.key p.1 p.1) ≡ true = ap is_eq (tied_itself total p.1) in
+      let here : q ≡ p → is_eq (o.key p.1 q.1) ≡ true = λ same. ap (λ (x : Place × K). is_eq (o.key p.1 x.1)) same ∙ itself in
+      grind (arith, common_steps, rest, waits, none, here, is, once)
+
   -- what is tried waits
   pub tried-waits : (t : Trying K P) → tried_next o f moment trail ≡ Some t → 1 ≤ length (priorities_of o.key f.waiting t.key)
   tried-waits t is =
@@ -145,6 +160,24 @@ module _ {K P : Type 0} (o : Orders K P) (total : IsTotalOrder o.key) (f : Fetch
         at (Some p) here tried =
             let key : p.1 ≡ t.key = ap (λ (n : Trying K P). n.key) (some-same _ _ tried) in
             rw (← key) (found-waits _ f.waiting p here)
+
+  -- as what it is tried
+  pub tried-kind : (t : Trying K P) → tried_next o f moment trail ≡ Some t → EachOnce o.key f.waiting f.asked
+      → map (λ place. place.is_retry) (priorities_of o.key f.waiting t.key) ≡ t.place.is_retry ∷ []
+  tried-kind t is once =
+      at (find (λ p. can_be_tried o (snapshot o f) (scan_at moment trail) (waiting_of o f p)) f.waiting) refl
+      (sym (ap (option_map (trying_for o (snapshot o f) trail)) (find-map (can_be_tried o (snapshot o f) (scan_at moment trail)) (waiting_of o f) f.waiting)) ∙ is) where
+        at : (found : Option (Place × K)) → find (λ p. can_be_tried o (snapshot o f) (scan_at moment trail) (waiting_of o f p)) f.waiting ≡ found
+            → option_map (trying_for o (snapshot o f) trail) (option_map (waiting_of o f) found) ≡ Some t
+            → map (λ place. place.is_retry) (priorities_of o.key f.waiting t.key) ≡ t.place.is_retry ∷ []
+        at None here tried = absurd cc
+        at (Some p) here tried =
+            let same : trying_for o (snapshot o f) trail (waiting_of o f p) ≡ t = some-same _ _ tried in
+            let few : length (priorities_of o.key f.waiting p.1) ≤ 1 = (let all = once p.1 in omega (arith, all)) in
+            let alone : map (λ place. place.is_retry) (priorities_of o.key f.waiting p.1) ≡ p.0.is_retry ∷ [] = ap (map (λ place. place.is_retry)) (found-alone _ f.waiting p here few) in
+            ap (λ (n : Trying K P). map (λ place. place.is_retry) (priorities_of o.key f.waiting n.key)) (sym same)
+            ∙ alone
+            ∙ ap (λ (n : Trying K P). n.place.is_retry ∷ []) same
 
   -- so it is not asked for
   pub tried-apart : (t : Trying K P) → tried_next o f moment trail ≡ Some t → EachOnce o.key f.waiting f.asked → is_asked o.key f.asked t.key ≡ false

@@ -9,6 +9,7 @@ use Rattle.resolver_fetch.specs.declared.fetcher.scan.Answer.TheVariants.{Drawn,
 use Rattle.resolver_fetch.specs.declared.fetcher.scan.Ask.{Ask}
 use Rattle.resolver_fetch.specs.declared.fetcher.scan.Ask.TheVariants as asks
 use Rattle.resolver_fetch.specs.Orders.{Orders, orders}
+use Rattle.resolver_fetch.specs.Queues.{fresh_queue, retry_queue}
 use Rattle.resolver_request.specs.Ids.{next_id}
 use Rattle.resolver_fetch.specs.Fetcher.{Fetcher, opening, reconcile, set_blocked, add_ready, add_retry, add_targets, scan_begin, scan_answer, question, pending_deadline, active_deadline, pop_response, pop_missing, weight}
 
@@ -92,7 +93,7 @@ pub record MissingAndRetry : Type 0 where
   pub wakes : pending_deadline again ≡ Some 60
   pub draws : question numbers (scan_begin numbers 60 again) ≡ Some (asks.Draw 5)
 
--- fresh keys before retries
+-- fresh keys before retries, in a queue each
 
 abbrev tried_before : Fetcher ℕ ℕ
 tried_before = add_retry numbers 2 0 (reconcile numbers (4 ∷ []) (none_yet 50 2))
@@ -100,9 +101,11 @@ tried_before = add_retry numbers 2 0 (reconcile numbers (4 ∷ []) (none_yet 50 
 abbrev two_kinds : Fetcher ℕ ℕ
 two_kinds = add_ready numbers 1 5 tried_before
 
-pub record TwoKinds : Type 0 where
+pub record TwoQueues : Type 0 where
   pub retry_wakes : pending_deadline tried_before ≡ Some 2
   pub fresh_wakes : pending_deadline two_kinds ≡ Some 5
+  pub fresh : fresh_queue two_kinds.waiting ≡ (5, 1) ∷ []
+  pub retries : retry_queue two_kinds.waiting ≡ (2, 2) ∷ []
   pub asked : questions (scan_begin numbers 5 two_kinds) (limited 9 ++ limited 8)
       ≡ Some (asks.Draw 4) ∷ Some (asks.Draw 1) ∷ Some (asks.Check 4) ∷ Some (asks.Draw 5) ∷ Some (asks.Draw 1) ∷ Some (asks.Check 4) ∷ None ∷ []
   pub least_limit : pending_deadline (after (scan_begin numbers 5 two_kinds) (limited 9 ++ limited 8)) ≡ Some 8

@@ -4,6 +4,7 @@ pub mod Peers
 pub mod Known
 pub mod Snapshot
 pub mod Scan
+pub mod Queues
 pub mod Pending
 pub mod Tried
 pub mod Trying

@@ -1,7 +1,7 @@
 -- The keys that wait, and when a scan may be begun again.
-use Rattle.std.specs.Prelude.{◌≡◌, ℕ, Bool, false, nat_le, min, List, [], ◌∷◌, Option, None, Some, unwrap_or, option_and_then, if◌then◌else◌}
-use Rattle.std.specs.List.{All}
-use Rattle.std.specs.Ordering.{bool_cmp, is_eq, is_gt}
+use Rattle.std.specs.Prelude.{◌≡◌, ℕ, Bool, false, nat_le, min, List, [], ◌∷◌, Option, None, Some, unwrap_or, option_map, if◌then◌else◌}
+use Rattle.std.specs.List.{All, slice_get}
+use Rattle.std.specs.Ordering.{is_gt, nat_cmp}
 use Rattle.std.specs.declared.cmp.Ordering.{Ordering}
 use Rattle.resolver_base.specs.Priorities.{after, put, retained, without}
 use Rattle.resolver_fetch.specs.declared.fetcher.pending.Waiter.{Waiter}
@@ -22,11 +22,6 @@ module _ {K : Type 0} where
   abbrev pub later_due : (moment : ℕ) → List (Place × K) → Option ℕ
   later_due moment [] = None
   later_due moment (p ∷ pairs) = least (if nat_le p.0.due moment then None else Some p.0.due) (later_due moment pairs)
-
-  -- the due of the first of some waiting keys, if it is of this kind
-  abbrev pub first_due : (is_retry : Bool) → List (Place × K) → Option ℕ
-  first_due is_retry [] = None
-  first_due is_retry (p ∷ pairs) = if is_eq (bool_cmp p.0.is_retry is_retry) then Some p.0.due else None
 
   -- when a key becomes due after a moment, or at the other moment, whichever is first
   abbrev pub waits_until : (moment : ℕ) → (other : Option ℕ) → List (Place × K) → ℕ
@@ -57,17 +52,17 @@ module _ {K : Type 0} where
   abbrev pub with_kept : (K → Bool) → Pending K → Pending K
   with_kept test pending = with_keys (retained test pending.keys)
 
--- a place and a key that no waiting key exceeds; without them no key waits
-abbrev pub IsBound : {K : Type 0} → (K → K → Ordering) → Place → List (Place × K) → Option (Place × K) → Type 0
-IsBound by_key place pairs None = pairs ≡ []
-IsBound by_key place pairs (Some bound) = (bound.0 ≡ place) × All (λ p. is_gt (by_key p.1 bound.1) ≡ false) pairs
+-- a moment and a key that no waiting key exceeds; without them no key waits
+abbrev pub IsBound : {K : Type 0} → (K → K → Ordering) → (moment : ℕ) → List (Place × K) → Option (ℕ × K) → Type 0
+IsBound by_key moment pairs None = pairs ≡ []
+IsBound by_key moment pairs (Some bound) = (bound.0 ≡ moment) × All (λ p. is_gt (by_key p.1 bound.1) ≡ false) pairs
 
 module _ {K : Type 0} (by_key : K → K → Ordering) where
   -- the bound, once the key waits too
-  abbrev pub raised : Place → K → Option (Place × K) → Place × K
-  raised place key None = (place, key)
-  raised place key (Some bound) = if is_gt (by_key key bound.1) then (place, key) else bound
+  abbrev pub raised : (moment : ℕ) → K → Option (ℕ × K) → ℕ × K
+  raised moment key None = (moment, key)
+  raised moment key (Some bound) = if is_gt (by_key key bound.1) then (moment, key) else bound
 
-  -- the due of the first key behind a bound, if it is of the bound's kind
-  abbrev pub due_behind : List (Place × K) → Option (Place × K) → Option ℕ
-  due_behind pairs bound = option_and_then (λ b. first_due b.0.is_retry (after place_order by_key b pairs)) bound
+  -- the due of the first key of a queue behind a bound
+  abbrev pub due_behind : List (ℕ × K) → ℕ × K → Option ℕ
+  due_behind queue bound = option_map (λ p. p.0) (slice_get (after nat_cmp by_key bound queue) 0)

@@ -1,6 +1,5 @@
 -- How a fetcher finds what a scan tries next, and when a scan in vain may be begun again.
-use Rattle.std.specs.Prelude.{ℕ, false, not, nat_lt, List, length, map, Option, None, Some, option_map, filter, find}
-use Rattle.std.specs.Ordering.{is_le}
+use Rattle.std.specs.Prelude.{ℕ, false, not, nat_le, nat_lt, List, length, map, Option, None, Some, option_map, filter, find}
 use Rattle.resolver_base.specs.Priorities.{after}
 use Rattle.resolver_fetch.specs.declared.fetcher.place.Place.{Place}
 use Rattle.resolver_fetch.specs.declared.fetcher.trail.Try.{Try}
@@ -49,11 +48,11 @@ module _ {K P : Type 0} (o : Orders K P) where
       option_map (trying_for o (snapshot o f) scan.trail)
       (find (can_be_tried o (snapshot o f) scan) (map (waiting_of o f) (after place_order o.key p f.waiting)))
 
-  -- the first of some waiting keys, up to a place, that has a peer left
-  abbrev pub first_until : Fetcher K P → List (Try K P) → (last : Place) → List (Place × K) → Option (Trying K P)
-  first_until f trail last pairs =
+  -- the first of some waiting keys, up to a moment, that has a peer left
+  abbrev pub first_until : Fetcher K P → List (Try K P) → (moment : ℕ) → List (Place × K) → Option (Trying K P)
+  first_until f trail moment pairs =
       option_map (trying_key f trail)
-      (find (λ p. nat_lt 0 (length (trying_key f trail p).left)) (filter (λ p. is_le (place_order p.0 last)) pairs))
+      (find (λ p. nat_lt 0 (length (trying_key f trail p).left)) (filter (λ p. nat_le p.0.due moment) pairs))
 
   abbrev pub next_for : Option (Trying K P) → (other : Option ℕ) → Next K P
   next_for None other = Wait other

@@ -11,6 +11,7 @@ pub mod laws;
 mod peers;
 mod pending;
 pub mod place;
+mod queues;
 pub mod scan;
 mod scanning;
 mod step;
@@ -31,6 +32,7 @@ ghost use Rattle.resolver_fetch.specs.Fetcher.{EachOnce, IsTimely, opening};
 ghost use Rattle.resolver_fetch.specs.Orders.{orders};
 ghost use Rattle.resolver_fetch.specs.Peers.{with_targets};
 ghost use Rattle.resolver_fetch.specs.Pending.{with_key};
+ghost use Rattle.resolver_fetch.specs.Queues.{IsQueued, fresh_queue, retry_queue};
 ghost use Rattle.resolver_request.specs.Requests.{is_asked, request_for};
 ghost use Rattle.resolver_request.specs.Times.{charged, elapsed_since};
 ghost use Rattle.resolver_fetch.specs.Waiting.{once_more};
@@ -41,7 +43,7 @@ use crate::fetcher::pending::Pending;
 use crate::fetcher::targets::Targets;
 pub use config::Config;
 pub use place::Place;
-use resolver_base::base::{Fault, NonEmptyVec};
+use resolver_base::base::{Fault, NonEmptyVec, PrioritySet};
 use resolver_request::requests::Requests;
 pub use resolver_request::requests::{ID, Request};
 use resolver_request::score::DURATION_MAX;
@@ -156,7 +158,25 @@ impl<K: Ord + Drop, P: Ord + Drop> Fetcher<K, P> {
         ensures value { result ≡ calls.place_of (orders K.cmp P.cmp) self.now key.now }
         ensures once { EachOnce K.cmp self.now.waiting self.now.asked }
     {
-        self.pending.keys().get(key).copied()
+        self.pending.keys().place(key)
+    }
+
+    /// The fresh keys with their dues, in the order of dues and then of keys. It takes no memory.
+    pub fn fresh_queue(&self) -> &PrioritySet<K, u128>
+        ensures keys { result.now ≡ fresh_queue self.now.waiting }
+        ensures whole { IsQueued self.now.waiting }
+        ensures once { EachOnce K.cmp self.now.waiting self.now.asked }
+    {
+        self.pending.keys().fresh()
+    }
+
+    /// The keys that are tried again with their dues, in that order. It takes no memory.
+    pub fn retry_queue(&self) -> &PrioritySet<K, u128>
+        ensures keys { result.now ≡ retry_queue self.now.waiting }
+        ensures whole { IsQueued self.now.waiting }
+        ensures once { EachOnce K.cmp self.now.waiting self.now.asked }
+    {
+        self.pending.keys().retry()
     }
 
     /// The request for this key with its id, if it is asked for.
@@ -441,6 +461,7 @@ fn count_retry<K: Ord + Clone + Drop>(
     key: K,
     place: Place,
 ) -> Result<(), Fault>
+    requires not_waiting { has_item K.cmp pending.old.keys key ≡ false }
     requires keys_clone { (x y : K) → K.is_clone x y → y ≡ x }
     ensures ok { OnOk result (pending.new ≡ with_key K.cmp (place, key) pending.old) }
     ensures counted { OnOk result (retries.new.entries

@@ -6,7 +6,7 @@
 ghost use Rattle.std.specs.Prelude.{◌<◌, ◌^◌};
 ghost use Rattle.resolver_fetch.specs.Fetcher.{IsTimely};
 
-use resolver_base::base::{Check, Fault, NonEmptyVec};
+use resolver_base::base::{Check, Fault, NonEmptyVec, PrioritySet};
 use resolver_fetch::fetcher::Answer::{self, Checked, Drawn, Sent};
 use resolver_fetch::fetcher::{Ask, Config, Fetcher, ID};
 use resolver_request::score::DURATION_MAX;
@@ -58,6 +58,8 @@ enum Call<'a> {
     HasTargets(u8),
     /// Where does a key wait, and under which id is it asked for?
     Phase(u8),
+    /// Which keys stand first in the two queues, and how many are there?
+    Queues,
     /// What are the targets of a key?
     TargetsOf(u8),
     /// Does key 1 wait, how many requests are there, and is a scan open?
@@ -96,6 +98,9 @@ enum Seen {
     Is(bool),
     /// When a key that waits is due and whether it is tried again, or its request's id and peer.
     Phase(Option<(u128, bool)>, Option<(ID, u8)>),
+    /// Of the fresh queue and then of the other: how many keys there are, and when the first, which
+    /// is this one, is due.
+    Queues((usize, Option<(u128, u8)>), (usize, Option<(u128, u8)>)),
     /// How many targets there are, and the last.
     Last(Option<(usize, u8)>),
     /// What is told of key 1, the requests and the scan.
@@ -128,10 +133,17 @@ fn asked(ask: Option<Ask<u8, u8>>) -> Seen {
 fn config() -> Config<u8>
     ensures timely { IsTimely result.fetch_timeout result.retry_delay }
 {
+    delayed(10)
+}
+
+/// The same with another delay.
+fn delayed(delay: u32) -> Config<u8>
+    ensures timely { IsTimely result.fetch_timeout result.retry_delay }
+{
     Config {
         me: None,
         fetch_timeout: 50,
-        retry_delay: 10,
+        retry_delay: u128::from(delay),
         priority_requests: false,
     }
 }
@@ -264,6 +276,20 @@ fn phase(fetcher: &Node, key: u8) -> Seen {
     Seen::Phase(waits, asks)
 }
 
+/// How many keys a queue has, and when the first is due.
+fn first_of(queue: &PrioritySet<u8, u128>) -> (usize, Option<(u128, u8)>) {
+    let first = queue.peek().map(|(key, due)| (*due, *key));
+    (queue.len(), first)
+}
+
+/// What the two queues have.
+fn queues(fetcher: &Node) -> Seen {
+    Seen::Queues(
+        first_of(fetcher.fresh_queue()),
+        first_of(fetcher.retry_queue()),
+    )
+}
+
 /// How many targets a key has, and the last.
 fn last_target(fetcher: &Node, key: u8) -> Option<(usize, u8)> {
     let targets = fetcher.targets(&key)?;
@@ -315,6 +341,7 @@ fn made(alloc: Global, fetcher: &mut Node, call: Call) -> Result<Seen, Fault> {
         Call::Deadline => Ok(Seen::At(deadline(fetcher))),
         Call::Weight(peer) => Ok(Seen::Weight(weight(fetcher, peer))),
         Call::Phase(key) => Ok(phase(fetcher, key)),
+        Call::Queues => Ok(queues(fetcher)),
         Call::TargetsOf(key) => Ok(Seen::Last(last_target(fetcher, key))),
         Call::HasTargets(key) => Ok(Seen::Is(has_targets(fetcher, key))),
         Call::Counts => Ok(counts(fetcher)),
@@ -555,6 +582,33 @@ fn fetcher_two_kinds(rt: HostRuntime) -> Result<(), Fail> {
         (Call::WakeUp, Seen::At(Some(18))),
     ];
     goes(&rt, rt.alloc(), &calls)?;
+    Ok(())
+}
+
+#[test]
+fn fetcher_two_queues(rt: HostRuntime) -> Result<(), Fail> {
+    let calls = [
+        (Call::Peers(&[4]), Seen::Done),
+        (Call::Retry { key: 2, at: 0 }, Seen::Done),
+        (Call::WakeUp, Seen::At(Some(2))),
+        (Call::Queues, Seen::Queues((0, None), (1, Some((2, 2))))),
+        (Call::Ready { key: 1, at: 5 }, Seen::Done),
+        (Call::WakeUp, Seen::At(Some(5))),
+        (
+            Call::Queues,
+            Seen::Queues((1, Some((5, 1))), (1, Some((2, 2)))),
+        ),
+        (Call::Begin(5), Seen::Draw(4)),
+        (Call::Answer(Drawn(0)), Seen::Draw(1)),
+        (Call::Answer(Drawn(0)), Seen::Check(4)),
+        (Call::Answer(Checked(Check::Until(9))), Seen::Draw(5)),
+        (Call::Answer(Drawn(0)), Seen::Draw(1)),
+        (Call::Answer(Drawn(0)), Seen::Check(4)),
+        (Call::Answer(Checked(Check::Until(8))), Seen::Over),
+        (Call::WakeUp, Seen::At(Some(8))),
+    ];
+    let mut fetcher = Fetcher::new(rt.alloc(), delayed(2));
+    goes_on(&rt, rt.alloc(), &mut fetcher, &calls)?;
     Ok(())
 }
 

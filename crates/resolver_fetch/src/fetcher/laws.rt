@@ -1,7 +1,7 @@
 //! Worked runs of a fetcher's definition, and what holds of every scan. Each function says one of
 //! them, and does nothing. They are no part of the surface.
 
-ghost use Rattle.resolver_fetch.specs.FetcherRows.{BlockedTarget, FirstRequest, MissingAndRetry, NextIds, RefusedSends, TwoKinds, WakeUp};
+ghost use Rattle.resolver_fetch.specs.FetcherRows.{BlockedTarget, FirstRequest, MissingAndRetry, NextIds, RefusedSends, TwoQueues, WakeUp};
 ghost use Rattle.resolver_fetch.specs.FetcherLaws.{ChoosesBelow, DrawCounts, KeepsWeights, NeedsPairs, TriesAll, TriesPairs, WakesLater};
 ghost use Rattle.resolver_fetch.specs.Fetcher.{snapshot};
 ghost use Rattle.resolver_fetch.specs.Orders.{orders};
@@ -28,9 +28,9 @@ pub fn missing_and_retry()
     ensures { MissingAndRetry }
 {}
 
-/// Fresh keys are tried before retries.
-pub fn two_kinds()
-    ensures { TwoKinds }
+/// Fresh keys are tried before retries, and each kind has a queue.
+pub fn two_queues()
+    ensures { TwoQueues }
 {}
 
 /// Requests that are refused.

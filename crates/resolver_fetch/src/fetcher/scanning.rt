@@ -1,10 +1,10 @@
 //! The scans of a fetcher.
 
-ghost use Rattle.std.specs.Prelude.{◌≡◌, ◌≢◌, ◌+◌, ◌<◌, ◌^◌, true, false, Ok, Err, Some, None, [], is_some, IfErr, IfOk, OnErr, OnOk};
+ghost use Rattle.std.specs.Prelude.{◌≡◌, ◌≢◌, ◌+◌, ◌<◌, ◌^◌, ℕ, true, false, Ok, Err, Some, None, [], is_some, IfErr, IfOk, OnErr, OnOk};
 ghost use Rattle.std.specs.BTreeMap.{insert_entry};
 ghost use Rattle.std.specs.List.Sorted.{IsStrictlySortedBy};
 ghost use Rattle.std.specs.Map.Iter.{ShowsInOrder, deref};
-ghost use Rattle.resolver_base.specs.Priorities.{from, pair_order};
+ghost use Rattle.resolver_base.specs.Priorities.{pair_order};
 ghost use Rattle.resolver_base.specs.declared.base.fault.Fault.TheVariants.{OutOfMemory};
 ghost use Rattle.resolver_fetch.specs.declared.fetcher.step.Step.TheVariants.{Accept, Clear, Fail};
 ghost use Rattle.resolver_fetch.specs.Fetcher as calls;
@@ -14,16 +14,16 @@ ghost use Rattle.resolver_request.specs.Requests.{is_asked};
 ghost use Rattle.resolver_fetch.specs.Cursor.{ExpectsNewId, IsRight, TakesNewId, opened, scan_of};
 ghost use Rattle.resolver_fetch.specs.Fetcher.{AsksNewId, question};
 ghost use Rattle.resolver_fetch.specs.Orders.{orders};
-ghost use Rattle.resolver_fetch.specs.declared.fetcher.place.Place.{Place};
+ghost use Rattle.resolver_fetch.specs.Queues.{placed, retry_queue};
 ghost use Rattle.resolver_fetch.specs.Seeking.{first_until, next_behind, next_of, scan_at, tried_behind, tried_next, trying_key};
-ghost use Rattle.resolver_fetch.specs.Waiting.{place_order, retry_at};
+ghost use Rattle.resolver_fetch.specs.Waiting.{place_order};
 ghost use Rattle.resolver_fetch.specs.Stepping.{after_all, after_step, ask_for, expecting};
 
 use crate::fetcher::cursor::Cursor;
 use crate::fetcher::step::{Step, step_of};
 use crate::fetcher::trail::{Expected, Reason, Trail};
 use crate::fetcher::trying::{Next, Trying};
-use crate::fetcher::{Answer, Ask, Fetcher, ID, Place, Request};
+use crate::fetcher::{Answer, Ask, Fetcher, ID, Request};
 use resolver_base::base::Fault;
 use resolver_request::requests::Requests;
 use std::collections::btree_set::Range;
@@ -224,7 +224,7 @@ impl<K: Ord + Clone + Drop, P: Ord + Clone + Drop> Fetcher<K, P> {
         ensures ordered { IsStrictlySortedBy (pair_order place_order K.cmp) self.now.waiting }
         ensures only { IfErr result (λ fault. fault ≡ OutOfMemory) }
     {
-        match self.seek_behind(&cursor.trying.pair, cursor.moment, &cursor.trail)? {
+        match self.seek_behind(&cursor.trying, cursor.moment, &cursor.trail)? {
             Some(trying) => Ok(Next::Try(trying)),
             None => Ok(Next::Wait(cursor.trail.moment(cursor.moment, self.retry_delay))),
         }
@@ -248,7 +248,8 @@ impl<K: Ord + Clone + Drop, P: Ord + Clone + Drop> Fetcher<K, P> {
     {
         match put_request(&mut self.requests, &cursor, peer, id, self.fetch_timeout) {
             Ok(()) => {
-                self.pending.remove(&cursor.trying.pair.1);
+                self.pending
+                    .remove(&cursor.trying.pair.1, cursor.trying.is_retry);
                 Ok(None)
             }
             Err(fault) => {
@@ -319,17 +320,17 @@ impl<K: Ord + Clone + Drop, P: Ord + Clone + Drop> Fetcher<K, P> {
         if self.peers.none_askable() {
             return Ok(None);
         }
-        let fresh = self.pending.keys().range_from(Place::fresh(0))?;
-        if let Some(found) = self.first_until(fresh, Place::fresh(moment), trail)? {
+        let queue = self.pending.keys().fresh().range_from(0)?;
+        if let Some(found) = self.first_until(queue, false, moment, trail)? {
             return Ok(Some(found));
         }
         self.seek_retry(moment, trail)
     }
 
-    /// What a scan of this moment tries after this trail of the keys behind a waiting one.
+    /// What a scan of this moment tries after this trail of the keys behind the one that it tried.
     fn seek_behind(
         &self,
-        pair: &(Place, K),
+        tried: &Trying<K, P>,
         moment: u128,
         trail: &Trail<K, P>,
     ) -> Result<Option<Trying<K, P>>, Fault>
@@ -337,15 +338,18 @@ impl<K: Ord + Clone + Drop, P: Ord + Clone + Drop> Fetcher<K, P> {
         requires keys_clone { (x y : K) → K.is_clone x y → y ≡ x }
         requires peers_clone { (x y : P) → P.is_clone x y → y ≡ x }
         ensures ok { IfOk result (λ found. found ≡ tried_behind (orders K.cmp P.cmp) self.now
-            pair.now (scan_at moment trail.now)) }
+            (tried.now.place, tried.now.key) (scan_at moment trail.now)) }
         ensures ordered { IsStrictlySortedBy (pair_order place_order K.cmp) self.now.waiting }
         ensures only { IfErr result (λ fault. fault ≡ OutOfMemory) }
     {
-        let behind = self.pending.keys().range_after(pair);
-        if pair.0.is_retry {
-            return self.first_until(behind, Place::retry(moment), trail);
+        let keys = self.pending.keys();
+        keys.law();
+        if tried.is_retry {
+            let behind = keys.retry().range_after(&tried.pair);
+            return self.first_until(behind, true, moment, trail);
         }
-        if let Some(found) = self.first_until(behind, Place::fresh(moment), trail)? {
+        let behind = keys.fresh().range_after(&tried.pair);
+        if let Some(found) = self.first_until(behind, false, moment, trail)? {
             return Ok(Some(found));
         }
         self.seek_retry(moment, trail)
@@ -357,34 +361,35 @@ impl<K: Ord + Clone + Drop, P: Ord + Clone + Drop> Fetcher<K, P> {
         requires keys_clone { (x y : K) → K.is_clone x y → y ≡ x }
         requires peers_clone { (x y : P) → P.is_clone x y → y ≡ x }
         ensures ok { IfOk result (λ found. found ≡ first_until (orders K.cmp P.cmp) self.now
-            trail.now (retry_at moment) (from place_order (retry_at 0) self.now.waiting)) }
+            trail.now moment (placed true (retry_queue self.now.waiting))) }
         ensures only { IfErr result (λ fault. fault ≡ OutOfMemory) }
     {
-        let retries = self.pending.keys().range_from(Place::retry(0))?;
-        self.first_until(retries, Place::retry(moment), trail)
+        let queue = self.pending.keys().retry().range_from(0)?;
+        self.first_until(queue, true, moment, trail)
     }
 
-    /// The first of these waiting keys, up to a place, that has a peer left after this trail.
+    /// The first of these keys of a queue, up to a moment, that has a peer left after this trail.
     fn first_until(
         &self,
-        pairs: Range<'_, (Place, K)>,
-        last: Place,
+        queue: Range<'_, (u128, K)>,
+        is_retry: bool,
+        moment: u128,
         trail: &Trail<K, P>,
     ) -> Result<Option<Trying<K, P>>, Fault>
     where
         requires keys_clone { (x y : K) → K.is_clone x y → y ≡ x }
         requires peers_clone { (x y : P) → P.is_clone x y → y ≡ x }
-        requires ordered { IsStrictlySortedBy (pair_order place_order K.cmp) pairs }
-        requires runs { ShowsInOrder (deref {X = Place × K}) }
-        ensures ok { IfOk result (λ found. found
-            ≡ first_until (orders K.cmp P.cmp) self.now trail.now last pairs.entry) }
+        requires ordered { IsStrictlySortedBy (pair_order nat_cmp K.cmp) queue }
+        requires runs { ShowsInOrder (deref {X = ℕ × K}) }
+        ensures ok { IfOk result (λ found. found ≡ first_until (orders K.cmp P.cmp) self.now
+            trail.now moment (placed is_retry queue.entry)) }
         ensures only { IfErr result (λ fault. fault ≡ OutOfMemory) }
     {
-        for pair in pairs {
-            if pair.0.cmp(&last).is_gt() {
+        for pair in queue {
+            if pair.0 > moment {
                 return Ok(None);
             }
-            let trying = self.trying(pair, trail)?;
+            let trying = self.trying(pair, is_retry, trail)?;
             if !trying.left.is_empty() {
                 return Ok(Some(trying));
             }
@@ -393,19 +398,25 @@ impl<K: Ord + Clone + Drop, P: Ord + Clone + Drop> Fetcher<K, P> {
     }
 
     /// What there is to try of a waiting key after this trail.
-    fn trying(&self, pair: &(Place, K), trail: &Trail<K, P>) -> Result<Trying<K, P>, Fault>
+    fn trying(
+        &self,
+        pair: &(u128, K),
+        is_retry: bool,
+        trail: &Trail<K, P>,
+    ) -> Result<Trying<K, P>, Fault>
     where
         requires keys_clone { (x y : K) → K.is_clone x y → y ≡ x }
         requires peers_clone { (x y : P) → P.is_clone x y → y ≡ x }
-        ensures ok { IfOk result (λ trying. trying
-            ≡ trying_key (orders K.cmp P.cmp) self.now trail.now pair.now) }
+        ensures ok { IfOk result (λ trying. trying ≡ trying_key (orders K.cmp P.cmp) self.now
+            trail.now (record { is_retry = is_retry; due = pair.now.0 }, pair.now.1)) }
         ensures only { IfErr result (λ fault. fault ≡ OutOfMemory) }
     {
-        let (place, key) = pair;
+        let (due, key) = pair;
         let mut left = self.peers.eligible(self.targets.get(key))?;
         left.retain(|peer| !trail.was_tried(key, &peer.0));
         Ok(Trying {
-            pair: (*place, key.clone()?),
+            is_retry,
+            pair: (*due, key.clone()?),
             retries: self.retries(key),
             left,
         })

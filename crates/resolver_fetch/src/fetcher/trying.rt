@@ -4,7 +4,6 @@ ghost use Rattle.std.specs.Prelude.{◌≡◌, ◌==◌, length, sum};
 ghost use Rattle.std.specs.Option.{option_copied};
 ghost use Rattle.resolver_fetch.specs.Trying.{apart_from, at_place, at_weight, weights_of};
 
-use crate::fetcher::Place;
 use std::marker::Model;
 
 /// The key that a scan tries, and the peers that are left for it.
@@ -12,8 +11,10 @@ use std::marker::Model;
 /// A call takes time linear in the peers, unless it says otherwise.
 #[derive(Debug, Drop)]
 pub(super) struct Trying<K, P> {
-    /// The key, with the place at which it waits.
-    pub(super) pair: (Place, K),
+    /// Whether the key is tried again, or is fresh.
+    pub(super) is_retry: bool,
+    /// The key, with its due, as its queue has it.
+    pub(super) pair: (u128, K),
     pub(super) retries: u32,
     /// The peers that were not tried for it, in their order, with what they weigh.
     pub(super) left: Vec<(P, u64)>,
@@ -34,7 +35,7 @@ impl<K, P> Model for Trying<K, P> {
     ghost Value = { Trying K P };
 
     ghost view = { λ a. record {
-      place = a.pair.0;
+      place = record { is_retry = a.is_retry; due = a.pair.0 };
       key = a.pair.1;
       retries = a.retries;
       left = a.left.items;

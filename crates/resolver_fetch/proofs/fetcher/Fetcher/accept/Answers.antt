@@ -3,12 +3,19 @@ use Rattle.resolver_fetch.specs.declared.fetcher.cursor.Cursor.{Cursor}
 use Rattle.resolver_fetch.specs.Fetcher.{Fetcher}
 use Rattle.resolver_fetch.specs.Orders.{orders}
 use Rattle.resolver_fetch.proofs.Kept.{closed-any, kept-sent}
-use Rattle.resolver_fetch.proofs.Phases.{tried-apart}
+use Rattle.resolver_fetch.proofs.Phases.{tried-apart, tried-kind}
 use Rattle.resolver_fetch.proofs.fetcher.Fetcher.accept.Goals as goal
 
 pub put_request-requires-clause-new_key : goal.put_request-requires-clause-new_key
 put_request-requires-clause-new_key g c =
     rw (← c.self.view_is) at (tried-apart (orders g.K.Ord.cmp g.P.Ord.cmp) g.met.K.Ord.total c.args.self.now c.args.cursor.moment c.args.cursor.trail c.args.cursor.trying c.requires.right.tries (rw (← c.self.view_is) c.self.invariant.0.once))
+
+pub remove-requires : goal.remove-requires
+remove-requires g c =
+    let kind = rw (← c.self.view_is) at (tried-kind (orders g.K.Ord.cmp g.P.Ord.cmp) g.met.K.Ord.total c.args.self.now c.args.cursor.moment c.args.cursor.trail c.args.cursor.trying c.requires.right.tries (rw (← c.self.view_is) c.self.invariant.0.once)) in
+    let key = ap (λ (n : Cursor g.row.K.Denot g.row.P.Denot). n.trying.key) c.cursor.view_is in
+    let is_retry = ap (λ (n : Cursor g.row.K.Denot g.row.P.Denot). n.trying.place.is_retry) c.cursor.view_is in
+    rw (key, is_retry) (record { waits = kind })
 
 pub invariant_of-self : goal.invariant_of-self
 invariant_of-self g c =

@@ -1,55 +1,64 @@
-use Rattle.std.proofs.Common.{◌≡◌, ◌∙◌, ap, subst, sym, ◌<◌, ◌∷◌, Some, false, true, length, rules}
+use Rattle.std.proofs.Common.{◌≡◌, ◌∙◌, ap, subst, sym, ℕ, ◌<◌, ◌≤◌, ◌∷◌, Some, false, true, length, rules, arith}
+use Rattle.std.proofs.lemmas.Bool.Decides.{nat_tests}
 use Rattle.std.proofs.lemmas.Map.Keys.{sorted_tail}
-use Rattle.std.specs.Ordering.{is_gt}
+use Rattle.std.specs.Ordering.{nat_cmp}
+use Rattle.std.specs.Prelude.{nat_le}
 use Rattle.resolver_base.specs.Priorities.{pair_order}
 use Rattle.resolver_fetch.specs.Orders.{orders}
+use Rattle.resolver_fetch.specs.Queues.{placed}
 use Rattle.resolver_fetch.specs.Seeking.{first_until, trying_key}
 use Rattle.resolver_fetch.specs.Trying.{Trying}
-use Rattle.resolver_fetch.specs.Waiting.{place_order}
 use Rattle.resolver_fetch.proofs.Dues.{until-here, until-none, until-past}
 use Rattle.resolver_fetch.proofs.fetcher.Fetcher.first_until.Goals as goal
 
-pub returns-then-is_gt-clause-ok : goal.returns-then-is_gt-clause-ok
-returns-then-is_gt-clause-ok g c =
+past : (x y : ℕ) → y < x → nat_le x y ≡ false
+past x y more = grind (arith, nat_tests, more)
+
+due : (x y : ℕ) → x ≤ y → nat_le x y ≡ true
+due x y le = grind (arith, nat_tests, le)
+
+pub returns-then-pair-moment-clause-ok : goal.returns-then-pair-moment-clause-ok
+returns-then-pair-moment-clause-ok g c =
     let o = orders g.K.Ord.cmp g.P.Ord.cmp in
     let p = c.in-Some.pair.now in
-    let ps = c.next.new.self in
-    let list : c.loop-pair.pair-iterator ≡ p ∷ ps = search rules in
-    let gt : is_gt (place_order p.0 c.args.last) ≡ true = search rules in
-    sym (until-none o c.args.self.now c.args.trail.now c.args.last p ps (rw list at c.loop-pair.invariant.ordered) gt)
-    ∙ ap (first_until o c.args.self.now c.args.trail.now c.args.last) (sym list)
+    let queue = c.next.new.self in
+    let list : c.loop-pair.pair-iterator ≡ p ∷ queue = search rules in
+    let more : c.args.moment < p.0 = search rules in
+    sym (until-none o c.args.self.now c.args.trail.now c.args.moment c.args.is_retry p queue (rw list at c.loop-pair.invariant.ordered) (past p.0 c.args.moment more))
+    ∙ ap (λ ps. first_until o c.args.self.now c.args.trail.now c.args.moment (placed c.args.is_retry ps)) (sym list)
     ∙ c.loop-pair.invariant.first
 
 pub returns-then-not-is_empty-clause-ok : goal.returns-then-not-is_empty-clause-ok
 returns-then-not-is_empty-clause-ok g c =
     let o = orders g.K.Ord.cmp g.P.Ord.cmp in
     let p = c.in-Some.pair.now in
-    let ps = c.next.new.self in
-    let list : c.loop-pair.pair-iterator ≡ p ∷ ps = search rules in
-    let le : is_gt (place_order p.0 c.args.last) ≡ false = search rules in
-    let is : c.in_ok-trying.trying ≡ trying_key o c.args.self.now c.args.trail.now p = c.in_ok-trying.ensures.ok in
+    let queue = c.next.new.self in
+    let list : c.loop-pair.pair-iterator ≡ p ∷ queue = search rules in
+    let le : p.0 ≤ c.args.moment = search rules in
+    let is : c.in_ok-trying.trying ≡ trying_key o c.args.self.now c.args.trail.now (record { is_retry = c.args.is_retry; due = p.0 }, p.1) = c.in_ok-trying.ensures.ok in
     let some : 0 < length c.trying-in-loop-pair.inside.left.items = search rules in
-    let left : 0 < length (trying_key o c.args.self.now c.args.trail.now p).left =
+    let left : 0 < length (trying_key o c.args.self.now c.args.trail.now (record { is_retry = c.args.is_retry; due = p.0 }, p.1)).left =
     subst (λ (t : Trying g.row.K.Denot g.row.P.Denot). 0 < length t.left) (c.trying-in-loop-pair.view_is ∙ is) some in
     ap Some is
-    ∙ sym (until-here o c.args.self.now c.args.trail.now c.args.last p ps le left)
-    ∙ ap (first_until o c.args.self.now c.args.trail.now c.args.last) (sym list)
+    ∙ sym (until-here o c.args.self.now c.args.trail.now c.args.moment c.args.is_retry p queue (due p.0 c.args.moment le) left)
+    ∙ ap (λ ps. first_until o c.args.self.now c.args.trail.now c.args.moment (placed c.args.is_retry ps)) (sym list)
     ∙ c.loop-pair.invariant.first
 
 pub loop-pair-preserved : goal.loop-pair-preserved
 loop-pair-preserved g c =
     let o = orders g.K.Ord.cmp g.P.Ord.cmp in
     let p = c.in-Some.pair.now in
-    let ps = c.next.new.self in
-    let list : c.loop-pair.pair-iterator ≡ p ∷ ps = search rules in
-    let le : is_gt (place_order p.0 c.args.last) ≡ false = search rules in
-    let is : c.in_ok-trying.trying ≡ trying_key o c.args.self.now c.args.trail.now p = c.in_ok-trying.ensures.ok in
+    let queue = c.next.new.self in
+    let list : c.loop-pair.pair-iterator ≡ p ∷ queue = search rules in
+    let le : p.0 ≤ c.args.moment = search rules in
+    let is : c.in_ok-trying.trying ≡ trying_key o c.args.self.now c.args.trail.now (record { is_retry = c.args.is_retry; due = p.0 }, p.1) = c.in_ok-trying.ensures.ok in
     let none : length c.trying-in-loop-pair.inside.left.items ≡ 0 = search rules in
-    let left : length (trying_key o c.args.self.now c.args.trail.now p).left ≡ 0 = sym (ap (λ (t : Trying g.row.K.Denot g.row.P.Denot). length t.left) (c.trying-in-loop-pair.view_is ∙ is)) ∙ none in
+    let left : length (trying_key o c.args.self.now c.args.trail.now (record { is_retry = c.args.is_retry; due = p.0 }, p.1)).left ≡ 0 =
+    sym (ap (λ (t : Trying g.row.K.Denot g.row.P.Denot). length t.left) (c.trying-in-loop-pair.view_is ∙ is)) ∙ none in
     record {
-      ordered = sorted_tail (pair_order place_order g.K.Ord.cmp) p ps (rw list at c.loop-pair.invariant.ordered);
+      ordered = sorted_tail (pair_order nat_cmp g.K.Ord.cmp) p queue (rw list at c.loop-pair.invariant.ordered);
       first =
-          sym (until-past o c.args.self.now c.args.trail.now c.args.last p ps le left)
-          ∙ ap (first_until o c.args.self.now c.args.trail.now c.args.last) (sym list)
+          sym (until-past o c.args.self.now c.args.trail.now c.args.moment c.args.is_retry p queue (due p.0 c.args.moment le) left)
+          ∙ ap (λ ps. first_until o c.args.self.now c.args.trail.now c.args.moment (placed c.args.is_retry ps)) (sym list)
           ∙ c.loop-pair.invariant.first;
     }

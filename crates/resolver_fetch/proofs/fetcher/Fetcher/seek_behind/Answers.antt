@@ -1,45 +1,67 @@
-use Rattle.std.proofs.Common.{◌≡◌, ap, sym, ◌∙◌, None, rules}
+use Rattle.std.proofs.Common.{◌≡◌, ap, sym, ◌∙◌, true, false, None, rules}
 use Rattle.std.proofs.lemmas.Result.{IfOk-weaker}
+use Rattle.std.specs.Ordering.{nat_cmp}
 use Rattle.resolver_base.specs.Priorities.{after}
+use Rattle.resolver_fetch.specs.declared.fetcher.place.Place.{Place}
 use Rattle.resolver_fetch.specs.Fetcher.{Fetcher}
 use Rattle.resolver_fetch.specs.Orders.{orders}
-use Rattle.resolver_fetch.specs.Seeking.{first_until}
-use Rattle.resolver_fetch.specs.Waiting.{fresh_at, place_order, retry_at}
+use Rattle.resolver_fetch.specs.Queues.{IsQueued, fresh_queue, placed, retry_queue}
+use Rattle.resolver_fetch.specs.Seeking.{first_until, scan_at, tried_behind}
+use Rattle.resolver_fetch.specs.Trying.{Trying}
+use Rattle.resolver_fetch.specs.Waiting.{fresh_at, retry_at}
 use Rattle.resolver_fetch.proofs.Seeking.{behind-fresh, behind-fresh-retry, behind-retry}
 use Rattle.resolver_fetch.proofs.fetcher.Fetcher.seek_behind.Goals as goal
 
-pub returns-then-pair-clause-ok : goal.returns-then-pair-clause-ok
-returns-then-pair-clause-ok g c =
+pub returns-clause-ordered : goal.returns-clause-ordered
+returns-clause-ordered g c =
+    let waiting : c.keys-keys.result.now ≡ c.args.self.now.waiting = c.keys-keys.ensures ∙ ap (λ (f : Fetcher g.row.K.Denot g.row.P.Denot). f.waiting) c.self.view_is in
+    rw waiting at c.law.ensures
+
+pub returns-then-tried-clause-ok : goal.returns-then-tried-clause-ok
+returns-then-tried-clause-ok g c =
     let o = orders g.K.Ord.cmp g.P.Ord.cmp in
     let f = c.args.self.now in
-    let waiting : c.keys.result.now ≡ f.waiting = c.keys.ensures ∙ ap (λ (f : Fetcher g.row.K.Denot g.row.P.Denot). f.waiting) c.self.view_is in
-    let behind : c.range_after-behind.result ≡ after place_order g.K.Ord.cmp c.args.pair.now f.waiting = c.range_after-behind.ensures.rest ∙ ap (after place_order g.K.Ord.cmp c.args.pair.now) waiting in
-    let sorted = rw behind at c.range_after-behind.ensures.ordered in
+    let p = c.tried.inside.pair in
+    let waiting : c.keys-keys.result.now ≡ f.waiting = c.keys-keys.ensures ∙ ap (λ (f : Fetcher g.row.K.Denot g.row.P.Denot). f.waiting) c.self.view_is in
+    let queued : IsQueued f.waiting = rw waiting at c.retry.ensures.whole in
+    let behind : c.range_after-behind.result ≡ after nat_cmp g.K.Ord.cmp p (retry_queue f.waiting) =
+    c.range_after-behind.ensures.rest ∙ ap (after nat_cmp g.K.Ord.cmp p) (c.retry.ensures.keys ∙ ap retry_queue waiting) in
+    let place : (retry_at p.0, p.1) ≡ (c.args.tried.now.place, c.args.tried.now.key) =
+    ap (λ r. (record { is_retry = r; due = p.0 }, p.1)) (sym c.if-tried.true) ∙ ap (λ (t : Trying g.row.K.Denot g.row.P.Denot). (t.place, t.key)) c.tried.view_is in
     IfOk-weaker c.first_until.result _ _ (λ t it. it
-    ∙ ap (λ place. first_until o f c.args.trail.now place c.range_after-behind.result) c.retry.ensures
-    ∙ ap (first_until o f c.args.trail.now (retry_at c.args.moment)) behind
-    ∙ sym (behind-retry o f c.args.moment c.args.trail.now c.args.pair.now sorted c.if-pair.true)) c.first_until.ensures.ok
+    ∙ ap (λ ps. first_until o f c.args.trail.now c.args.moment (placed true ps)) behind
+    ∙ sym (behind-retry o f c.args.moment c.args.trail.now queued p)
+    ∙ ap (λ (q : Place × g.row.K.Denot). tried_behind o f q (scan_at c.args.moment c.args.trail.now)) place) c.first_until.ensures.ok
 
 pub returns-in-Some-clause-ok : goal.returns-in-Some-clause-ok
 returns-in-Some-clause-ok g c =
     let o = orders g.K.Ord.cmp g.P.Ord.cmp in
     let f = c.args.self.now in
-    let waiting : c.keys.result.now ≡ f.waiting = c.keys.ensures ∙ ap (λ (f : Fetcher g.row.K.Denot g.row.P.Denot). f.waiting) c.self.view_is in
-    let behind : c.range_after-behind.result ≡ after place_order g.K.Ord.cmp c.args.pair.now f.waiting = c.range_after-behind.ensures.rest ∙ ap (after place_order g.K.Ord.cmp c.args.pair.now) waiting in
-    let sorted = rw behind at c.range_after-behind.ensures.ordered in
-    let found : c.in_ok-found.field-0 ≡ first_until o f c.args.trail.now (fresh_at c.args.moment) (after place_order g.K.Ord.cmp c.args.pair.now f.waiting) =
-    c.in_ok-found.ensures.ok ∙ ap (λ place. first_until o f c.args.trail.now place c.range_after-behind.result) c.fresh.ensures ∙ ap (first_until o f c.args.trail.now (fresh_at c.args.moment)) behind in
-    sym (behind-fresh o f c.args.moment c.args.trail.now c.args.pair.now sorted c.if-pair.false c.in-Some.found (sym found ∙ c.in-Some.is))
+    let p = c.tried.inside.pair in
+    let waiting : c.keys-keys.result.now ≡ f.waiting = c.keys-keys.ensures ∙ ap (λ (f : Fetcher g.row.K.Denot g.row.P.Denot). f.waiting) c.self.view_is in
+    let queued : IsQueued f.waiting = rw waiting at c.fresh.ensures.whole in
+    let behind : c.range_after-behind-2.result ≡ after nat_cmp g.K.Ord.cmp p (fresh_queue f.waiting) =
+    c.range_after-behind-2.ensures.rest ∙ ap (after nat_cmp g.K.Ord.cmp p) (c.fresh.ensures.keys ∙ ap fresh_queue waiting) in
+    let place : (fresh_at p.0, p.1) ≡ (c.args.tried.now.place, c.args.tried.now.key) =
+    ap (λ r. (record { is_retry = r; due = p.0 }, p.1)) (sym c.if-tried.false) ∙ ap (λ (t : Trying g.row.K.Denot g.row.P.Denot). (t.place, t.key)) c.tried.view_is in
+    let found : c.in_ok-found.field-0 ≡ first_until o f c.args.trail.now c.args.moment (placed false (after nat_cmp g.K.Ord.cmp p (fresh_queue f.waiting))) =
+    c.in_ok-found.ensures.ok ∙ ap (λ ps. first_until o f c.args.trail.now c.args.moment (placed false ps)) behind in
+    sym (behind-fresh o f c.args.moment c.args.trail.now queued p c.in-Some.found (sym found ∙ c.in-Some.is))
+    ∙ ap (λ (q : Place × g.row.K.Denot). tried_behind o f q (scan_at c.args.moment c.args.trail.now)) place
 
 pub returns-clause-ok : goal.returns-clause-ok
 returns-clause-ok g c =
     let o = orders g.K.Ord.cmp g.P.Ord.cmp in
     let f = c.args.self.now in
-    let waiting : c.keys.result.now ≡ f.waiting = c.keys.ensures ∙ ap (λ (f : Fetcher g.row.K.Denot g.row.P.Denot). f.waiting) c.self.view_is in
-    let behind : c.range_after-behind.result ≡ after place_order g.K.Ord.cmp c.args.pair.now f.waiting = c.range_after-behind.ensures.rest ∙ ap (after place_order g.K.Ord.cmp c.args.pair.now) waiting in
-    let sorted = rw behind at c.range_after-behind.ensures.ordered in
-    let found : c.in_ok-found.field-0 ≡ first_until o f c.args.trail.now (fresh_at c.args.moment) (after place_order g.K.Ord.cmp c.args.pair.now f.waiting) =
-    c.in_ok-found.ensures.ok ∙ ap (λ place. first_until o f c.args.trail.now place c.range_after-behind.result) c.fresh.ensures ∙ ap (first_until o f c.args.trail.now (fresh_at c.args.moment)) behind in
+    let p = c.tried.inside.pair in
+    let waiting : c.keys-keys.result.now ≡ f.waiting = c.keys-keys.ensures ∙ ap (λ (f : Fetcher g.row.K.Denot g.row.P.Denot). f.waiting) c.self.view_is in
+    let queued : IsQueued f.waiting = rw waiting at c.fresh.ensures.whole in
+    let behind : c.range_after-behind-2.result ≡ after nat_cmp g.K.Ord.cmp p (fresh_queue f.waiting) =
+    c.range_after-behind-2.ensures.rest ∙ ap (after nat_cmp g.K.Ord.cmp p) (c.fresh.ensures.keys ∙ ap fresh_queue waiting) in
+    let place : (fresh_at p.0, p.1) ≡ (c.args.tried.now.place, c.args.tried.now.key) =
+    ap (λ r. (record { is_retry = r; due = p.0 }, p.1)) (sym c.if-tried.false) ∙ ap (λ (t : Trying g.row.K.Denot g.row.P.Denot). (t.place, t.key)) c.tried.view_is in
+    let found : c.in_ok-found.field-0 ≡ first_until o f c.args.trail.now c.args.moment (placed false (after nat_cmp g.K.Ord.cmp p (fresh_queue f.waiting))) =
+    c.in_ok-found.ensures.ok ∙ ap (λ ps. first_until o f c.args.trail.now c.args.moment (placed false ps)) behind in
     let none : c.in_ok-found.field-0 ≡ None = search rules in
-    let is = behind-fresh-retry o f c.args.moment c.args.trail.now c.args.pair.now sorted c.if-pair.false (sym found ∙ none) in
-    IfOk-weaker c.seek_retry.result _ _ (λ t it. it ∙ sym is) c.seek_retry.ensures.ok
+    let is = behind-fresh-retry o f c.args.moment c.args.trail.now queued p (sym found ∙ none) in
+    IfOk-weaker c.seek_retry.result _ _ (λ t it. it ∙ sym is ∙ ap (λ (q : Place × g.row.K.Denot). tried_behind o f q (scan_at c.args.moment c.args.trail.now)) place) c.seek_retry.ensures.ok

@@ -1,0 +1,14 @@
+use Rattle.std.proofs.Common.{◌≡◌, ap, ◌∙◌}
+use Rattle.resolver_fetch.specs.Fetcher.{Fetcher}
+use Rattle.resolver_fetch.specs.Queues.{retry_queue}
+use Rattle.resolver_fetch.proofs.fetcher.Fetcher.retry_queue.Goals as goal
+
+pub returns-clause-keys : goal.returns-clause-keys
+returns-clause-keys g c =
+    let waiting : c.keys.result.now ≡ c.args.self.now.waiting = c.keys.ensures ∙ ap (λ (f : Fetcher g.row.K.Denot g.row.P.Denot). f.waiting) c.self.view_is in
+    c.retry.ensures.keys ∙ ap retry_queue waiting
+
+pub returns-clause-whole : goal.returns-clause-whole
+returns-clause-whole g c =
+    let waiting : c.keys.result.now ≡ c.args.self.now.waiting = c.keys.ensures ∙ ap (λ (f : Fetcher g.row.K.Denot g.row.P.Denot). f.waiting) c.self.view_is in
+    rw waiting at c.retry.ensures.whole
