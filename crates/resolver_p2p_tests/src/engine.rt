@@ -26,7 +26,11 @@ type Silent<R> = Engine<
     R,
 >;
 
+/// What it takes.
 type Taken = Input<Key, Peer, u16, All>;
+
+/// What it answers.
+type Answered = Result<Vec<Effect<Key, Peer, u16>>, Fault>;
 
 /// An engine that is called 9, with a timeout of 50 and a delay of 10.
 fn open<R: Copy>(rt: R, alloc: Global) -> Result<Silent<R>, Fault> {
@@ -109,10 +113,7 @@ fn spell_effect(text: &mut String, effect: &Effect<Key, Peer, u16>) -> Result<()
 }
 
 /// Writes an answer on its line.
-fn spell_answer(
-    text: &mut String,
-    answer: &Result<Vec<Effect<Key, Peer, u16>>, Fault>,
-) -> Result<(), Fail> {
+fn spell_answer(text: &mut String, answer: &Answered) -> Result<(), Fail> {
     match answer {
         Ok(effects) => {
             for effect in effects {
@@ -141,9 +142,14 @@ fn spell_row(text: &mut String, row: &Row<Key, u16, Peer>) -> Result<(), Fail> {
     Ok(())
 }
 
+fn rows_of<R>(engine: &Silent<R>) -> Result<Vec<Row<Key, u16, Peer>>, Fault> {
+    engine.rows()
+}
+
 /// Writes the rows and both deadlines.
 fn spell_state<R>(text: &mut String, engine: &Silent<R>) -> Result<(), Fail> {
-    for row in engine.rows()?.as_slice() {
+    let rows = rows_of(engine)?;
+    for row in &rows {
         spell_row(text, row)?;
     }
     let wake = engine.get_pending_deadline();
@@ -168,37 +174,51 @@ key 1 subs 10:7 retries 0 asked 1234 4 50
 wake None timeout Some(50)
 ";
 
+fn take<R>(engine: &mut Silent<R>, input: Taken) -> Answered {
+    engine.step(input)
+}
+
+fn take_all<R>(engine: &mut Silent<R>, inputs: Vec<Taken>) -> Result<Vec<Answered>, Fault> {
+    engine.run(inputs)
+}
+
 /// The inputs one by one.
-fn steps(rt: HostRuntime, alloc: Global) -> Result<String, Fail> {
-    let mut engine = open(rt, alloc)?;
-    let mut text = String::new(alloc);
-    for input in inputs(alloc)? {
-        let answer = engine.step(input);
-        spell_answer(&mut text, &answer)?;
+fn step_by_step<R>(text: &mut String, engine: &mut Silent<R>) -> Result<(), Fail> {
+    for input in inputs(*text.allocator())? {
+        let answer = take(engine, input);
+        spell_answer(text, &answer)?;
     }
-    spell_state(&mut text, &engine)?;
-    Ok(text)
+    spell_state(text, engine)
 }
 
 /// The inputs in one run.
-fn runs(rt: HostRuntime, alloc: Global) -> Result<String, Fail> {
-    let mut engine = open(rt, alloc)?;
-    let mut text = String::new(alloc);
-    for answer in engine.run(inputs(alloc)?)?.as_slice() {
-        spell_answer(&mut text, answer)?;
+fn in_one_run<R>(text: &mut String, engine: &mut Silent<R>) -> Result<(), Fail> {
+    let inputs = inputs(*text.allocator())?;
+    let answers = take_all(engine, inputs)?;
+    for answer in &answers {
+        spell_answer(text, answer)?;
     }
-    spell_state(&mut text, &engine)?;
-    Ok(text)
+    spell_state(text, engine)
 }
 
 #[test]
 fn peer_refusals_step_by_step(rt: HostRuntime) -> Result<(), Fail> {
-    assert_eq!(rt; steps(rt, rt.alloc())?.as_str(), PRINTED);
+    let mut engine = open(rt, rt.alloc())?;
+    let mut text = String::new(rt.alloc());
+    let ended = step_by_step(&mut text, &mut engine);
+    drop(engine);
+    ended?;
+    assert_eq!(rt; text.as_str(), PRINTED);
     Ok(())
 }
 
 #[test]
 fn peer_refusals_in_one_run(rt: HostRuntime) -> Result<(), Fail> {
-    assert_eq!(rt; runs(rt, rt.alloc())?.as_str(), PRINTED);
+    let mut engine = open(rt, rt.alloc())?;
+    let mut text = String::new(rt.alloc());
+    let ended = in_one_run(&mut text, &mut engine);
+    drop(engine);
+    ended?;
+    assert_eq!(rt; text.as_str(), PRINTED);
     Ok(())
 }
