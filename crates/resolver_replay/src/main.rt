@@ -5,12 +5,15 @@
 //! can't be read, and with 1 after a fault, which standard error names.
 #![tactic(auto)]
 
+mod endings;
 mod kept;
+mod opaque;
+mod peers;
 mod print;
 mod replay;
 mod script;
 
-use replay::{Ending, Fault};
+use endings::{Ending, Fault};
 use std::io;
 use std::io::{BufReader, BufWriter};
 use std::process::ExitCode;

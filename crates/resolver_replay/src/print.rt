@@ -1,33 +1,46 @@
 //! Effects and rows as lines.
 
+pub mod opaque;
+pub mod peers;
+
+use crate::endings::{Fault, written};
 use bytes::Bytes;
-use resolver::opaque::{Effect, Phase, Row};
 use resolver::p2p::mocks::Key;
+use resolver::{Delivery, base};
 use std::io;
 use std::io::Write;
 
-/// Prints an effect as one line.
-pub fn effect<W: Write>(output: &mut W, effect: &Effect<Key, Bytes, u16>) -> io::Result<()> {
-    match effect {
-        Effect::Start { attempt, key } => writeln!(output, "start {attempt} {}", key.0),
-        Effect::Abort { attempt } => writeln!(output, "abort {attempt}"),
-        Effect::Deliver {
-            number,
-            response,
-            delivery,
-            value,
-        } => {
-            write!(output, "deliver {number} {} ", delivery.key.0)?;
-            subscribers(output, delivery.subscribers.as_slice())?;
-            write!(output, " ")?;
-            bytes(output, value.as_slice())?;
-            if response != number {
-                write!(output, " again {response}")?;
-            }
-            writeln!(output)
-        }
-        Effect::Cancel { number } => writeln!(output, "cancel {number}"),
+/// Prints a refusal as one line.
+pub fn refusal<W: Write>(output: &mut W, fault: base::Fault) -> Result<(), Fault> {
+    let number = fault.number();
+    let name = fault.name();
+    written(writeln!(output, "refused {number} {name}"))
+}
+
+/// Prints the wake-up as one line.
+pub fn wake<W: Write>(output: &mut W, wake: Option<u128>) -> Result<(), Fault> {
+    written(match wake {
+        Some(moment) => writeln!(output, "wake {moment}"),
+        None => writeln!(output, "wake none"),
+    })
+}
+
+/// Prints a delivery as one line.
+fn deliver<W: Write>(
+    output: &mut W,
+    number: u64,
+    response: u64,
+    delivery: &Delivery<Key, u16>,
+    value: &Bytes,
+) -> io::Result<()> {
+    write!(output, "deliver {number} {} ", delivery.key.0)?;
+    subscribers(output, delivery.subscribers.as_slice())?;
+    write!(output, " ")?;
+    bytes(output, value.as_slice())?;
+    if response != number {
+        write!(output, " again {response}")?;
     }
+    writeln!(output)
 }
 
 /// Prints the subscribers' names, joined by commas.
@@ -49,25 +62,13 @@ fn bytes<W: Write>(output: &mut W, bytes: &[u8]) -> io::Result<()> {
     Ok(())
 }
 
-/// Prints a demanded key as one line.
-pub fn row<W: Write>(output: &mut W, row: &Row<Key, u16>) -> io::Result<()> {
-    write!(output, "key {} subs ", row.key.0)?;
+/// Prints a demanded key, and its subscribers with their marks, joined by commas.
+fn demand<W: Write>(output: &mut W, key: Key, subscribers: &[(u16, u64)]) -> io::Result<()> {
+    write!(output, "key {} subs ", key.0)?;
     let mut comma = "";
-    for (subscriber, mark) in row.subscribers.as_slice() {
+    for (subscriber, mark) in subscribers {
         write!(output, "{comma}{subscriber}:{mark}")?;
         comma = ",";
     }
-    match row.phase {
-        Phase::Waiting { due } => writeln!(output, " phase waiting {due}"),
-        Phase::Asked { attempt } => writeln!(output, " phase asked {attempt}"),
-        Phase::Judged { number } => writeln!(output, " phase judged {number}"),
-    }
-}
-
-/// Prints the wake-up as one line.
-pub fn wake<W: Write>(output: &mut W, wake: Option<u128>) -> io::Result<()> {
-    match wake {
-        Some(moment) => writeln!(output, "wake {moment}"),
-        None => writeln!(output, "wake none"),
-    }
+    Ok(())
 }

@@ -1,81 +1,25 @@
 //! A script from its first line to its last.
 
-ghost use Rattle.std.specs.Prelude.{◌≡◌};
-ghost use Rattle.resolver_replay.specs.declared.replay.Fault.TheVariants.{Memory};
-
-use crate::kept::Kept;
-use crate::print;
-use crate::script::{Command, Moment, Unread, is_skipped, parse};
-use bytes::Bytes;
-use resolver::base::NonEmptyVec;
-use resolver::ingress::FetchKey;
-use resolver::opaque::{Actor, Effect, Event, Input};
-use resolver::p2p::mocks::Key;
-use std::alloc::{AllocError, AllocFailed, Global};
-use std::io;
+use crate::endings::{Ending, Fault, written};
+use crate::opaque::Opaque;
+use crate::peers::Peers;
+use crate::script::{Command, Moment, Said, Unread, is_skipped, parse};
+use resolver::p2p::fetcher::Answer;
+use std::alloc::Global;
 use std::io::{BufRead, BufReader, ErrorKind, Read, Write};
-use thiserror::Error;
 
-/// How a script ended.
-#[derive(Clone, Copy, Debug, PartialEq, Eq)]
-pub enum Ending {
-    /// All its lines were read.
-    End,
-    /// A line can't be read. This was said, and nothing is read after it.
-    Unreadable,
+/// The machine that a script feeds.
+#[derive(Drop)]
+enum Machine {
+    Opaque(Opaque),
+    Peers(Peers),
 }
 
-impl Ending {
-    /// The program's status.
-    pub fn status(self) -> u8 {
-        match self {
-            Ending::End => 0,
-            Ending::Unreadable => 2,
-        }
-    }
-}
-
-/// Why a script could not be read to its end.
-#[derive(Clone, Copy, Debug, PartialEq, Eq, Error)]
-pub enum Fault {
-    #[error("input")]
-    Input,
-    #[error("output")]
-    Output,
-    #[error("memory")]
-    Memory,
-}
-
-impl From<AllocError> for Fault {
-    ghost from_gives = { λ _ fault. fault ≡ Memory };
-
-    fn from(_: AllocError) -> Fault {
-        Fault::Memory
-    }
-}
-
-impl<T: Drop> From<AllocFailed<T>> for Fault {
-    ghost from_gives = { λ _ fault. fault ≡ Memory };
-
-    fn from(_: AllocFailed<T>) -> Fault {
-        Fault::Memory
-    }
-}
-
-/// An error of the output.
-fn written(done: io::Result<()>) -> Result<(), Fault> {
-    done.map_err(|error| match error.kind() {
-        ErrorKind::OutOfMemory => Fault::Memory,
-        _ => Fault::Output,
-    })
-}
-
-/// The machine that a script feeds, and the moment of its next input.
+/// The machine that a script opened, and the moment of its next input.
 #[derive(Drop)]
 struct Session {
-    actor: Actor<Key, Bytes, u16, Kept>,
+    machine: Machine,
     now: Moment,
-    alloc: Global,
 }
 
 /// Reads the script, feeds its inputs one after another, and prints what comes of each before more
@@ -158,93 +102,71 @@ fn take_line<W: Write>(
 
 /// Opens the machine. False where the line is another command.
 fn start(alloc: Global, session: &mut Option<Session>, command: Command) -> bool {
-    let Command::Opaque { delay } = command else {
+    let Some(machine) = opened(alloc, command) else {
         return false;
     };
     *session = Some(Session {
-        actor: Actor::new(alloc, delay.nanoseconds),
+        machine,
         now: Moment { nanoseconds: 0 },
-        alloc,
     });
     true
+}
+
+/// The machine that a command opens.
+fn opened(alloc: Global, command: Command) -> Option<Machine> {
+    match command {
+        Command::Opaque { delay } => Some(Machine::Opaque(Opaque::new(alloc, delay))),
+        Command::Peers(timing) => Some(Machine::Peers(Peers::new(alloc, timing))),
+        _ => None,
+    }
 }
 
 impl Session {
     /// Does what a command says. False where it may not stand here.
     fn take<W: Write>(&mut self, command: Command, output: &mut W) -> Result<bool, Fault> {
         match command {
-            Command::Opaque { .. } => return Ok(false),
-            Command::At(moment) => self.now = moment,
-            Command::Fetch {
-                key,
-                subscriber,
-                mark,
-            } => {
-                let fetch = self.fetch(key, subscriber, mark)?;
-                self.step(fetch, output)?;
+            Command::Opaque { .. } | Command::Peers(_) => Ok(false),
+            Command::At(moment) => {
+                self.now = moment;
+                Ok(true)
             }
-            Command::Fetched { attempt, value } => {
-                self.step(Event::Fetched { attempt, value }, output)?
-            }
-            Command::Verdict { number, outcome } => {
-                self.step(Event::Verdict { number, outcome }, output)?
-            }
-            Command::Retain(kept) => self.step(Event::Retain(kept), output)?,
-            Command::Wake => self.step(Event::RetriesDue, output)?,
-            Command::Stop => self.step(Event::End, output)?,
-            Command::Show => self.show(output)?,
+            Command::Show => self.machine.show(output),
+            Command::Happens(said) => self.machine.happens(self.now, said, output),
+            Command::Answers(answer) => self.machine.answers(answer, output),
+        }
+    }
+}
+
+impl Machine {
+    fn show<W: Write>(&self, output: &mut W) -> Result<bool, Fault> {
+        match self {
+            Machine::Opaque(actor) => actor.show(output)?,
+            Machine::Peers(engine) => engine.show(output)?,
         }
         Ok(true)
     }
 
-    fn fetch(
-        &self,
-        key: u8,
-        subscriber: u16,
-        mark: u64,
-    ) -> Result<Event<Key, Bytes, u16, Kept>, Fault> {
-        let item = FetchKey {
-            key: Key(key),
-            subscribers: NonEmptyVec::new(self.alloc, (subscriber, mark))?,
-            metadata: (),
-        };
-        let mut items = Vec::new(self.alloc);
-        items.push(item)?;
-        Ok(Event::Fetch(items))
+    fn happens<W: Write>(
+        &mut self,
+        now: Moment,
+        said: Said,
+        output: &mut W,
+    ) -> Result<bool, Fault> {
+        match self {
+            Machine::Opaque(actor) => actor.happens(now, said, output),
+            Machine::Peers(engine) => engine.happens(now, said, output),
+        }
     }
 
-    /// Feeds an input, and prints its effects or its refusal.
-    fn step<W: Write>(
-        &mut self,
-        event: Event<Key, Bytes, u16, Kept>,
-        output: &mut W,
-    ) -> Result<(), Fault> {
-        let now = self.now.nanoseconds;
-        match self.actor.step(Input { now, event }) {
-            Ok(effects) => print_all(&effects, output),
-            Err(fault) => {
-                let number = fault.number();
-                let name = fault.name();
-                written(writeln!(output, "refused {number} {name}"))
+    fn answers<W: Write>(&mut self, answer: Answer, output: &mut W) -> Result<bool, Fault> {
+        match self {
+            Machine::Opaque(_) => Ok(false),
+            Machine::Peers(engine) => {
+                engine.answers(answer, output)?;
+                Ok(true)
             }
         }
     }
-
-    /// Prints the rows and the wake-up.
-    fn show<W: Write>(&self, output: &mut W) -> Result<(), Fault> {
-        let rows = self.actor.rows().map_err(|_| Fault::Memory)?;
-        for row in &rows {
-            written(print::row(output, row))?;
-        }
-        written(print::wake(output, self.actor.next_retry()))
-    }
-}
-
-fn print_all<W: Write>(effects: &[Effect<Key, Bytes, u16>], output: &mut W) -> Result<(), Fault> {
-    for effect in effects {
-        written(print::effect(output, effect))?;
-    }
-    Ok(())
 }
 
 #[cfg(test)]

@@ -1,15 +1,18 @@
 //! The lines of a script.
 
-ghost use Rattle.std.specs.Prelude.{◌≡◌, ◌≤◌, ◌<◌, ◌^◌, IfOk};
-ghost use Rattle.std.specs.Option.{option_copied};
+ghost use Rattle.std.specs.Prelude.{◌≡◌, ◌<◌, ◌^◌};
 ghost use Rattle.resolver_replay.specs.declared.script.Unread.TheVariants.{OutOfMemory};
-ghost use Rattle.resolver_replay.specs.Numbers.{is_plain, number_of};
-ghost use Rattle.std.specs.Char.{is_ascii_digit};
-ghost use Rattle.std.specs.List.{list_all};
+
+mod fields;
+mod inputs;
 
 use crate::kept::Kept;
 use bytes::Bytes;
-use resolver::{Outcome, Resolution};
+use fields::{moment, peer, timeout};
+use inputs::{of_both_machines, of_peers, of_scans, of_sources};
+use resolver::Outcome;
+use resolver::base::NonEmptyVec;
+use resolver::p2p::fetcher::Answer;
 use std::alloc::{AllocError, AllocFailed, Global};
 use std::str;
 use std::str::Split;
@@ -21,39 +24,87 @@ pub struct Moment {
     ghost in_range: { nanoseconds < 2 ^ 94 },
 }
 
+/// How an engine that fetches from peers asks them, in nanoseconds.
+#[derive(Clone, Copy, Debug, PartialEq, Eq)]
+pub struct Timing {
+    /// The local peer, if there is one.
+    pub me: Option<u8>,
+    /// How long a request may take.
+    pub timeout: u128,
+    /// How long a key waits before it is tried again.
+    pub delay: u128,
+    ghost positive: { 0 < timeout },
+    ghost timeout_in_range: { timeout < 2 ^ 94 },
+    ghost delay_in_range: { delay < 2 ^ 94 },
+}
+
 /// What a line says.
 #[derive(Debug, Drop)]
 pub enum Command {
     /// `opaque DELAY`: a new actor.
-    Opaque {
-        delay: Moment,
-    },
+    Opaque { delay: Moment },
+    /// `p2p ME TIMEOUT DELAY`: a new engine.
+    Peers(Timing),
     /// `at T`: the moment from now on.
     At(Moment),
-    /// `fetch K S M`: a subscriber wants a key.
-    Fetch {
-        key: u8,
-        subscriber: u16,
-        mark: u64,
-    },
-    /// `fetched A BYTES` or `fetched A none`: what the source answered.
-    Fetched {
-        attempt: u64,
-        value: Option<Bytes>,
-    },
+    /// `show`: prints the rows and the wake-up.
+    Show,
+    /// Something happened.
+    Happens(Said),
+    /// `drawn N`, `checked clear`, `checked T`, `sent accepted` and `sent refused`: what the open
+    /// scan asked is answered.
+    Answers(Answer),
+}
+
+/// What a line says that happened.
+#[derive(Debug, Drop)]
+pub enum Said {
+    /// `fetch K S M` and `fetch K S M LIST`: a subscriber wants a key.
+    Fetch(Wish),
+    /// `keep-sub S` and `drop-key K`: subscribers want their keys no more.
+    Retain(Kept),
     /// `verdict N W`: what the consumer said, or nothing where it dropped the delivery.
     Verdict {
         number: u64,
         outcome: Option<Outcome>,
     },
-    /// `keep-sub S` and `drop-key K`: subscribers want their keys no more.
-    Retain(Kept),
-    /// `wake`: the waiting keys that are due are asked for again.
+    /// `wake`: it is time to ask for keys that wait.
     Wake,
     /// `stop`: nothing is wanted any more.
     Stop,
-    /// `show`: prints the rows and the wake-up.
-    Show,
+    /// `fetched A BYTES` or `fetched A none`: what the opaque source answered.
+    Fetched {
+        attempt: u64,
+        value: Option<Bytes>,
+    },
+    /// `timeout`: a request's time is over.
+    Timeout,
+    /// `peers INDEX LIST`: the peers of a set.
+    Peers {
+        index: u64,
+        peers: Vec<u8>,
+    },
+    /// `blocked LIST`: all peers that are blocked.
+    Blocked(Vec<u8>),
+    /// `net P BYTES`: what a peer sent.
+    Net {
+        peer: u8,
+        bytes: Bytes,
+    },
+    /// `served N BYTES` or `served N dropped`: what the producer has for a peer's request.
+    Served {
+        serve: u64,
+        value: Option<Bytes>,
+    },
+}
+
+/// A subscriber that wants a key, and the peers that it names for it, if it names some.
+#[derive(Debug, Drop)]
+pub struct Wish {
+    pub key: u8,
+    pub subscriber: u16,
+    pub mark: u64,
+    pub targets: Option<NonEmptyVec<u8>>,
 }
 
 /// Why a line was not read.
@@ -89,112 +140,66 @@ pub fn is_skipped(line: &[u8]) -> bool {
 pub fn parse(alloc: Global, line: &[u8]) -> Result<Command, Unread> {
     let text = str::from_utf8(line).map_err(|_| Unread::Unreadable)?;
     let mut fields = text.split(' ');
-    let command = match fields.next() {
-        Some("opaque") => Command::Opaque {
-            delay: read_moment(fields.next())?,
-        },
-        Some("at") => Command::At(read_moment(fields.next())?),
-        Some("fetch") => fetch(&mut fields)?,
-        Some("fetched") => fetched(alloc, &mut fields)?,
-        Some("verdict") => verdict(&mut fields)?,
-        Some("keep-sub") => Command::Retain(Kept::Subscriber(subscriber(fields.next())?)),
-        Some("drop-key") => Command::Retain(Kept::AllBut(key(fields.next())?)),
-        Some("wake") => Command::Wake,
-        Some("stop") => Command::Stop,
-        Some("show") => Command::Show,
-        _ => return Err(Unread::Unreadable),
-    };
+    let word = fields.next().ok_or(Unread::Unreadable)?;
+    let command = read_command(alloc, word, &mut fields)?;
     match fields.next() {
         None => Ok(command),
         Some(_) => Err(Unread::Unreadable),
     }
 }
 
-fn fetch(fields: &mut Split<'_, char>) -> Result<Command, Unread> {
-    let key = key(fields.next())?;
-    let subscriber = subscriber(fields.next())?;
-    let mark = number(fields.next(), u128::from(u64::MAX))? as u64;
-    Ok(Command::Fetch {
-        key,
-        subscriber,
-        mark,
-    })
+/// What a line says that begins with this word.
+fn read_command(
+    alloc: Global,
+    word: &str,
+    fields: &mut Split<'_, char>,
+) -> Result<Command, Unread> {
+    if let Some(command) = of_the_script(word, fields)? {
+        return Ok(command);
+    }
+    if let Some(answer) = of_scans(word, fields)? {
+        return Ok(Command::Answers(answer));
+    }
+    match read_said(alloc, word, fields)? {
+        Some(said) => Ok(Command::Happens(said)),
+        None => Err(Unread::Unreadable),
+    }
 }
 
-fn fetched(alloc: Global, fields: &mut Split<'_, char>) -> Result<Command, Unread> {
-    let attempt = number(fields.next(), u128::from(u64::MAX))? as u64;
-    let value = match fields.next() {
-        Some("none") => None,
-        field => Some(bytes(alloc, field)?),
+/// What a line says that opens a machine, or that no machine is fed, if its word does so.
+fn of_the_script(word: &str, fields: &mut Split<'_, char>) -> Result<Option<Command>, Unread> {
+    Ok(Some(match word {
+        "opaque" => Command::Opaque {
+            delay: moment(fields.next())?,
+        },
+        "p2p" => Command::Peers(read_timing(fields)?),
+        "at" => Command::At(moment(fields.next())?),
+        "show" => Command::Show,
+        _ => return Ok(None),
+    }))
+}
+
+fn read_timing(fields: &mut Split<'_, char>) -> Result<Timing, Unread> {
+    let me = match fields.next() {
+        Some("-") => None,
+        field => Some(peer(field)?),
     };
-    Ok(Command::Fetched { attempt, value })
+    let timeout = timeout(fields.next())?;
+    let delay = moment(fields.next())?.nanoseconds;
+    Ok(Timing { me, timeout, delay })
 }
 
-fn verdict(fields: &mut Split<'_, char>) -> Result<Command, Unread> {
-    let number = number(fields.next(), u128::from(u64::MAX))? as u64;
-    let outcome = match fields.next() {
-        Some("complete") => Some(Outcome::Resolved(Resolution::Complete)),
-        Some("partial") => Some(Outcome::Resolved(Resolution::Partial)),
-        Some("unresolved") => Some(Outcome::Unresolved),
-        Some("invalid") => Some(Outcome::Invalid),
-        Some("ignored") => Some(Outcome::Ignored),
-        Some("dropped") => None,
-        _ => return Err(Unread::Unreadable),
-    };
-    Ok(Command::Verdict { number, outcome })
-}
-
-fn key(field: Option<&str>) -> Result<u8, Unread> {
-    Ok(number(field, u128::from(u8::MAX))? as u8)
-}
-
-fn subscriber(field: Option<&str>) -> Result<u16, Unread> {
-    Ok(number(field, u128::from(u16::MAX))? as u16)
-}
-
-/// A decimal number up to `most`, without sign or leading zeros.
-fn number(field: Option<&str>, most: u128) -> Result<u128, Unread>
-    ensures is { result ≡ number_of (option_copied field.entry) most }
-    ensures limit { IfOk result (λ n. n ≤ most) }
-{
-    let digits = field.ok_or(Unread::Unreadable)?;
-    if !is_plain(digits.as_bytes()) {
-        return Err(Unread::Unreadable);
+/// What a line says that happened, if its word says so.
+fn read_said(
+    alloc: Global,
+    word: &str,
+    fields: &mut Split<'_, char>,
+) -> Result<Option<Said>, Unread> {
+    if let Some(said) = of_both_machines(alloc, word, fields)? {
+        return Ok(Some(said));
     }
-    match digits.parse::<u128>() {
-        Ok(n) if n <= most => Ok(n),
-        _ => Err(Unread::Unreadable),
+    if let Some(said) = of_sources(alloc, word, fields)? {
+        return Ok(Some(said));
     }
-}
-
-/// Whether these are the digits of a number that has no leading zeros.
-fn is_plain(digits: &[u8]) -> bool
-    ensures { result ≡ is_plain digits.now }
-{
-    let is_padded = digits.len() > 1 && digits[0] == b'0';
-    !digits.is_empty() && !is_padded && are_digits(digits)
-}
-
-/// Whether each byte is a decimal digit.
-fn are_digits(bytes: &[u8]) -> bool
-    ensures { result ≡ list_all is_ascii_digit bytes.now }
-{
-    bytes.iter().all(|byte| byte.is_ascii_digit())
-}
-
-fn read_moment(field: Option<&str>) -> Result<Moment, Unread> {
-    let nanoseconds = number(field, (1 << 94) - 1)?;
-    Ok(Moment { nanoseconds })
-}
-
-/// Bytes as `x` and hexadecimal digits of either case, two a byte.
-fn bytes(alloc: Global, field: Option<&str>) -> Result<Bytes, Unread> {
-    let digits = field
-        .and_then(|text| text.strip_prefix('x'))
-        .ok_or(Unread::Unreadable)?;
-    match hex::decode(alloc, digits) {
-        Ok(bytes) => Ok(Bytes::from_vec(bytes)?),
-        Err(hex::FromHexError::OutOfMemory) => Err(Unread::OutOfMemory),
-        Err(_) => Err(Unread::Unreadable),
-    }
+    of_peers(alloc, word, fields)
 }

@@ -1,5 +1,11 @@
 use super::*;
 use std::test::Fail;
+use std::{io, str};
+
+mod peers;
+mod scans;
+mod unreadable;
+mod worked;
 
 /// What a script prints, and how it ended.
 fn replayed(alloc: Global, script: &[u8]) -> io::Result<(Vec<u8>, Result<Ending, Fault>)> {
@@ -125,9 +131,8 @@ fn scripts(rt: HostRuntime) -> Result<(), Fail> {
 }
 
 /// Scripts with a line that can't be read, and what they print.
-const UNREADABLE: [(&[u8], &[u8]); 43] = [
+const UNREADABLE: [(&[u8], &[u8]); 42] = [
     (b"show\n", b"line 1 unreadable\n"),
-    (b"p2p 9 50 10\n", b"line 1 unreadable\n"),
     (b"\n# \nfetch 1 10 7\n", b"line 3 unreadable\n"),
     (b"opaque 1\nopaque 1\nshow\n", b"line 2 unreadable\n"),
     (

@@ -1,0 +1,96 @@
+//! Scripts that feed the actor, which fetches from an opaque source.
+
+use crate::endings::{Fault, written};
+use crate::kept::Kept;
+use crate::print;
+use crate::script::{Moment, Said, Wish};
+use bytes::Bytes;
+use resolver::base::NonEmptyVec;
+use resolver::ingress::FetchKey;
+use resolver::opaque::{Actor, Effect, Event, Input};
+use resolver::p2p::mocks::Key;
+use std::alloc::Global;
+use std::io::Write;
+
+/// What the actor takes.
+type Taken = Event<Key, Bytes, u16, Kept>;
+
+/// The actor that a script opened.
+#[derive(Drop)]
+pub struct Opaque {
+    actor: Actor<Key, Bytes, u16, Kept>,
+    alloc: Global,
+}
+
+impl Opaque {
+    /// A new actor.
+    pub fn new(alloc: Global, delay: Moment) -> Self {
+        Opaque {
+            actor: Actor::new(alloc, delay.nanoseconds),
+            alloc,
+        }
+    }
+
+    /// Feeds what happened, and prints the effects or the refusal. False where it doesn't happen to
+    /// this machine.
+    pub fn happens<W: Write>(
+        &mut self,
+        now: Moment,
+        said: Said,
+        output: &mut W,
+    ) -> Result<bool, Fault> {
+        let Some(event) = event_of(self.alloc, said)? else {
+            return Ok(false);
+        };
+        let now = now.nanoseconds;
+        match self.actor.step(Input { now, event }) {
+            Ok(effects) => print_all(&effects, output)?,
+            Err(fault) => print::refusal(output, fault)?,
+        }
+        Ok(true)
+    }
+
+    /// Prints the rows and the wake-up.
+    pub fn show<W: Write>(&self, output: &mut W) -> Result<(), Fault> {
+        let rows = self.actor.rows().map_err(|_| Fault::Memory)?;
+        for row in &rows {
+            written(print::opaque::row(output, row))?;
+        }
+        print::wake(output, self.actor.next_retry())
+    }
+}
+
+/// What the actor takes, if this happens to it.
+fn event_of(alloc: Global, said: Said) -> Result<Option<Taken>, Fault> {
+    Ok(Some(match said {
+        Said::Fetch(wish) => return fetch(alloc, &wish),
+        Said::Retain(kept) => Event::Retain(kept),
+        Said::Verdict { number, outcome } => Event::Verdict { number, outcome },
+        Said::Wake => Event::RetriesDue,
+        Said::Stop => Event::End,
+        Said::Fetched { attempt, value } => Event::Fetched { attempt, value },
+        _of_peers => return Ok(None),
+    }))
+}
+
+/// What a subscriber wants, if it names no peers.
+fn fetch(alloc: Global, wish: &Wish) -> Result<Option<Taken>, Fault> {
+    if wish.targets.is_some() {
+        return Ok(None);
+    }
+    let item = FetchKey {
+        key: Key(wish.key),
+        subscribers: NonEmptyVec::new(alloc, (wish.subscriber, wish.mark))?,
+        metadata: (),
+    };
+    let mut items = Vec::new(alloc);
+    items.push(item)?;
+    Ok(Some(Event::Fetch(items)))
+}
+
+fn print_all<W: Write>(effects: &[Effect<Key, Bytes, u16>], output: &mut W) -> Result<(), Fault> {
+    for effect in effects {
+        written(print::opaque::effect(output, effect))?;
+    }
+    Ok(())
+}

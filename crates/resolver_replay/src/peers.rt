@@ -1,0 +1,132 @@
+//! Scripts that feed the engine, which fetches from peers.
+
+use crate::endings::{Fault, written};
+use crate::kept::Kept;
+use crate::print;
+use crate::script::{Moment, Said, Timing, Wish};
+use resolver::base;
+use resolver::base::NonEmptyVec;
+use resolver::ingress::FetchKey;
+use resolver::p2p::effects::Effect;
+use resolver::p2p::engine::Core;
+use resolver::p2p::fetcher::{Answer, Config};
+use resolver::p2p::inputs::{Event, Happening, Input};
+use resolver::p2p::mocks::Key;
+use resolver::p2p::rows::Row;
+use std::alloc::Global;
+use std::io::Write;
+
+/// What the engine is told.
+type Told = Event<Key, u8, u16, Kept>;
+
+/// What the engine takes.
+type Taken = Input<Key, u8, u16, Kept>;
+
+/// The engine that a script opened. Priorities are off.
+#[derive(Drop)]
+pub struct Peers {
+    engine: Core<Key, u8, u16, Kept>,
+    alloc: Global,
+}
+
+impl Peers {
+    /// A new engine.
+    pub fn new(alloc: Global, timing: Timing) -> Self {
+        let configuration = Config {
+            me: timing.me,
+            fetch_timeout: timing.timeout,
+            retry_delay: timing.delay,
+            priority_requests: false,
+        };
+        Peers {
+            engine: Core::new(alloc, configuration, false),
+            alloc,
+        }
+    }
+
+    /// Feeds what happened, and prints the effects or the refusal. False where it doesn't happen to
+    /// this machine.
+    pub fn happens<W: Write>(
+        &mut self,
+        now: Moment,
+        said: Said,
+        output: &mut W,
+    ) -> Result<bool, Fault> {
+        let Some(event) = event_of(self.alloc, said)? else {
+            return Ok(false);
+        };
+        let now = now.nanoseconds;
+        self.step(Input::Happens(Happening { now, event }), output)?;
+        Ok(true)
+    }
+
+    /// Feeds what the open scan is answered, and prints the effects or the refusal.
+    pub fn answers<W: Write>(&mut self, answer: Answer, output: &mut W) -> Result<(), Fault> {
+        self.step(Input::Answers(answer), output)
+    }
+
+    fn step<W: Write>(&mut self, input: Taken, output: &mut W) -> Result<(), Fault> {
+        match self.engine.step(input) {
+            Ok(effects) => print_all(&effects, output),
+            Err(fault) => print::refusal(output, fault),
+        }
+    }
+
+    /// Prints the rows and the wake-up. Of an engine that has failed there is nothing to show.
+    pub fn show<W: Write>(&self, output: &mut W) -> Result<(), Fault> {
+        match self.engine.rows() {
+            Ok(rows) => {
+                print_rows(&rows, output)?;
+                print::wake(output, self.engine.get_pending_deadline())
+            }
+            Err(base::Fault::Failed) => print::wake(output, None),
+            Err(_) => Err(Fault::Memory),
+        }
+    }
+}
+
+/// What the engine is told, if this happens to it.
+fn event_of(alloc: Global, said: Said) -> Result<Option<Told>, Fault> {
+    Ok(Some(match said {
+        Said::Fetch(wish) => Event::Fetch(items(alloc, wish)?),
+        Said::Retain(kept) => Event::Retain(kept),
+        Said::Verdict { number, outcome } => Event::Verdict { number, outcome },
+        Said::Wake => Event::PendingDue,
+        Said::Stop => Event::End,
+        Said::Fetched { .. } => return Ok(None),
+        Said::Timeout => Event::ActiveDue,
+        Said::Peers { index, peers } => Event::PeerSet { index, peers },
+        Said::Blocked(peers) => Event::Blocked(peers),
+        Said::Net { peer, bytes } => Event::Net { peer, bytes },
+        Said::Served { serve, value } => Event::Served { serve, value },
+    }))
+}
+
+/// What a subscriber wants.
+fn items(
+    alloc: Global,
+    wish: Wish,
+) -> Result<Vec<FetchKey<Key, u16, Option<NonEmptyVec<u8>>>>, Fault> {
+    let item = FetchKey {
+        key: Key(wish.key),
+        subscribers: NonEmptyVec::new(alloc, (wish.subscriber, wish.mark))?,
+        metadata: wish.targets,
+    };
+    let mut items = Vec::new(alloc);
+    items.push(item)?;
+    Ok(items)
+}
+
+fn print_all<W: Write>(effects: &[Effect<Key, u8, u16>], output: &mut W) -> Result<(), Fault> {
+    for effect in effects {
+        written(print::peers::effect(output, effect))?;
+    }
+    Ok(())
+}
+
+fn print_rows<W: Write>(rows: &[Row<Key, u16, u8>], output: &mut W) -> Result<(), Fault> {
+    for row in rows {
+        written(print::peers::row(output, row))?;
+    }
+    Ok(())
+}

@@ -1,0 +1,160 @@
+//! The fields of a line. A field that is not there can't be read.
+
+ghost use Rattle.std.specs.Prelude.{◌≡◌, ◌≤◌, ◌<◌, ◌^◌, ◌⊎◌, ◌-◌, [], map, Ok, Err, IfOk, IfErr};
+ghost use Rattle.std.specs.Option.{option_copied};
+ghost use Rattle.std.specs.Char.{is_ascii_digit};
+ghost use Rattle.std.specs.List.{list_all};
+ghost use Rattle.resolver_replay.specs.declared.script.Unread.TheVariants.{OutOfMemory, Unreadable};
+ghost use Rattle.resolver_replay.specs.Numbers.{is_plain, list_of, number_of, numbers_in, parts_of};
+
+use crate::script::{Moment, Unread};
+use bytes::Bytes;
+use resolver::base::NonEmptyVec;
+use std::alloc::{AllocError, Global};
+
+pub fn key(field: Option<&str>) -> Result<u8, Unread>
+    ensures { result ≡ number_of (option_copied field.entry) 255 }
+{
+    Ok(number(field, u128::from(u8::MAX))? as u8)
+}
+
+pub fn peer(field: Option<&str>) -> Result<u8, Unread>
+    ensures { result ≡ number_of (option_copied field.entry) 255 }
+{
+    Ok(number(field, u128::from(u8::MAX))? as u8)
+}
+
+pub fn subscriber(field: Option<&str>) -> Result<u16, Unread>
+    ensures { result ≡ number_of (option_copied field.entry) 65535 }
+{
+    Ok(number(field, u128::from(u16::MAX))? as u16)
+}
+
+/// A mark, an index, or the number of a delivery, an attempt or a serve.
+pub fn count(field: Option<&str>) -> Result<u64, Unread>
+    ensures { result ≡ number_of (option_copied field.entry) (2 ^ 64 - 1) }
+{
+    Ok(number(field, u128::from(u64::MAX))? as u64)
+}
+
+/// A drawn number, or the moment of a limit.
+pub fn wide(field: Option<&str>) -> Result<u128, Unread>
+    ensures { result ≡ number_of (option_copied field.entry) (2 ^ 128 - 1) }
+{
+    number(field, u128::MAX)
+}
+
+pub fn moment(field: Option<&str>) -> Result<Moment, Unread>
+    ensures is { IfOk result
+        (λ moment. number_of (option_copied field.entry) (2 ^ 94 - 1) ≡ Ok moment.nanoseconds) }
+    ensures err { IfErr result
+        (λ unread. number_of (option_copied field.entry) (2 ^ 94 - 1) ≡ Err unread) }
+{
+    let nanoseconds = number(field, (1 << 94) - 1)?;
+    Ok(Moment { nanoseconds })
+}
+
+/// A duration that is not 0.
+pub fn timeout(field: Option<&str>) -> Result<u128, Unread>
+    ensures is { IfOk result (λ n. number_of (option_copied field.entry) (2 ^ 94 - 1) ≡ Ok n) }
+    ensures some { IfOk result (λ n. 0 < n) }
+    ensures limit { IfOk result (λ n. n < 2 ^ 94) }
+    ensures err { IfErr result (λ unread. (unread ≡ Unreadable)
+        × ((number_of (option_copied field.entry) (2 ^ 94 - 1) ≡ Err unread)
+        ⊎ (number_of (option_copied field.entry) (2 ^ 94 - 1) ≡ Ok 0))) }
+{
+    let nanoseconds = number(field, (1 << 94) - 1)?;
+    if nanoseconds == 0 {
+        return Err(Unread::Unreadable);
+    }
+    Ok(nanoseconds)
+}
+
+/// A decimal number up to `most`, without sign or leading zeros.
+fn number(field: Option<&str>, most: u128) -> Result<u128, Unread>
+    ensures is { result ≡ number_of (option_copied field.entry) most }
+    ensures limit { IfOk result (λ n. n ≤ most) }
+{
+    let digits = field.ok_or(Unread::Unreadable)?;
+    if !is_plain(digits.as_bytes()) {
+        return Err(Unread::Unreadable);
+    }
+    match digits.parse::<u128>() {
+        Ok(n) if n <= most => Ok(n),
+        _ => Err(Unread::Unreadable),
+    }
+}
+
+/// Whether these are the digits of a number that has no leading zeros.
+fn is_plain(digits: &[u8]) -> bool
+    ensures { result ≡ is_plain digits.now }
+{
+    let is_padded = digits.len() > 1 && digits[0] == b'0';
+    !digits.is_empty() && !is_padded && are_digits(digits)
+}
+
+/// Whether each byte is a decimal digit.
+fn are_digits(bytes: &[u8]) -> bool
+    ensures { result ≡ list_all is_ascii_digit bytes.now }
+{
+    bytes.iter().all(|byte| byte.is_ascii_digit())
+}
+
+/// Peers, joined by commas; `-` is the empty list.
+pub fn peers(alloc: Global, field: Option<&str>) -> Result<Vec<u8>, Unread>
+    ensures is { IfOk result (λ peers. list_of (option_copied field.entry) 255 ≡ Ok peers.items) }
+    ensures err { IfErr result
+        (λ unread. (unread ≡ OutOfMemory) ⊎ (list_of (option_copied field.entry) 255 ≡ Err unread)) }
+{
+    match field {
+        Some("-") => Ok(Vec::new(alloc)),
+        Some(text) => numbers(alloc, &parts(alloc, text)?),
+        None => Err(Unread::Unreadable),
+    }
+}
+
+/// Peers, joined by commas: one at least.
+pub fn targets(alloc: Global, field: Option<&str>) -> Result<NonEmptyVec<u8>, Unread>
+    ensures is { IfOk result (λ peers. list_of (option_copied field.entry) 255 ≡ Ok peers) }
+    ensures err { IfErr result (λ unread. (unread ≡ OutOfMemory)
+        ⊎ (list_of (option_copied field.entry) 255 ≡ Err unread)
+        ⊎ (list_of (option_copied field.entry) 255 ≡ Ok [])) }
+{
+    match NonEmptyVec::try_from(peers(alloc, field)?) {
+        Ok(peers) => Ok(peers),
+        Err(_) => Err(Unread::Unreadable),
+    }
+}
+
+/// What stands between the commas.
+fn parts(alloc: Global, text: &str) -> Result<Vec<&str>, AllocError>
+    ensures { IfOk result (λ parts. map (λ part. part.now) parts.items ≡ parts_of text.now) }
+{
+    text.split(',').collect(alloc)
+}
+
+/// Peers, one in each part.
+fn numbers(alloc: Global, parts: &[&str]) -> Result<Vec<u8>, Unread>
+    ensures is { IfOk result
+        (λ peers. numbers_in (map (λ part. part.now) parts.now) 255 ≡ Ok peers.items) }
+    ensures err { IfErr result (λ unread. (unread ≡ OutOfMemory)
+        ⊎ (numbers_in (map (λ part. part.now) parts.now) 255 ≡ Err unread)) }
+{
+    let mut numbers = Vec::new(alloc);
+    for part in parts {
+        numbers.push(peer(Some(*part))?)?;
+    }
+    Ok(numbers)
+}
+
+/// Bytes as `x` and hexadecimal digits of either case, two a byte.
+pub fn bytes(alloc: Global, field: Option<&str>) -> Result<Bytes, Unread> {
+    let digits = field
+        .and_then(|text| text.strip_prefix('x'))
+        .ok_or(Unread::Unreadable)?;
+    match hex::decode(alloc, digits) {
+        Ok(bytes) => Ok(Bytes::from_vec(bytes)?),
+        Err(hex::FromHexError::OutOfMemory) => Err(Unread::OutOfMemory),
+        Err(_) => Err(Unread::Unreadable),
+    }
+}
