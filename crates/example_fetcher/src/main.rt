@@ -14,47 +14,69 @@ use std::alloc::Global;
 
 type Asker = Fetcher<Key, Peer>;
 
+/// How many keys wait, are asked and were not answered in time, and how many requests each peer got.
+#[derive(Drop)]
+struct Told {
+    waiting: usize,
+    asked: usize,
+    overdue: u32,
+    taken: [u64; 4],
+}
+
 fn main(rt: HostRuntime) -> Result<()> {
-    let mut network = Network::new();
-    let mut fetcher = opened(rt.alloc())?;
-    want_all(&mut fetcher, 20)?;
-    println!(rt;
-        "{} wait, {} asked",
-        fetcher.len_pending(),
-        fetcher.len_active()
-    )?;
-    ask_all(&mut fetcher, &mut network, 20)?;
-    let [_, first, second, third] = network.taken;
-    println!(rt;
-        "{} wait, {} asked",
-        fetcher.len_pending(),
-        fetcher.len_active()
-    )?;
+    let told = told(rt.alloc())?;
+    let [_, first, second, third] = told.taken;
+    println!(rt; "{} wait, {} asked", told.waiting, told.asked)?;
     println!(rt;
         "requests: {} in all, {third} of peer 3",
         first.saturating_add(second)
     )?;
-    let overdue = time_out_all(&mut fetcher, 20)?;
-    println!(rt; "{overdue} were not answered in time")?;
+    println!(rt; "{} were not answered in time", told.overdue)?;
     Ok(())
 }
 
-/// A fetcher that is called 0, and knows the peers 0 to 3. A request has 1,000 nanoseconds, and a key that is
-/// asked for again waits 100.
-fn opened(alloc: Global) -> Result<Asker> {
+/// Wants twenty keys, asks for them, and waits until the time of each request is over.
+fn told(alloc: Global) -> Result<Told> {
+    let peers = peers(alloc)?;
+    let mut fetcher = opened(alloc);
+    work(&mut fetcher, peers)
+}
+
+/// The peers 0 to 3.
+fn peers(alloc: Global) -> Result<Vec<Peer>> {
+    let mut peers = Vec::new(alloc);
+    for name in 0..4 {
+        peers.push(Peer(name))?;
+    }
+    Ok(peers)
+}
+
+/// Does what the program shows.
+fn work(fetcher: &mut Asker, peers: Vec<Peer>) -> Result<Told> {
+    if fetcher.is_scanning() {
+        bail!("a scan is open");
+    }
+    fetcher.reconcile(peers)?;
+    want_all(fetcher, 20)?;
+    let mut network = Network::new();
+    ask_all(fetcher, &mut network, 20)?;
+    Ok(Told {
+        waiting: fetcher.len_pending(),
+        asked: fetcher.len_active(),
+        overdue: time_out_all(fetcher, 20)?,
+        taken: network.taken,
+    })
+}
+
+/// A fetcher that is called 0. A request has 1,000 nanoseconds, and a key that is asked for again waits 100.
+fn opened(alloc: Global) -> Asker {
     let config = Config {
         me: Some(Peer(0)),
         fetch_timeout: 1_000,
         retry_delay: 100,
         priority_requests: false,
     };
-    let mut fetcher = Fetcher::new(alloc, config);
-    let mut peers = Vec::new(alloc);
-    for name in 0..4 {
-        peers.push(Peer(name))?;
-    }
-    fetcher.reconcile(peers)?;
-    Ok(fetcher)
+    Fetcher::new(alloc, config)
 }
 
 /// Has the keys from 0 on wait. A key may be made to wait where it is in no phase and no scan is open.
