@@ -3,7 +3,7 @@
 ghost use Rattle.std.proofs.Common.{rules};
 ghost use Rattle.resolver_replay.specs.Kept.{is_kept};
 
-use resolver::base::Predicate;
+use resolver::base::{Faithful, Predicate};
 use resolver::p2p::mocks::Key;
 
 /// What a line keeps.
@@ -26,4 +26,8 @@ impl Predicate<Key, u16> for Kept {
     }
 
     ghost alike = { λ q k l s t same_key same_subscriber. Prim.search rules };
+}
+
+impl Faithful for Kept {
+    ghost clones = { Prim.search rules };
 }

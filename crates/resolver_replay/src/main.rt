@@ -8,6 +8,7 @@
 mod endings;
 mod kept;
 mod opaque;
+mod peer;
 mod peers;
 mod print;
 mod replay;

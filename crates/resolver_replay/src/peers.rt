@@ -2,46 +2,65 @@
 
 use crate::endings::{Fault, written};
 use crate::kept::Kept;
+use crate::peer::Peer;
 use crate::print;
 use crate::script::{Moment, Said, Timing, Wish};
+use bytes::Bytes;
 use resolver::base;
 use resolver::base::NonEmptyVec;
-use resolver::ingress::FetchKey;
-use resolver::p2p::Core;
 use resolver::p2p::effects::Effect;
-use resolver::p2p::fetcher::{Answer, Config};
+use resolver::p2p::fetcher::Answer;
 use resolver::p2p::inputs::{Event, Happening, Input};
-use resolver::p2p::mocks::Key;
+use resolver::p2p::mocks::{Consumer, Key, Producer, Quiet};
 use resolver::p2p::rows::Row;
-use std::alloc::Global;
+use resolver::p2p::{Config, Engine, FetchKey};
+use std::alloc::{AllocError, Global};
 use std::io::Write;
+use std::num::NonZeroUsize;
 
 /// What the engine is told.
-type Told = Event<Key, u8, u16, Kept>;
+type Told = Event<Key, Peer, u16, Kept>;
 
 /// What the engine takes.
-type Taken = Input<Key, u8, u16, Kept>;
+type Taken = Input<Key, Peer, u16, Kept>;
+
+/// An engine over sources that give nothing. Nobody has a handle of its mailbox.
+type Silent = Engine<
+    Peer,
+    Quiet<Peer>,
+    Quiet<Peer>,
+    Key,
+    u16,
+    Consumer<Key, Bytes, u16>,
+    Producer<Key, Bytes>,
+    Kept,
+    (),
+>;
 
 /// The engine that a script opened. Priorities are off.
 #[derive(Drop)]
 pub struct Peers {
-    engine: Core<Key, u8, u16, Kept>,
+    engine: Silent,
     alloc: Global,
 }
 
 impl Peers {
     /// A new engine.
-    pub fn new(alloc: Global, timing: Timing) -> Self {
-        let configuration = Config {
-            me: timing.me,
+    pub fn new(alloc: Global, timing: Timing) -> Result<Self, Fault> {
+        let cfg = Config {
+            peer_provider: Quiet::new(),
+            blocker: Quiet::new(),
+            consumer: Consumer::dummy(alloc).map_err(|_| Fault::Memory)?,
+            producer: Producer::new(alloc),
+            mailbox_size: NonZeroUsize::MIN,
+            me: timing.me.map(Peer),
             fetch_timeout: timing.timeout,
-            retry_delay: timing.delay,
+            fetch_retry_delay: timing.delay,
             priority_requests: false,
+            priority_responses: false,
         };
-        Peers {
-            engine: Core::new(alloc, configuration, false),
-            alloc,
-        }
+        let (engine, _) = Engine::new((), alloc, cfg).map_err(|_| Fault::Memory)?;
+        Ok(Peers { engine, alloc })
     }
 
     /// Feeds what happened, and prints the effects or the refusal. False where it doesn't happen to
@@ -95,36 +114,55 @@ fn event_of(alloc: Global, said: Said) -> Result<Option<Told>, Fault> {
         Said::Stop => Event::End,
         Said::Fetched { .. } => return Ok(None),
         Said::Timeout => Event::ActiveDue,
-        Said::Peers { index, peers } => Event::PeerSet { index, peers },
-        Said::Blocked(peers) => Event::Blocked(peers),
-        Said::Net { peer, bytes } => Event::Net { peer, bytes },
+        Said::Peers { index, peers } => Event::PeerSet {
+            index,
+            peers: named(alloc, peers)?,
+        },
+        Said::Blocked(peers) => Event::Blocked(named(alloc, peers)?),
+        Said::Net { peer, bytes } => Event::Net {
+            peer: Peer(peer),
+            bytes,
+        },
         Said::Served { serve, value } => Event::Served { serve, value },
     }))
 }
 
 /// What a subscriber wants.
-fn items(
-    alloc: Global,
-    wish: Wish,
-) -> Result<Vec<FetchKey<Key, u16, Option<NonEmptyVec<u8>>>>, Fault> {
+fn items(alloc: Global, wish: Wish) -> Result<Vec<FetchKey<Key, Peer, u16>>, Fault> {
     let item = FetchKey {
         key: Key(wish.key),
         subscribers: NonEmptyVec::new(alloc, (wish.subscriber, wish.mark))?,
-        metadata: wish.targets,
+        metadata: targets(alloc, wish.targets)?,
     };
     let mut items = Vec::new(alloc);
     items.push(item)?;
     Ok(items)
 }
 
-fn print_all<W: Write>(effects: &[Effect<Key, u8, u16>], output: &mut W) -> Result<(), Fault> {
+/// The peers that a subscriber names, if it names some.
+fn targets(
+    alloc: Global,
+    peers: Option<NonEmptyVec<u8>>,
+) -> Result<Option<NonEmptyVec<Peer>>, AllocError> {
+    match peers {
+        Some(peers) => Ok(NonEmptyVec::try_from(named(alloc, peers.into_vec())?).ok()),
+        None => Ok(None),
+    }
+}
+
+/// Peers by their numbers.
+fn named(alloc: Global, numbers: Vec<u8>) -> Result<Vec<Peer>, AllocError> {
+    numbers.into_iter().map(Peer).collect(alloc)
+}
+
+fn print_all<W: Write>(effects: &[Effect<Key, Peer, u16>], output: &mut W) -> Result<(), Fault> {
     for effect in effects {
         written(print::peers::effect(output, effect))?;
     }
     Ok(())
 }
 
-fn print_rows<W: Write>(rows: &[Row<Key, u16, u8>], output: &mut W) -> Result<(), Fault> {
+fn print_rows<W: Write>(rows: &[Row<Key, u16, Peer>], output: &mut W) -> Result<(), Fault> {
     for row in rows {
         written(print::peers::row(output, row))?;
     }

@@ -95,29 +95,29 @@ fn take_line<W: Write>(
         Err(Unread::OutOfMemory) => return Err(Fault::Memory),
     };
     match session {
-        None => Ok(start(alloc, session, command)),
+        None => start(alloc, session, command),
         Some(session) => session.take(command, output),
     }
 }
 
 /// Opens the machine. False where the line is another command.
-fn start(alloc: Global, session: &mut Option<Session>, command: Command) -> bool {
-    let Some(machine) = opened(alloc, command) else {
-        return false;
+fn start(alloc: Global, session: &mut Option<Session>, command: Command) -> Result<bool, Fault> {
+    let Some(machine) = opened(alloc, command)? else {
+        return Ok(false);
     };
     *session = Some(Session {
         machine,
         now: Moment { nanoseconds: 0 },
     });
-    true
+    Ok(true)
 }
 
 /// The machine that a command opens.
-fn opened(alloc: Global, command: Command) -> Option<Machine> {
+fn opened(alloc: Global, command: Command) -> Result<Option<Machine>, Fault> {
     match command {
-        Command::Opaque { delay } => Some(Machine::Opaque(Opaque::new(alloc, delay))),
-        Command::Peers(timing) => Some(Machine::Peers(Peers::new(alloc, timing))),
-        _ => None,
+        Command::Opaque { delay } => Ok(Some(Machine::Opaque(Opaque::new(alloc, delay)))),
+        Command::Peers(timing) => Ok(Some(Machine::Peers(Peers::new(alloc, timing)?))),
+        _ => Ok(None),
     }
 }
 

@@ -1,5 +1,6 @@
 //! Effects and rows of the engine, which fetches from peers, as lines.
 
+use crate::peer::Peer;
 use crate::print::{bytes, deliver, demand};
 use resolver::p2p::effects::Effect;
 use resolver::p2p::fetcher::Ask;
@@ -10,7 +11,7 @@ use std::io;
 use std::io::Write;
 
 /// Prints an effect as one line.
-pub fn effect<W: Write>(output: &mut W, effect: &Effect<Key, u8, u16>) -> io::Result<()> {
+pub fn effect<W: Write>(output: &mut W, effect: &Effect<Key, Peer, u16>) -> io::Result<()> {
     match effect {
         Effect::Ask(ask) => question(output, ask),
         Effect::Deliver {
@@ -28,7 +29,7 @@ pub fn effect<W: Write>(output: &mut W, effect: &Effect<Key, u8, u16>) -> io::Re
 }
 
 /// Prints what a scan asks.
-fn question<W: Write>(output: &mut W, ask: &Ask<Key, u8>) -> io::Result<()> {
+fn question<W: Write>(output: &mut W, ask: &Ask<Key, Peer>) -> io::Result<()> {
     match ask {
         Ask::Draw(below) => writeln!(output, "draw {below}"),
         Ask::Check(peer) => writeln!(output, "check {peer}"),
@@ -36,13 +37,13 @@ fn question<W: Write>(output: &mut W, ask: &Ask<Key, u8>) -> io::Result<()> {
     }
 }
 
-fn reply<W: Write>(output: &mut W, peer: u8, message: &[u8]) -> io::Result<()> {
+fn reply<W: Write>(output: &mut W, peer: Peer, message: &[u8]) -> io::Result<()> {
     write!(output, "reply {peer} ")?;
     bytes(output, message)?;
     writeln!(output)
 }
 
-fn credit<W: Write>(output: &mut W, response: u64, source: &Source<u8>) -> io::Result<()> {
+fn credit<W: Write>(output: &mut W, response: u64, source: &Source<Peer>) -> io::Result<()> {
     let peer = source.peer;
     let elapsed = source.elapsed;
     let bytes = source.bytes;
@@ -50,7 +51,7 @@ fn credit<W: Write>(output: &mut W, response: u64, source: &Source<u8>) -> io::R
 }
 
 /// Prints a demanded key as one line.
-pub fn row<W: Write>(output: &mut W, row: &Row<Key, u16, u8>) -> io::Result<()> {
+pub fn row<W: Write>(output: &mut W, row: &Row<Key, u16, Peer>) -> io::Result<()> {
     demand(output, row.key, row.subscribers.as_slice())?;
     match &row.targets {
         None => write!(output, " targets all")?,
@@ -61,7 +62,7 @@ pub fn row<W: Write>(output: &mut W, row: &Row<Key, u16, u8>) -> io::Result<()> 
 }
 
 /// Prints the peers that may be asked for a key.
-fn targets<W: Write>(output: &mut W, targets: &Targets<u8>) -> io::Result<()> {
+fn targets<W: Write>(output: &mut W, targets: &Targets<Peer>) -> io::Result<()> {
     write!(output, " targets ")?;
     let mut comma = "";
     for peer in targets.as_slice() {
@@ -72,7 +73,7 @@ fn targets<W: Write>(output: &mut W, targets: &Targets<u8>) -> io::Result<()> {
 }
 
 /// Prints what is being done for a key.
-fn phase<W: Write>(output: &mut W, phase: &Phase<u8>) -> io::Result<()> {
+fn phase<W: Write>(output: &mut W, phase: &Phase<Peer>) -> io::Result<()> {
     match phase {
         Phase::Waiting {
             is_retry: false,
