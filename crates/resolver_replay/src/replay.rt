@@ -43,6 +43,16 @@ fn take_lines<R: Read, W: Write>(
     output: &mut W,
 ) -> Result<Ending, Fault> {
     let mut session = None;
+    feed_lines(alloc, &mut session, input, output)
+}
+
+/// The same, of a machine that is held elsewhere, so that it is let go in one place.
+fn feed_lines<R: Read, W: Write>(
+    alloc: Global,
+    session: &mut Option<Session>,
+    input: &mut BufReader<R>,
+    output: &mut W,
+) -> Result<Ending, Fault> {
     let mut line = Vec::new(alloc);
     for number in 1..=u64::MAX {
         if !has_line(input) {
@@ -54,7 +64,7 @@ fn take_lines<R: Read, W: Write>(
         if is_skipped(&line) {
             continue;
         }
-        if !take_line(alloc, &mut session, &line, output)? {
+        if !take_line(alloc, session, &line, output)? {
             written(writeln!(output, "line {number} unreadable"))?;
             return Ok(Ending::Unreadable);
         }
