@@ -16,6 +16,7 @@ pub struct Network {
 }
 
 impl Network {
+    /// It has taken nothing.
     pub fn new() -> Self {
         Network { taken: [0; 4] }
     }

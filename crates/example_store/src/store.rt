@@ -57,6 +57,7 @@ pub struct Store {
 }
 
 impl Store {
+    /// It wants nothing.
     pub fn new(alloc: Global) -> Self {
         Store {
             actor: Actor::new(alloc, DELAY),
@@ -129,6 +130,7 @@ impl Store {
         Ok(())
     }
 
+    /// What arrived, in the order in which it came.
     pub fn arrived(&self) -> &[Arrived] {
         self.arrived.as_slice()
     }

@@ -12,18 +12,21 @@ use bytes::Bytes;
 use resolver::base::NonEmptyVec;
 use std::alloc::{AllocError, Global};
 
+/// A key: at most 255.
 pub fn key(field: Option<&str>) -> Result<u8, Unread>
     ensures { result ≡ number_of (option_copied field.entry) 255 }
 {
     Ok(number(field, u128::from(u8::MAX))? as u8)
 }
 
+/// A peer: at most 255.
 pub fn peer(field: Option<&str>) -> Result<u8, Unread>
     ensures { result ≡ number_of (option_copied field.entry) 255 }
 {
     Ok(number(field, u128::from(u8::MAX))? as u8)
 }
 
+/// A subscriber: at most 65535.
 pub fn subscriber(field: Option<&str>) -> Result<u16, Unread>
     ensures { result ≡ number_of (option_copied field.entry) 65535 }
 {
@@ -44,6 +47,7 @@ pub fn wide(field: Option<&str>) -> Result<u128, Unread>
     number(field, u128::MAX)
 }
 
+/// A moment or a duration, in nanoseconds: below 2^94.
 pub fn moment(field: Option<&str>) -> Result<Moment, Unread>
     ensures is { IfOk result
         (λ moment. number_of (option_copied field.entry) (2 ^ 94 - 1) ≡ Ok moment.nanoseconds) }
