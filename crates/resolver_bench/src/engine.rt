@@ -31,34 +31,46 @@ type Told = Vec<Effect<Name, u16, u16>>;
 
 /// Takes every key through an engine that knows this many peers.
 pub fn run(rt: &(impl AllocGlobal + Clock), size: u64, peers: u16) -> Result<Vec<Spent>, Fault> {
-    let mut spent = Vec::with_capacity(rt.alloc(), 4)?;
-    let mut engine = blocked(rt.alloc(), peers)?;
-    spent.push(take_all(rt, &mut engine, Kind::Wait, size)?)?;
-    take(&mut engine, Event::Blocked(Vec::new(rt.alloc())))?;
-    for kind in [Kind::Ask, Kind::Answer, Kind::Complete] {
-        spent.push(take_all(rt, &mut engine, kind, size)?)?;
-    }
-    Ok(spent)
-}
-
-/// An engine whose peers are all blocked.
-fn blocked(alloc: Global, peers: u16) -> Result<Engine, Fault> {
     let config = Config {
         me: None,
         fetch_timeout: 1,
         retry_delay: 1,
         priority_requests: false,
     };
-    let mut engine = Core::new(alloc, config, false);
+    let mut engine = Core::new(rt.alloc(), config, false);
+    take_every(rt, &mut engine, size, peers)
+}
+
+/// Takes events of every kind through an engine, and measures them: while all its peers are blocked the keys
+/// only wait.
+fn take_every(
+    rt: &(impl AllocGlobal + Clock),
+    engine: &mut Engine,
+    size: u64,
+    peers: u16,
+) -> Result<Vec<Spent>, Fault> {
+    block_all(rt.alloc(), engine, peers)?;
+    let mut spent = Vec::with_capacity(rt.alloc(), 4)?;
+    spent.push(take_all(rt, engine, Kind::Wait, size)?)?;
+    take(engine, Event::Blocked(Vec::new(rt.alloc())))?;
+    for kind in [Kind::Ask, Kind::Answer, Kind::Complete] {
+        spent.push(take_all(rt, engine, kind, size)?)?;
+    }
+    Ok(spent)
+}
+
+/// The engine knows this many peers, and all are blocked.
+fn block_all(alloc: Global, engine: &mut Engine, peers: u16) -> Result<(), Fault> {
+    let known = named(alloc, peers)?;
     take(
-        &mut engine,
+        engine,
         Event::PeerSet {
             index: 0,
-            peers: named(alloc, peers)?,
+            peers: known,
         },
     )?;
-    take(&mut engine, Event::Blocked(named(alloc, peers)?))?;
-    Ok(engine)
+    take(engine, Event::Blocked(named(alloc, peers)?))?;
+    Ok(())
 }
 
 /// The peers of the set, in their order.

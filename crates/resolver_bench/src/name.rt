@@ -1,8 +1,8 @@
 //! Keys of four bytes.
 
-ghost use Rattle.std.specs.Prelude.{◌∷◌, [], refl};
+ghost use Rattle.std.specs.Prelude.{refl};
 ghost use Rattle.std.proofs.Common.{rules};
-ghost use Rattle.resolver_bench.specs.Names.{bytes_of, read_from, read_again, own_bytes};
+ghost use Rattle.resolver_bench.specs.Names.{bytes_of, read_from, own_bytes};
 
 use bytes::BytesMut;
 use resolver::base::Span;
