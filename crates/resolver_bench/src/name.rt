@@ -20,7 +20,8 @@ pub struct Name {
 impl Name {
     /// Keys that don't come in their order, each once.
     pub fn scattered(i: u64) -> Name {
-        let [first, second, third, fourth] = (i as u32).wrapping_mul(0x9e37_79b1).to_be_bytes();
+        let bytes = i.wrapping_mul(0x9e37_79b9_7f4a_7c15).to_be_bytes();
+        let [_, _, _, _, first, second, third, fourth] = bytes;
         Name {
             first,
             second,
