@@ -1,6 +1,5 @@
 -- A key's four bytes.
 use Rattle.std.specs.Prelude.{◌≡◌, ℕ, List, [], ◌∷◌, Option, None, Some}
-use Rattle.std.proofs.Common.{refl}
 use Rattle.resolver_bench.specs.declared.name.Name.{Name}
 
 abbrev pub bytes_of : Name → List ℕ
