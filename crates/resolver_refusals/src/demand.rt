@@ -1,7 +1,6 @@
 //! Who wants which key.
 
-ghost use Rattle.std.specs.Prelude.{◌==◌};
-ghost use Rattle.std.specs.Nat.{◌%◌};
+ghost use Rattle.std.specs.Prelude.{◌==◌, ◌%◌};
 ghost use Rattle.std.proofs.Common.{rules};
 
 use crate::part::{Part, note};

@@ -1,7 +1,6 @@
 //! What waits behind a full mailbox.
 
-ghost use Rattle.std.specs.Prelude.{true};
-ghost use Rattle.std.specs.Nat.{nat_le};
+ghost use Rattle.std.specs.Prelude.{nat_le};
 ghost use Rattle.std.proofs.Common.{rules};
 
 use crate::demand::note_subscribers;
