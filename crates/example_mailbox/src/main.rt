@@ -6,7 +6,7 @@ ghost use Rattle.std.specs.Prelude.{◌≡◌, true};
 
 mod leaving;
 
-use anyhow::{Context, Result, bail};
+use anyhow::{Result, bail};
 use futures::StreamExt;
 use futures::executor::block_on;
 use leaving::AllBut;
@@ -49,11 +49,7 @@ where
     let other = other.join(&rt)?;
     taker.close();
     let keys = take_all(&rt, &mut taker)?;
-    let (Some(first), Some(second)) = (one.share(), other.share()) else {
-        bail!("a handle without a share");
-    };
-    let book = taker.book(alloc, &[first, second]).context("book")?;
-    Ok((keys, puts_in(book.as_slice())))
+    Ok((keys, puts_booked(alloc, &one, &other, &taker)?))
 }
 
 /// Puts fetches of 50 keys from the first one on, and hands the handle back.
@@ -95,6 +91,23 @@ fn keys_of(message: &Message<u32, u16, (), AllBut>) -> u64 {
         Message::Fetch(items) => items.len() as u64,
         Message::Retain(_) => 0,
     }
+}
+
+/// How many puts the book has, which is lent for the shares of both handles.
+fn puts_booked<N: Naming, R: Wait>(
+    alloc: Global,
+    one: &Putter<N, R>,
+    other: &Putter<N, R>,
+    taker: &Taker<N, R>,
+) -> Result<usize> {
+    let Some(first) = one.share() else {
+        bail!("a handle without a share");
+    };
+    let Some(second) = other.share() else {
+        bail!("a handle without a share");
+    };
+    let book = taker.book(alloc, &[first, second])?;
+    Ok(puts_in(book.as_slice()))
 }
 
 /// How many puts a book has.
