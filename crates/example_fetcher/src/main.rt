@@ -24,7 +24,7 @@ struct Told {
 }
 
 fn main(rt: HostRuntime) -> Result<()> {
-    let told = told(rt.alloc())?;
+    let told = shown(rt.alloc())?;
     let [_, first, second, third] = told.taken;
     println!(rt; "{} wait, {} asked", told.waiting, told.asked)?;
     println!(rt;
@@ -36,7 +36,7 @@ fn main(rt: HostRuntime) -> Result<()> {
 }
 
 /// Wants twenty keys, asks for them, and waits until the time of each request is over.
-fn told(alloc: Global) -> Result<Told> {
+fn shown(alloc: Global) -> Result<Told> {
     let peers = peers(alloc)?;
     let mut fetcher = opened(alloc);
     work(&mut fetcher, peers)
