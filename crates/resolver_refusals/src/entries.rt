@@ -84,7 +84,7 @@ impl Deliveries {
     /// Hands a value out, where a delivery of the key may begin.
     fn deliver(&mut self, key: u8) -> Result<(), Fault> {
         let delivery = delivery(self.alloc, key)?;
-        if self.entries.contains(&key) && self.entries.number(&key).is_none() {
+        if self.entries.contains(&delivery.key) && self.entries.number(&delivery.key).is_none() {
             self.entries.deliver(delivery, (), 7)?;
         }
         Ok(())
@@ -93,7 +93,9 @@ impl Deliveries {
     /// Hands the cached value out once more, where that may begin.
     fn redeliver(&mut self, key: u8) -> Result<(), Fault> {
         let delivery = delivery(self.alloc, key)?;
-        if self.entries.response(&key).is_some() && self.entries.number(&key).is_none() {
+        if self.entries.response(&delivery.key).is_some()
+            && self.entries.number(&delivery.key).is_none()
+        {
             self.entries.redeliver(delivery)?;
         }
         Ok(())

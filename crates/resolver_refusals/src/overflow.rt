@@ -108,7 +108,10 @@ impl Part for Overflow {
 
     fn show(&mut self, text: &mut String) -> Result<(), Fault> {
         note(text, u128::from(self.pending.is_empty()))?;
-        while let Some(message) = self.pending.pop() {
+        for _ in 0..16 {
+            let Some(message) = self.pending.pop() else {
+                break;
+            };
             note_message(text, &message)?;
         }
         Ok(())
