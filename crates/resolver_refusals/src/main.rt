@@ -33,10 +33,7 @@ fn main(rt: HostRuntime) -> ExitCode {
             "overflow_rejected_drain",
             taken::<Overflow>(alloc, &overflow::REJECTED_DRAIN),
         ),
-        (
-            "overflow_retain",
-            taken::<Overflow>(alloc, &overflow::RETAIN),
-        ),
+        ("overflow_retain", overflow::retain(alloc)),
         (
             "overflow_targets",
             taken::<Overflow>(alloc, &overflow::TARGETS),

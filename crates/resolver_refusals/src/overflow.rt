@@ -4,7 +4,7 @@ ghost use Rattle.std.specs.Prelude.{nat_le};
 ghost use Rattle.std.proofs.Common.{rules};
 
 use crate::demand::note_subscribers;
-use crate::part::{Part, note};
+use crate::part::{Ending, Part, note, taken};
 use resolver::base::{Fault, NonEmptyVec};
 use resolver::ingress::{FetchKey, Message, Metadata, Pending, Predicate};
 use std::alloc::Global;
@@ -26,6 +26,7 @@ impl Predicate<u16, u16> for From {
 }
 
 /// A call of an overflow.
+#[derive(Drop)]
 pub enum Call {
     /// A fetch of a key for a subscriber, of these peers; with none of them any peer may be asked.
     Fetch(u16, u16, &'static [u16]),
@@ -48,16 +49,24 @@ pub const REJECTED_DRAIN: [Call; 7] = [
     Call::Fetch(3, 30, &[]),
 ];
 
-/// The worked row of a retain, with fewer keys.
-pub const RETAIN: [Call; 7] = [
-    Call::Fetch(0, 10, &[]),
-    Call::Fetch(1, 10, &[]),
-    Call::Fetch(98, 10, &[]),
-    Call::Fetch(99, 10, &[]),
-    Call::Retain(99),
-    Call::Fetch(99, 11, &[]),
-    Call::Fetch(0, 12, &[]),
-];
+/// Takes the worked row of a retain: a hundred keys, of which the last is kept.
+pub fn retain(alloc: Global) -> Ending {
+    match retain_calls(alloc) {
+        Ok(calls) => taken::<Overflow>(alloc, calls.as_slice()),
+        Err(_) => Ending::Outside,
+    }
+}
+
+fn retain_calls(alloc: Global) -> Result<Vec<Call>, Fault> {
+    let mut calls = Vec::with_capacity(alloc, 103)?;
+    for key in 0..100_u16 {
+        calls.push(Call::Fetch(key, 10, &[]))?;
+    }
+    calls.push(Call::Retain(99))?;
+    calls.push(Call::Fetch(99, 11, &[]))?;
+    calls.push(Call::Fetch(0, 12, &[]))?;
+    Ok(calls)
+}
 
 /// The worked row of targets that are joined, and of none.
 pub const TARGETS: [Call; 5] = [

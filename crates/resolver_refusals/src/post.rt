@@ -51,33 +51,35 @@ struct Mail<N: Naming, R> {
     taker: Taker<N, R>,
 }
 
-/// The messages of both handles, and those that were taken.
-type Counts = [usize; 3];
+/// The messages of both handles, those that were taken, and the calls in the book.
+type Counts = [usize; 4];
 
 /// A call on the mailbox, and what is counted before it.
-const CALLS: [(Call, Counts); 8] = [
-    (Call::First(1), [0, 0, 0]),
-    (Call::First(2), [1, 0, 0]),
-    (Call::Second(2), [2, 0, 0]),
-    (Call::Poll, [2, 1, 0]),
-    (Call::Poll, [2, 1, 1]),
-    (Call::Poll, [2, 1, 2]),
-    (Call::Close, [2, 1, 2]),
-    (Call::First(3), [2, 1, 2]),
+const CALLS: [(Call, Counts); 9] = [
+    (Call::First(1, 10), [0, 0, 0, 0]),
+    (Call::First(2, 20), [1, 0, 0, 1]),
+    (Call::Second(2, 21), [2, 0, 0, 2]),
+    (Call::Poll, [2, 1, 0, 3]),
+    (Call::Poll, [2, 1, 1, 4]),
+    (Call::Poll, [2, 1, 2, 5]),
+    (Call::Close, [2, 1, 2, 5]),
+    (Call::First(1, 10), [2, 1, 2, 6]),
+    (Call::Book, [2, 1, 2, 6]),
 ];
 
 #[derive(Clone, Copy)]
 enum Call {
-    /// The first handle puts a fetch of this key.
-    First(u16),
+    /// The first handle puts a fetch of this key for this subscriber.
+    First(u16, u16),
     /// The second one does.
-    Second(u16),
+    Second(u16, u16),
     Poll,
     Close,
+    Book,
 }
 
 /// Takes the worked row of a recorded mailbox of capacity 1 through its calls. Where one is refused, the
-/// shares and the list of what was taken have as many messages as before it.
+/// shares, the list of what was taken and the book are as long as before it.
 pub fn mailbox_book<N, R>(rt: &R, alloc: Global, pages: Pages) -> Ending
 where
     N: Naming,
@@ -95,11 +97,19 @@ where
     for (call, before) in CALLS {
         match take(alloc, &mut mail, &task, call) {
             Ok(()) => {}
-            Err(_) if counts(&mail) == before => return Ending::AsItWas,
-            Err(_) => return Ending::Changed,
+            Err(_) => return ending(alloc, &mail, before),
         }
     }
-    ending(alloc, &mail)
+    Ending::Whole
+}
+
+/// Whether a mailbox that refused a call is as it was before.
+fn ending<N: Naming, R: Wait>(alloc: Global, mail: &Mail<N, R>, before: Counts) -> Ending {
+    match counts(alloc, mail) {
+        Ok(counts) if counts == before => Ending::AsItWas,
+        Ok(_) => Ending::Changed,
+        Err(_) => Ending::Outside,
+    }
 }
 
 fn opened<N, R>(rt: R, alloc: Global, pages: Pages) -> Result<Mail<N, R>, Fault>
@@ -127,11 +137,11 @@ fn take<N: Naming, R: Wait + Drop>(
     call: Call,
 ) -> Result<(), Fault> {
     match call {
-        Call::First(key) => {
-            mail.first.enqueue(fetch(alloc, key)?)?;
+        Call::First(key, subscriber) => {
+            mail.first.enqueue(fetch(alloc, key, subscriber)?)?;
         }
-        Call::Second(key) => {
-            mail.second.enqueue(fetch(alloc, key)?)?;
+        Call::Second(key, subscriber) => {
+            mail.second.enqueue(fetch(alloc, key, subscriber)?)?;
         }
         Call::Poll => {
             if let Poll::Ready(Some(message)) = task.enter(|cx| mail.taker.poll_next(cx)) {
@@ -139,14 +149,17 @@ fn take<N: Naming, R: Wait + Drop>(
             }
         }
         Call::Close => mail.first.close(),
+        Call::Book => {
+            booked(alloc, mail)?;
+        }
     }
     Ok(())
 }
 
-fn fetch(alloc: Global, key: u16) -> Result<Message<u16, u16, (), All>, Fault> {
+fn fetch(alloc: Global, key: u16, subscriber: u16) -> Result<Message<u16, u16, (), All>, Fault> {
     let fetch = Fetch {
         key,
-        subscriber: 10,
+        subscriber,
         mark: 7,
     };
     let mut items = Vec::new(alloc);
@@ -154,12 +167,13 @@ fn fetch(alloc: Global, key: u16) -> Result<Message<u16, u16, (), All>, Fault> {
     Ok(Message::Fetch(items))
 }
 
-fn counts<N: Naming, R>(mail: &Mail<N, R>) -> Counts {
-    [
+fn counts<N: Naming, R: Wait>(alloc: Global, mail: &Mail<N, R>) -> Result<Counts, Fault> {
+    Ok([
         count_of(mail.first.share()),
         count_of(mail.second.share()),
         mail.taker.taken().len(),
-    ]
+        booked(alloc, mail)?,
+    ])
 }
 
 fn count_of<N: Naming>(share: Option<&Share<u16, u16, (), All, N>>) -> usize {
@@ -169,15 +183,13 @@ fn count_of<N: Naming>(share: Option<&Share<u16, u16, (), All, N>>) -> usize {
     }
 }
 
-/// Asks for the book: it has three puts, two takes and a close.
-fn ending<N: Naming, R: Wait>(alloc: Global, mail: &Mail<N, R>) -> Ending {
-    let (Some(first), Some(second)) = (mail.first.share(), mail.second.share()) else {
-        return Ending::Changed;
+/// How many calls the book has that is lent for the shares that there are.
+fn booked<N: Naming, R: Wait>(alloc: Global, mail: &Mail<N, R>) -> Result<usize, Fault> {
+    let Some(first) = mail.first.share() else {
+        return Ok(mail.taker.book(alloc, &[])?.len());
     };
-    match mail.taker.book(alloc, &[first, second]) {
-        Ok(book) if book.len() == 6 => Ending::Whole,
-        Ok(_) => Ending::Changed,
-        Err(Fault::OutOfMemory) if counts(mail) == [2, 1, 2] => Ending::AsItWas,
-        Err(_) => Ending::Changed,
-    }
+    let Some(second) = mail.second.share() else {
+        return Ok(mail.taker.book(alloc, &[first])?.len());
+    };
+    Ok(mail.taker.book(alloc, &[first, second])?.len())
 }
