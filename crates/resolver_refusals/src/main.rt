@@ -1,6 +1,6 @@
 //! `resolver-refusals` takes worked rows through the parts of a resolver, call by call. Where a call is
-//! refused memory, the part is compared with one that took the calls before it: all that its public calls
-//! show has to be the same. It prints a line for each row. `tools/refusals` runs it with each allocation
+//! refused memory, the part is compared with one that took the calls before it, by what the row writes of
+//! it; of the mailbox only lengths are compared. It prints a line for each row. `tools/refusals` runs it with each allocation
 //! refused in turn. It is no part of the product.
 #![tactic(auto)]
 

@@ -40,7 +40,7 @@ pub trait Part: Drop {
     /// Takes one call.
     fn take(&mut self, call: &Self::Call) -> Result<(), Fault>;
 
-    /// Writes all that the part's public calls show. It may be used up then.
+    /// Writes what the row compares of the part. It may be used up then.
     fn show(&mut self, text: &mut String) -> Result<(), Fault>;
 }
 
