@@ -1,9 +1,9 @@
 //! Deliveries by their numbers.
 
-use crate::demand::listed;
+use crate::demand::{listed, note_subscribers};
 use crate::part::{Part, note, note_if_any};
 use resolver::base::Fault;
-use resolver::delivery::Entries;
+use resolver::delivery::{Entries, Open, Response};
 use resolver::{Delivery, Outcome};
 use std::alloc::Global;
 
@@ -65,19 +65,34 @@ impl Part for Deliveries {
     }
 
     fn show(&mut self, text: &mut String) -> Result<(), Fault> {
-        for key in 0..4_u8 {
-            note(text, u128::from(self.entries.contains(&key)))?;
-            note_if_any(text, self.entries.number(&key).map(u128::from))?;
-            note_if_any(
-                text,
-                self.entries.response(&key).map(|it| u128::from(it.value)),
-            )?;
+        for (key, entry) in self.entries.iter() {
+            note(text, u128::from(*key))?;
+            note_if_any(text, entry.number.map(u128::from))?;
+            note_response(text, entry.response.as_ref())?;
         }
         for number in 0..4_u64 {
-            note(text, u128::from(self.entries.open(number).is_some()))?;
+            note_open(text, self.entries.open(number))?;
         }
         Ok(())
     }
+}
+
+/// Writes a cached response: its name, its value, and whether it was accepted.
+fn note_response(text: &mut String, response: Option<&Response<u64, ()>>) -> Result<(), Fault> {
+    note_if_any(text, response.map(|it| u128::from(it.name)))?;
+    note_if_any(text, response.map(|it| u128::from(it.value)))?;
+    note_if_any(text, response.map(|it| u128::from(it.accepted)))
+}
+
+/// Writes an open delivery: its response, whether that was accepted, its key and its subscribers.
+fn note_open(text: &mut String, open: Option<&Open<u8, u16, ()>>) -> Result<(), Fault> {
+    let Some(open) = open else {
+        return note_if_any(text, None);
+    };
+    note(text, u128::from(open.response))?;
+    note(text, u128::from(open.accepted))?;
+    note(text, u128::from(open.delivery.key))?;
+    note_subscribers(text, open.delivery.subscribers.as_slice())
 }
 
 impl Deliveries {

@@ -2,8 +2,8 @@
 
 use crate::part::{Part, note, note_if_any};
 use bytes::Bytes;
-use resolver::base::{Check, Draws, Fault, Feedback, PublicKey, Sender, Unreliable};
-use resolver::p2p::fetcher::{Config, Fetcher};
+use resolver::base::{Check, Draws, Fault, Feedback, PrioritySet, PublicKey, Sender, Unreliable};
+use resolver::p2p::fetcher::{Config, Fetcher, Request};
 use resolver::p2p::mocks::Key;
 use std::alloc::Global;
 
@@ -99,11 +99,22 @@ impl Part for Asker {
     }
 
     fn show(&mut self, text: &mut String) -> Result<(), Fault> {
+        for name in 0..4_u8 {
+            let id = self.fetcher.request(&Key(name)).map(|it| it.0);
+            note_if_any(text, id.map(u128::from))?;
+        }
+        self.show_end(text)
+    }
+
+    /// A request that is made again has the next id.
+    fn show_end(&mut self, text: &mut String) -> Result<(), Fault> {
         note(text, u128::from(self.fetcher.is_scanning()))?;
         note(text, self.fetcher.len_pending() as u128)?;
         note(text, self.fetcher.len_active() as u128)?;
         note_if_any(text, self.fetcher.get_pending_deadline())?;
         note_if_any(text, self.fetcher.get_active_deadline())?;
+        note_queue(text, self.fetcher.fresh_queue())?;
+        note_queue(text, self.fetcher.retry_queue())?;
         for name in 0..4_u8 {
             self.show_key(text, &Key(name))?;
         }
@@ -112,6 +123,15 @@ impl Part for Asker {
         }
         Ok(())
     }
+}
+
+/// Writes the keys of a queue with their dues.
+fn note_queue(text: &mut String, queue: &PrioritySet<Key, u128>) -> Result<(), Fault> {
+    for (due, key) in queue.iter() {
+        note(text, *due)?;
+        note(text, u128::from(key.0))?;
+    }
+    Ok(())
 }
 
 impl Asker {
@@ -124,12 +144,37 @@ impl Asker {
         self.fetcher.add_ready(key, u128::from(now))
     }
 
+    /// Writes where a key waits, who was asked for it and when, its targets and its retries.
     fn show_key(&self, text: &mut String, key: &Key) -> Result<(), Fault> {
-        note_if_any(text, self.fetcher.place(key).map(|it| it.due))?;
-        note_if_any(text, self.fetcher.request(key).map(|it| it.1.deadline))?;
-        note(text, u128::from(self.fetcher.has_targets(key)))?;
+        let place = self.fetcher.place(key);
+        note_if_any(text, place.map(|it| u128::from(it.is_retry)))?;
+        note_if_any(text, place.map(|it| it.due))?;
+        note_request(text, self.fetcher.request(key).map(|it| it.1))?;
+        note_targets(text, self.fetcher.targets(key))?;
         note(text, u128::from(self.fetcher.retries(key)))
     }
+}
+
+/// Writes a request: its key, its peer and its moments.
+fn note_request(text: &mut String, request: Option<&Request<Key, Peer>>) -> Result<(), Fault> {
+    let Some(request) = request else {
+        return note_if_any(text, None);
+    };
+    note(text, u128::from(request.key.0))?;
+    note(text, u128::from(request.peer.0))?;
+    note(text, request.start)?;
+    note(text, request.deadline)
+}
+
+/// Writes a key's targets, if it has some.
+fn note_targets(text: &mut String, targets: Option<&[Peer]>) -> Result<(), Fault> {
+    let Some(targets) = targets else {
+        return note_if_any(text, None);
+    };
+    for peer in targets {
+        note(text, u128::from(peer.0))?;
+    }
+    Ok(())
 }
 
 fn peers(alloc: Global, names: &[u8]) -> Result<Vec<Peer>, Fault> {

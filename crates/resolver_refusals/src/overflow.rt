@@ -4,7 +4,7 @@ ghost use Rattle.std.specs.Prelude.{nat_le};
 ghost use Rattle.std.proofs.Common.{rules};
 
 use crate::demand::note_subscribers;
-use crate::part::{Ending, Part, note, taken};
+use crate::part::{Ending, Part, Way, note, taken};
 use resolver::base::{Fault, NonEmptyVec};
 use resolver::ingress::{FetchKey, Message, Metadata, Pending, Predicate};
 use std::alloc::Global;
@@ -50,9 +50,9 @@ pub const REJECTED_DRAIN: [Call; 7] = [
 ];
 
 /// Takes the worked row of a retain: a hundred keys, of which the last is kept.
-pub fn retain(alloc: Global) -> Ending {
+pub fn retain(alloc: Global, way: Way) -> Ending {
     match retain_calls(alloc) {
-        Ok(calls) => taken::<Overflow>(alloc, calls.as_slice()),
+        Ok(calls) => taken::<Overflow>(alloc, way, calls.as_slice()),
         Err(_) => Ending::Outside,
     }
 }

@@ -11,6 +11,8 @@ pub enum Ending {
     Whole,
     /// A call was refused memory, and the part was as it had been.
     AsItWas,
+    /// A call was refused memory, made again, and the row went on to what it leads to.
+    WentOn,
     /// A call was refused, and the part was another then.
     Changed,
     /// What the row itself needs was refused.
@@ -23,8 +25,29 @@ impl Ending {
         match self {
             Ending::Whole => "whole",
             Ending::AsItWas => "refused, and as it was",
+            Ending::WentOn => "refused, and went on",
             Ending::Changed => "refused, and changed",
             Ending::Outside => "refused outside",
+        }
+    }
+}
+
+/// What is done where a call is refused.
+#[derive(Clone, Copy, Debug, PartialEq, Eq)]
+pub enum Way {
+    /// The part is compared with one that took the calls before it.
+    Compared,
+    /// The call is made again, and the row goes on. Then the part is compared with one that took all
+    /// calls.
+    GoneOn,
+}
+
+impl Way {
+    /// The words behind a row's name.
+    pub fn text(self) -> &'static str {
+        match self {
+            Way::Compared => "",
+            Way::GoneOn => ", and on",
         }
     }
 }
@@ -40,22 +63,35 @@ pub trait Part: Drop {
     /// Takes one call.
     fn take(&mut self, call: &Self::Call) -> Result<(), Fault>;
 
-    /// Writes what the row compares of the part. It may be used up then.
+    /// Writes all that the part's calls show of it. It may be used up then.
     fn show(&mut self, text: &mut String) -> Result<(), Fault>;
+
+    /// Writes what a row leads to, also where one of its calls was made twice.
+    fn show_end(&mut self, text: &mut String) -> Result<(), Fault> {
+        self.show(text)
+    }
 }
 
-/// Takes the calls of a row one after another, up to the first that is refused.
-pub fn taken<T: Part>(alloc: Global, calls: &[T::Call]) -> Ending {
+/// Takes the calls of a row one after another.
+pub fn taken<T: Part>(alloc: Global, way: Way, calls: &[T::Call]) -> Ending {
+    match way {
+        Way::Compared => compared::<T>(alloc, calls),
+        Way::GoneOn => gone_on::<T>(alloc, calls),
+    }
+}
+
+/// The same, up to the first call that is refused. Then the part is compared with one that took the
+/// calls before it.
+fn compared<T: Part>(alloc: Global, calls: &[T::Call]) -> Ending {
     let mut part = T::new(alloc);
     for (count, call) in calls.iter().enumerate() {
         match part.take(call) {
             Ok(()) => {}
             Err(Fault::OutOfMemory) => {
-                return match is_as_after(alloc, &mut part, &calls[..count]) {
-                    Ok(true) => Ending::AsItWas,
-                    Ok(false) => Ending::Changed,
-                    Err(_) => Ending::Outside,
-                };
+                return judged(
+                    Ending::AsItWas,
+                    is_as_after(alloc, &mut part, &calls[..count]),
+                );
             }
             Err(_) => return Ending::Changed,
         }
@@ -63,12 +99,49 @@ pub fn taken<T: Part>(alloc: Global, calls: &[T::Call]) -> Ending {
     Ending::Whole
 }
 
+/// The same, and a call that is refused memory once more. Then the part is compared with one that took
+/// all calls.
+fn gone_on<T: Part>(alloc: Global, calls: &[T::Call]) -> Ending {
+    let mut part = T::new(alloc);
+    let mut is_refused = false;
+    for call in calls {
+        match taken_again(&mut part, call) {
+            Ok(again) => is_refused = is_refused || again,
+            Err(_) => return Ending::Changed,
+        }
+    }
+    if is_refused {
+        judged(Ending::WentOn, leads_there(alloc, &mut part, calls))
+    } else {
+        Ending::Whole
+    }
+}
+
+/// Takes a call, and once more where it is refused memory. Answers whether it was.
+fn taken_again<T: Part>(part: &mut T, call: &T::Call) -> Result<bool, Fault> {
+    match part.take(call) {
+        Ok(()) => Ok(false),
+        Err(Fault::OutOfMemory) => {
+            part.take(call)?;
+            Ok(true)
+        }
+        Err(fault) => Err(fault),
+    }
+}
+
+/// How a row ended, by what a comparison answered.
+pub fn judged(same: Ending, is_same: Result<bool, Fault>) -> Ending {
+    match is_same {
+        Ok(true) => same,
+        Ok(false) => Ending::Changed,
+        Err(Fault::OutOfMemory) => Ending::Outside,
+        Err(_) => Ending::Changed,
+    }
+}
+
 /// Whether a part shows what one shows that took these calls.
 fn is_as_after<T: Part>(alloc: Global, part: &mut T, calls: &[T::Call]) -> Result<bool, Fault> {
-    let mut twin = T::new(alloc);
-    for call in calls {
-        twin.take(call)?;
-    }
+    let mut twin = twin_after::<T>(alloc, calls)?;
     let mut seen = String::new(alloc);
     let mut expected = String::new(alloc);
     part.show(&mut seen)?;
@@ -76,15 +149,34 @@ fn is_as_after<T: Part>(alloc: Global, part: &mut T, calls: &[T::Call]) -> Resul
     Ok(seen.as_str() == expected.as_str())
 }
 
+/// Whether a part came to where these calls lead.
+fn leads_there<T: Part>(alloc: Global, part: &mut T, calls: &[T::Call]) -> Result<bool, Fault> {
+    let mut twin = twin_after::<T>(alloc, calls)?;
+    let mut seen = String::new(alloc);
+    let mut expected = String::new(alloc);
+    part.show_end(&mut seen)?;
+    twin.show_end(&mut expected)?;
+    Ok(seen.as_str() == expected.as_str())
+}
+
+/// A part that took these calls.
+fn twin_after<T: Part>(alloc: Global, calls: &[T::Call]) -> Result<T, Fault> {
+    let mut twin = T::new(alloc);
+    for call in calls {
+        twin.take(call)?;
+    }
+    Ok(twin)
+}
+
 /// Writes a number behind the others.
 pub fn note(text: &mut String, number: u128) -> Result<(), Fault> {
-    write!(text, " {number}").map_err(|_| Fault::OutOfMemory)
+    Ok(write!(text, " {number}")?)
 }
 
 /// Writes a number behind the others, or that there is none.
 pub fn note_if_any(text: &mut String, number: Option<u128>) -> Result<(), Fault> {
     match number {
         Some(number) => note(text, number),
-        None => write!(text, " none").map_err(|_| Fault::OutOfMemory),
+        None => Ok(write!(text, " none")?),
     }
 }

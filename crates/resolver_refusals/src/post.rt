@@ -3,7 +3,8 @@
 ghost use Rattle.std.specs.Prelude.{◌≡◌, true};
 ghost use Rattle.std.proofs.Common.{rules};
 
-use crate::part::Ending;
+use crate::part::{Ending, Way, judged};
+use crate::spelled::{spell, spell_all, spell_book, spell_share};
 use futures::Stream;
 use futures::task::Poll;
 use futures::test::MockTask;
@@ -12,6 +13,7 @@ use resolver::ingress::{FetchKey, Message};
 use resolver::mailbox::{Exact, Naming, Pages, Receiver, Sender, Share};
 use resolver::{Fetch, mailbox};
 use std::alloc::{AllocGlobal, Global};
+use std::fmt::Write;
 use std::random::RandomSource;
 use std::sync::Wait;
 
@@ -51,36 +53,63 @@ struct Mail<N: Naming, R> {
     taker: Taker<N, R>,
 }
 
-/// The messages of both handles, those that were taken, and the calls in the book.
-type Counts = [usize; 4];
+/// What the mailbox shows: the shares of both handles, what was taken, and how many calls of the row's
+/// book there are.
+type Shown = (&'static str, &'static str, &'static str, usize);
 
-/// A call on the mailbox, and what is counted before it.
-const CALLS: [(Call, Counts); 9] = [
-    (Call::First(1, 10), [0, 0, 0, 0]),
-    (Call::First(2, 20), [1, 0, 0, 1]),
-    (Call::Second(2, 21), [2, 0, 0, 2]),
-    (Call::Poll, [2, 1, 0, 3]),
-    (Call::Poll, [2, 1, 1, 4]),
-    (Call::Poll, [2, 1, 2, 5]),
-    (Call::Close, [2, 1, 2, 5]),
-    (Call::First(1, 10), [2, 1, 2, 6]),
-    (Call::Book, [2, 1, 2, 6]),
+/// The book of the row, a call each.
+const BOOK: [&str; 6] = [
+    " put 0 0 true 1/10:7",
+    " put 0 1 false 2/20:8",
+    " put 1 0 false 2/21:9",
+    " take 1/10:7",
+    " take 2/20:8/21:9",
+    " close",
 ];
+
+const FIRST: &str = "0 false 1/10:7 2/20:8";
+
+const SECOND: &str = "1 false 2/21:9";
+
+const ONE: &str = " 1/10:7";
+
+const BOTH: &str = " 1/10:7 2/20:8/21:9";
+
+/// The calls of the row, and what is shown before each.
+const CALLS: [(Call, Shown); 9] = [
+    (Call::First(1, 10, 7), ("none", "none", "", 0)),
+    (Call::First(2, 20, 8), ("0 false 1/10:7", "none", "", 1)),
+    (Call::Second(2, 21, 9), (FIRST, "none", "", 2)),
+    (Call::Poll(" 1/10:7"), (FIRST, SECOND, "", 3)),
+    (Call::Poll(" 2/20:8/21:9"), (FIRST, SECOND, ONE, 4)),
+    (Call::Poll(""), (FIRST, SECOND, BOTH, 5)),
+    (Call::Close, (FIRST, SECOND, BOTH, 5)),
+    (Call::First(3, 30, 5), (FIRST, SECOND, BOTH, 6)),
+    (Call::Book, (CLOSED, SECOND, BOTH, 6)),
+];
+
+/// What the first handle's share is once it was answered Closed.
+const CLOSED: &str = "0 true 1/10:7 2/20:8";
+
+/// What is shown at the end of the row.
+const END: Shown = (CLOSED, SECOND, BOTH, 6);
 
 #[derive(Clone, Copy)]
 enum Call {
-    /// The first handle puts a fetch of this key for this subscriber.
-    First(u16, u16),
+    /// The first handle puts a fetch of this key for this subscriber with this mark.
+    First(u16, u16, u64),
     /// The second one does.
-    Second(u16, u16),
-    Poll,
+    Second(u16, u16, u64),
+    /// A poll, which gives this message, or nothing.
+    Poll(&'static str),
     Close,
     Book,
 }
 
 /// Takes the worked row of a recorded mailbox of capacity 1 through its calls. Where one is refused, the
-/// shares, the list of what was taken and the book are as long as before it.
-pub fn mailbox_book<N, R>(rt: &R, alloc: Global, pages: Pages) -> Ending
+/// shares, what was taken and the book are what they were before it; or it is made again, and the row goes
+/// on to its end.
+pub fn mailbox_book<N, R>(rt: &R, alloc: Global, way: Way, pages: Pages) -> Ending
 where
     N: Naming,
     R: AllocGlobal + Wait + RandomSource + Copy + Drop,
@@ -94,21 +123,36 @@ where
     let Ok(mut mail) = opened::<N, R>(*rt, alloc, pages) else {
         return Ending::Outside;
     };
-    for (call, before) in CALLS {
-        match take(alloc, &mut mail, &task, call) {
-            Ok(()) => {}
-            Err(_) => return ending(alloc, &mail, before),
-        }
-    }
-    Ending::Whole
+    walked(alloc, way, &mut mail, &task)
 }
 
-/// Whether a mailbox that refused a call is as it was before.
-fn ending<N: Naming, R: Wait>(alloc: Global, mail: &Mail<N, R>, before: Counts) -> Ending {
-    match counts(alloc, mail) {
-        Ok(counts) if counts == before => Ending::AsItWas,
-        Ok(_) => Ending::Changed,
-        Err(_) => Ending::Outside,
+/// Takes the calls of the row one after another.
+fn walked<N: Naming, R: Wait + Drop>(
+    alloc: Global,
+    way: Way,
+    mail: &mut Mail<N, R>,
+    task: &MockTask,
+) -> Ending {
+    let mut is_refused = false;
+    for (call, before) in CALLS {
+        match take(alloc, mail, task, call) {
+            Ok(()) => {}
+            Err(Fault::OutOfMemory) => {
+                if way == Way::Compared {
+                    return judged(Ending::AsItWas, shows(alloc, mail, before));
+                }
+                is_refused = true;
+                if take(alloc, mail, task, call).is_err() {
+                    return Ending::Changed;
+                }
+            }
+            Err(_) => return Ending::Changed,
+        }
+    }
+    if is_refused {
+        judged(Ending::WentOn, shows(alloc, mail, END))
+    } else {
+        Ending::Whole
     }
 }
 
@@ -129,7 +173,7 @@ where
     })
 }
 
-/// Takes one call of the row.
+/// Takes one call of the row. One that gives something else than the row has is `Uneven`.
 fn take<N: Naming, R: Wait + Drop>(
     alloc: Global,
     mail: &mut Mail<N, R>,
@@ -137,59 +181,101 @@ fn take<N: Naming, R: Wait + Drop>(
     call: Call,
 ) -> Result<(), Fault> {
     match call {
-        Call::First(key, subscriber) => {
-            mail.first.enqueue(fetch(alloc, key, subscriber)?)?;
+        Call::First(key, subscriber, mark) => put(alloc, &mut mail.first, (key, subscriber, mark)),
+        Call::Second(key, subscriber, mark) => put(
+            alloc,
+            &mut mail.second,
+            (key, subscriber, mark),
+        ),
+        Call::Poll(given) => poll(alloc, &mut mail.taker, task, given),
+        Call::Close => {
+            mail.first.close();
+            Ok(())
         }
-        Call::Second(key, subscriber) => {
-            mail.second.enqueue(fetch(alloc, key, subscriber)?)?;
-        }
-        Call::Poll => {
-            if let Poll::Ready(Some(message)) = task.enter(|cx| mail.taker.poll_next(cx)) {
-                message?;
-            }
-        }
-        Call::Close => mail.first.close(),
         Call::Book => {
-            booked(alloc, mail)?;
+            let mut text = String::new(alloc);
+            spell_book_of(&mut text, mail)
         }
+    }
+}
+
+/// Puts a fetch of a key for a subscriber with its mark.
+fn put<N: Naming, R: Wait>(
+    alloc: Global,
+    handle: &mut Putter<N, R>,
+    told: (u16, u16, u64),
+) -> Result<(), Fault> {
+    let fetch = Fetch {
+        key: told.0,
+        subscriber: told.1,
+        mark: told.2,
+    };
+    let mut items = Vec::new(alloc);
+    items.push(FetchKey::from_fetch(alloc, fetch)?)?;
+    handle.enqueue(Message::Fetch(items))?;
+    Ok(())
+}
+
+/// Polls, and compares what the poll gives.
+fn poll<N: Naming, R: Wait + Drop>(
+    alloc: Global,
+    taker: &mut Taker<N, R>,
+    task: &MockTask,
+    given: &str,
+) -> Result<(), Fault> {
+    let mut text = String::with_capacity(alloc, 64)?;
+    if let Poll::Ready(Some(message)) = task.enter(|cx| taker.poll_next(cx)) {
+        spell(&mut text, &message?)?;
+    }
+    if text.as_str() == given {
+        Ok(())
+    } else {
+        Err(Fault::Uneven)
+    }
+}
+
+/// Whether the mailbox shows this.
+fn shows<N: Naming, R: Wait>(
+    alloc: Global,
+    mail: &Mail<N, R>,
+    shown: Shown,
+) -> Result<bool, Fault> {
+    let mut seen = String::new(alloc);
+    spell_mail(&mut seen, mail)?;
+    let mut expected = String::new(alloc);
+    spell_shown(&mut expected, shown)?;
+    Ok(seen.as_str() == expected.as_str())
+}
+
+/// Writes the shares of both handles, what was taken, and the book.
+fn spell_mail<N: Naming, R: Wait>(text: &mut String, mail: &Mail<N, R>) -> Result<(), Fault> {
+    spell_share(text, mail.first.share())?;
+    write!(text, ";")?;
+    spell_share(text, mail.second.share())?;
+    write!(text, ";")?;
+    spell_all(text, mail.taker.taken())?;
+    write!(text, ";")?;
+    spell_book_of(text, mail)
+}
+
+/// Writes what the row says is shown.
+fn spell_shown(text: &mut String, shown: Shown) -> Result<(), Fault> {
+    let (first, second, taken, calls) = shown;
+    write!(text, "{first};{second};{taken};")?;
+    for call in BOOK.iter().take(calls) {
+        write!(text, "{call}")?;
     }
     Ok(())
 }
 
-fn fetch(alloc: Global, key: u16, subscriber: u16) -> Result<Message<u16, u16, (), All>, Fault> {
-    let fetch = Fetch {
-        key,
-        subscriber,
-        mark: 7,
-    };
-    let mut items = Vec::new(alloc);
-    items.push(FetchKey::from_fetch(alloc, fetch)?)?;
-    Ok(Message::Fetch(items))
-}
-
-fn counts<N: Naming, R: Wait>(alloc: Global, mail: &Mail<N, R>) -> Result<Counts, Fault> {
-    Ok([
-        count_of(mail.first.share()),
-        count_of(mail.second.share()),
-        mail.taker.taken().len(),
-        booked(alloc, mail)?,
-    ])
-}
-
-fn count_of<N: Naming>(share: Option<&Share<u16, u16, (), All, N>>) -> usize {
-    match share {
-        Some(share) => share.puts().len(),
-        None => 0,
-    }
-}
-
-/// How many calls the book has that is lent for the shares that there are.
-fn booked<N: Naming, R: Wait>(alloc: Global, mail: &Mail<N, R>) -> Result<usize, Fault> {
+/// Writes the book that is lent for the shares that there are.
+fn spell_book_of<N: Naming, R: Wait>(text: &mut String, mail: &Mail<N, R>) -> Result<(), Fault> {
+    let alloc = *text.allocator();
     let Some(first) = mail.first.share() else {
-        return Ok(mail.taker.book(alloc, &[])?.len());
+        return spell_book(text, mail.taker.book(alloc, &[])?.as_slice());
     };
     let Some(second) = mail.second.share() else {
-        return Ok(mail.taker.book(alloc, &[first])?.len());
+        return spell_book(text, mail.taker.book(alloc, &[first])?.as_slice());
     };
-    Ok(mail.taker.book(alloc, &[first, second])?.len())
+    spell_book(text, mail.taker.book(alloc, &[first, second])?.as_slice())
 }
