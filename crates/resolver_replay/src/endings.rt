@@ -3,9 +3,10 @@
 ghost use Rattle.std.specs.Prelude.{◌≡◌};
 ghost use Rattle.resolver_replay.specs.declared.endings.Fault.TheVariants.{Memory};
 
+use crate::script::Wrong;
 use std::alloc::{AllocError, AllocFailed};
-use std::io;
 use std::io::ErrorKind;
+use std::{fmt, io};
 use thiserror::Error;
 
 /// How a script ended.
@@ -14,7 +15,21 @@ pub enum Ending {
     /// All its lines were read.
     End,
     /// A line can't be read. This was said, and nothing is read after it.
-    Unreadable,
+    Unreadable(Place),
+}
+
+/// A line that can't be read, counted from 1, and why.
+#[derive(Clone, Copy, Debug, PartialEq, Eq)]
+pub struct Place {
+    pub line: u64,
+    pub wrong: Wrong,
+}
+
+impl fmt::Display for Place {
+    fn fmt<W: fmt::Write>(&self, f: &mut fmt::Formatter<W>) -> fmt::Result {
+        let (line, wrong) = (self.line, self.wrong);
+        write!(f, "line {line}: {wrong}")
+    }
 }
 
 impl Ending {
@@ -22,7 +37,7 @@ impl Ending {
     pub fn status(self) -> u8 {
         match self {
             Ending::End => 0,
-            Ending::Unreadable => 2,
+            Ending::Unreadable(_) => 2,
         }
     }
 }

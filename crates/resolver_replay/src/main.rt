@@ -2,7 +2,8 @@
 //! them one after another, and prints each effect as one line.
 //!
 //! It takes no arguments. It ends with status 0 at the end of the script, with 2 after a line that
-//! can't be read, and with 1 after a fault, which standard error names.
+//! can't be read, and with 1 after a fault. Standard error says why the line can't be read, and names
+//! the fault.
 #![tactic(auto)]
 
 mod endings;
@@ -21,7 +22,12 @@ use std::process::ExitCode;
 
 fn main(rt: HostRuntime) -> ExitCode {
     match run(&rt) {
-        Ok(ending) => ExitCode::from(ending.status()),
+        Ok(ending) => {
+            if let Ending::Unreadable(place) = ending {
+                let _ = eprintln!(rt; "{place}");
+            }
+            ExitCode::from(ending.status())
+        }
         Err(fault) => {
             let _ = eprintln!(rt; "fault: {fault}");
             ExitCode::FAILURE

@@ -1,9 +1,9 @@
 //! A script from its first line to its last.
 
-use crate::endings::{Ending, Fault, written};
+use crate::endings::{Ending, Fault, Place, written};
 use crate::opaque::Opaque;
 use crate::peers::Peers;
-use crate::script::{Command, Moment, Said, Unread, is_skipped, parse};
+use crate::script::{Command, Moment, Rejected, Said, Why, Wrong, is_skipped, parse};
 use resolver::p2p::fetcher::Answer;
 use std::alloc::Global;
 use std::io::{BufRead, BufReader, ErrorKind, Read, Write};
@@ -64,9 +64,12 @@ fn feed_lines<R: Read, W: Write>(
         if is_skipped(&line) {
             continue;
         }
-        if !take_line(alloc, session, &line, output)? {
+        if let Some(wrong) = take_line(alloc, session, &line, output)? {
             written(writeln!(output, "line {number} unreadable"))?;
-            return Ok(Ending::Unreadable);
+            return Ok(Ending::Unreadable(Place {
+                line: number,
+                wrong,
+            }));
         }
     }
     Ok(Ending::End)
@@ -92,34 +95,39 @@ fn read_line<R: Read>(input: &mut BufReader<R>, line: &mut Vec<u8>) -> Result<bo
     Ok(count != 0)
 }
 
-/// Does what a line says. False where it can't be read.
+/// Does what a line says, or answers what is wrong with it.
 fn take_line<W: Write>(
     alloc: Global,
     session: &mut Option<Session>,
     line: &[u8],
     output: &mut W,
-) -> Result<bool, Fault> {
+) -> Result<Option<Wrong>, Fault> {
     let command = match parse(alloc, line) {
         Ok(command) => command,
-        Err(Unread::Unreadable) => return Ok(false),
-        Err(Unread::OutOfMemory) => return Err(Fault::Memory),
+        Err(Rejected::Unreadable(wrong)) => return Ok(Some(wrong)),
+        Err(Rejected::OutOfMemory) => return Err(Fault::Memory),
     };
-    match session {
-        None => start(alloc, session, command),
-        Some(session) => session.take(command, output),
-    }
+    let why = match session {
+        None => start(alloc, session, command)?,
+        Some(session) => session.take(command, output)?,
+    };
+    Ok(why.map(Wrong::of_line))
 }
 
-/// Opens the machine. False where the line is another command.
-fn start(alloc: Global, session: &mut Option<Session>, command: Command) -> Result<bool, Fault> {
+/// Opens the machine, or says why the line is another command.
+fn start(
+    alloc: Global,
+    session: &mut Option<Session>,
+    command: Command,
+) -> Result<Option<Why>, Fault> {
     let Some(machine) = opened(alloc, command)? else {
-        return Ok(false);
+        return Ok(Some(Why::Unopened));
     };
     *session = Some(Session {
         machine,
         now: Moment { nanoseconds: 0 },
     });
-    Ok(true)
+    Ok(None)
 }
 
 /// The machine that a command opens.
@@ -132,18 +140,23 @@ fn opened(alloc: Global, command: Command) -> Result<Option<Machine>, Fault> {
 }
 
 impl Session {
-    /// Does what a command says. False where it may not stand here.
-    fn take<W: Write>(&mut self, command: Command, output: &mut W) -> Result<bool, Fault> {
-        match command {
-            Command::Opaque { .. } | Command::Peers(_) => Ok(false),
+    /// Does what a command says, or says why it may not stand here.
+    fn take<W: Write>(&mut self, command: Command, output: &mut W) -> Result<Option<Why>, Fault> {
+        let is_told = match command {
+            Command::Opaque { .. } | Command::Peers(_) => return Ok(Some(Why::Opened)),
             Command::At(moment) => {
                 self.now = moment;
-                Ok(true)
+                true
             }
-            Command::Show => self.machine.show(output),
-            Command::Happens(said) => self.machine.happens(self.now, said, output),
-            Command::Answers(answer) => self.machine.answers(answer, output),
-        }
+            Command::Show => self.machine.show(output)?,
+            Command::Happens(said) => self.machine.happens(self.now, said, output)?,
+            Command::Answers(answer) => self.machine.answers(answer, output)?,
+        };
+        Ok(if is_told {
+            None
+        } else {
+            Some(Why::OtherMachine)
+        })
     }
 }
 

@@ -5,17 +5,18 @@ ghost use Rattle.resolver_replay.specs.declared.script.Unread.TheVariants.{OutOf
 
 mod fields;
 mod inputs;
+mod wrong;
 
 use crate::kept::Kept;
 use bytes::Bytes;
-use fields::{moment, peer, timeout};
+use fields::{Fields, moment, peer, timeout};
 use inputs::{of_both_machines, of_peers, of_scans, of_sources};
 use resolver::Outcome;
 use resolver::base::NonEmptyVec;
 use resolver::p2p::fetcher::Answer;
 use std::alloc::{AllocError, AllocFailed, Global};
 use std::str;
-use std::str::Split;
+pub use wrong::{Why, Wrong};
 
 /// A moment or a duration, in nanoseconds: below 2^94.
 #[derive(Clone, Copy, Debug, PartialEq, Eq)]
@@ -107,11 +108,19 @@ pub struct Wish {
     pub targets: Option<NonEmptyVec<u8>>,
 }
 
-/// Why a line was not read.
+/// Why a field was not read.
 #[derive(Clone, Copy, Debug, PartialEq, Eq)]
 pub enum Unread {
+    /// It says nothing that a script may say there.
+    Unreadable(Why),
+    OutOfMemory,
+}
+
+/// Why a line was not read.
+#[derive(Clone, Copy, Debug, PartialEq, Eq)]
+pub enum Rejected {
     /// It says nothing that a script may say.
-    Unreadable,
+    Unreadable(Wrong),
     OutOfMemory,
 }
 
@@ -137,23 +146,30 @@ pub fn is_skipped(line: &[u8]) -> bool {
 }
 
 /// What a line says that is not skipped. It lacks its LF.
-pub fn parse(alloc: Global, line: &[u8]) -> Result<Command, Unread> {
-    let text = str::from_utf8(line).map_err(|_| Unread::Unreadable)?;
-    let mut fields = text.split(' ');
-    let word = fields.next().ok_or(Unread::Unreadable)?;
-    let command = read_command(alloc, word, &mut fields)?;
+pub fn parse(alloc: Global, line: &[u8]) -> Result<Command, Rejected> {
+    let text = str::from_utf8(line).map_err(|_| Rejected::Unreadable(Wrong::of_line(Why::NoText)))?;
+    let mut fields = Fields::new(text);
+    match read_fields(alloc, &mut fields) {
+        Ok(command) => Ok(command),
+        Err(Unread::Unreadable(why)) => {
+            Err(Rejected::Unreadable(Wrong::found(line, fields.count(), why)))
+        }
+        Err(Unread::OutOfMemory) => Err(Rejected::OutOfMemory),
+    }
+}
+
+/// What all fields of a line say.
+fn read_fields(alloc: Global, fields: &mut Fields<'_>) -> Result<Command, Unread> {
+    let word = fields.next().ok_or(Unread::Unreadable(Why::Missing))?;
+    let command = read_command(alloc, word, fields)?;
     match fields.next() {
         None => Ok(command),
-        Some(_) => Err(Unread::Unreadable),
+        Some(_) => Err(Unread::Unreadable(Why::TooMany)),
     }
 }
 
 /// What a line says that begins with this word.
-fn read_command(
-    alloc: Global,
-    word: &str,
-    fields: &mut Split<'_, char>,
-) -> Result<Command, Unread> {
+fn read_command(alloc: Global, word: &str, fields: &mut Fields<'_>) -> Result<Command, Unread> {
     if let Some(command) = of_the_script(word, fields)? {
         return Ok(command);
     }
@@ -162,12 +178,12 @@ fn read_command(
     }
     match read_said(alloc, word, fields)? {
         Some(said) => Ok(Command::Happens(said)),
-        None => Err(Unread::Unreadable),
+        None => Err(Unread::Unreadable(Why::NoWord)),
     }
 }
 
 /// What a line says that opens a machine, or that no machine is fed, if its word does so.
-fn of_the_script(word: &str, fields: &mut Split<'_, char>) -> Result<Option<Command>, Unread> {
+fn of_the_script(word: &str, fields: &mut Fields<'_>) -> Result<Option<Command>, Unread> {
     Ok(Some(match word {
         "opaque" => Command::Opaque {
             delay: moment(fields.next())?,
@@ -179,7 +195,7 @@ fn of_the_script(word: &str, fields: &mut Split<'_, char>) -> Result<Option<Comm
     }))
 }
 
-fn read_timing(fields: &mut Split<'_, char>) -> Result<Timing, Unread> {
+fn read_timing(fields: &mut Fields<'_>) -> Result<Timing, Unread> {
     let me = match fields.next() {
         Some("-") => None,
         field => Some(peer(field)?),
@@ -190,11 +206,7 @@ fn read_timing(fields: &mut Split<'_, char>) -> Result<Timing, Unread> {
 }
 
 /// What a line says that happened, if its word says so.
-fn read_said(
-    alloc: Global,
-    word: &str,
-    fields: &mut Split<'_, char>,
-) -> Result<Option<Said>, Unread> {
+fn read_said(alloc: Global, word: &str, fields: &mut Fields<'_>) -> Result<Option<Said>, Unread> {
     if let Some(said) = of_both_machines(alloc, word, fields)? {
         return Ok(Some(said));
     }

@@ -1,16 +1,46 @@
-//! The fields of a line. A field that is not there can't be read.
+//! The fields of a line, and what each says. A field that is not there can't be read.
 
 ghost use Rattle.std.specs.Prelude.{◌≡◌, ◌≤◌, ◌<◌, ◌^◌, ◌⊎◌, ◌-◌, [], map, Ok, Err, IfOk, IfErr};
 ghost use Rattle.std.specs.Option.{option_copied};
 ghost use Rattle.std.specs.Char.{is_ascii_digit};
 ghost use Rattle.std.specs.List.{list_all};
 ghost use Rattle.resolver_replay.specs.declared.script.Unread.TheVariants.{OutOfMemory, Unreadable};
+ghost use Rattle.resolver_replay.specs.declared.script.wrong.Why.TheVariants.{Zero};
 ghost use Rattle.resolver_replay.specs.Numbers.{is_plain, list_of, number_of, numbers_in, parts_of};
 
-use crate::script::{Moment, Unread};
+use crate::script::{Moment, Unread, Why};
 use bytes::Bytes;
 use resolver::base::NonEmptyVec;
 use std::alloc::{AllocError, Global};
+use std::str::Split;
+
+/// The fields of a line, between single spaces, and how many were asked for.
+#[derive(Drop)]
+pub struct Fields<'a> {
+    rest: Split<'a, char>,
+    count: usize,
+}
+
+impl<'a> Fields<'a> {
+    /// The fields of this line, of which none was asked for.
+    pub fn new(line: &'a str) -> Fields<'a> {
+        Fields {
+            rest: line.split(' '),
+            count: 0,
+        }
+    }
+
+    /// The next field, if there is one.
+    pub fn next(&mut self) -> Option<&'a str> {
+        self.count = self.count.saturating_add(1);
+        self.rest.next()
+    }
+
+    /// How many fields were asked for: the number of the last one, counted from 1.
+    pub fn count(&self) -> usize {
+        self.count
+    }
+}
 
 /// A key: at most 255.
 pub fn key(field: Option<&str>) -> Result<u8, Unread>
@@ -63,13 +93,13 @@ pub fn timeout(field: Option<&str>) -> Result<u128, Unread>
     ensures is { IfOk result (λ n. number_of (option_copied field.entry) (2 ^ 94 - 1) ≡ Ok n) }
     ensures some { IfOk result (λ n. 0 < n) }
     ensures limit { IfOk result (λ n. n < 2 ^ 94) }
-    ensures err { IfErr result (λ unread. (unread ≡ Unreadable)
-        × ((number_of (option_copied field.entry) (2 ^ 94 - 1) ≡ Err unread)
-        ⊎ (number_of (option_copied field.entry) (2 ^ 94 - 1) ≡ Ok 0))) }
+    ensures err { IfErr result (λ unread.
+        (number_of (option_copied field.entry) (2 ^ 94 - 1) ≡ Err unread)
+        ⊎ ((unread ≡ Unreadable Zero) × (number_of (option_copied field.entry) (2 ^ 94 - 1) ≡ Ok 0))) }
 {
     let nanoseconds = number(field, (1 << 94) - 1)?;
     if nanoseconds == 0 {
-        return Err(Unread::Unreadable);
+        return Err(Unread::Unreadable(Why::Zero));
     }
     Ok(nanoseconds)
 }
@@ -79,13 +109,13 @@ fn number(field: Option<&str>, most: u128) -> Result<u128, Unread>
     ensures is { result ≡ number_of (option_copied field.entry) most }
     ensures limit { IfOk result (λ n. n ≤ most) }
 {
-    let digits = field.ok_or(Unread::Unreadable)?;
+    let digits = field.ok_or(Unread::Unreadable(Why::Missing))?;
     if !is_plain(digits.as_bytes()) {
-        return Err(Unread::Unreadable);
+        return Err(Unread::Unreadable(Why::NoNumber));
     }
     match digits.parse::<u128>() {
         Ok(n) if n <= most => Ok(n),
-        _ => Err(Unread::Unreadable),
+        _ => Err(Unread::Unreadable(Why::Above(most))),
     }
 }
 
@@ -113,7 +143,7 @@ pub fn peers(alloc: Global, field: Option<&str>) -> Result<Vec<u8>, Unread>
     match field {
         Some("-") => Ok(Vec::new(alloc)),
         Some(text) => numbers(alloc, &parts(alloc, text)?),
-        None => Err(Unread::Unreadable),
+        None => Err(Unread::Unreadable(Why::Missing)),
     }
 }
 
@@ -126,7 +156,7 @@ pub fn targets(alloc: Global, field: Option<&str>) -> Result<NonEmptyVec<u8>, Un
 {
     match NonEmptyVec::try_from(peers(alloc, field)?) {
         Ok(peers) => Ok(peers),
-        Err(_) => Err(Unread::Unreadable),
+        Err(_) => Err(Unread::Unreadable(Why::NoPeers)),
     }
 }
 
@@ -146,19 +176,23 @@ fn numbers(alloc: Global, parts: &[&str]) -> Result<Vec<u8>, Unread>
 {
     let mut numbers = Vec::new(alloc);
     for part in parts {
-        numbers.push(peer(Some(*part))?)?;
+        match peer(Some(*part)) {
+            Ok(number) => numbers.push(number)?,
+            Err(_) => return Err(Unread::Unreadable(Why::NoList)),
+        }
     }
     Ok(numbers)
 }
 
 /// Bytes as `x` and hexadecimal digits of either case, two a byte.
 pub fn bytes(alloc: Global, field: Option<&str>) -> Result<Bytes, Unread> {
+    let field = field.ok_or(Unread::Unreadable(Why::Missing))?;
     let digits = field
-        .and_then(|text| text.strip_prefix('x'))
-        .ok_or(Unread::Unreadable)?;
+        .strip_prefix('x')
+        .ok_or(Unread::Unreadable(Why::NoBytes))?;
     match hex::decode(alloc, digits) {
         Ok(bytes) => Ok(Bytes::from_vec(bytes)?),
         Err(hex::FromHexError::OutOfMemory) => Err(Unread::OutOfMemory),
-        Err(_) => Err(Unread::Unreadable),
+        Err(_) => Err(Unread::Unreadable(Why::NoBytes)),
     }
 }

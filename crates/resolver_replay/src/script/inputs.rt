@@ -2,20 +2,19 @@
 //! answers none for another word.
 
 use crate::kept::Kept;
-use crate::script::fields::{bytes, count, key, peer, peers, subscriber, targets, wide};
-use crate::script::{Said, Unread, Wish};
+use crate::script::fields::{Fields, bytes, count, key, peer, peers, subscriber, targets, wide};
+use crate::script::{Said, Unread, Why, Wish};
 use bytes::Bytes;
 use resolver::base::Check;
 use resolver::p2p::fetcher::Answer;
 use resolver::{Outcome, Resolution};
 use std::alloc::Global;
-use std::str::Split;
 
 /// What both machines are told.
 pub fn of_both_machines(
     alloc: Global,
     word: &str,
-    fields: &mut Split<'_, char>,
+    fields: &mut Fields<'_>,
 ) -> Result<Option<Said>, Unread> {
     Ok(Some(match word {
         "fetch" => Said::Fetch(wish(alloc, fields)?),
@@ -32,7 +31,7 @@ pub fn of_both_machines(
 pub fn of_sources(
     alloc: Global,
     word: &str,
-    fields: &mut Split<'_, char>,
+    fields: &mut Fields<'_>,
 ) -> Result<Option<Said>, Unread> {
     match word {
         "fetched" => {
@@ -48,7 +47,7 @@ pub fn of_sources(
 pub fn of_peers(
     alloc: Global,
     word: &str,
-    fields: &mut Split<'_, char>,
+    fields: &mut Fields<'_>,
 ) -> Result<Option<Said>, Unread> {
     Ok(Some(match word {
         "timeout" => Said::Timeout,
@@ -61,7 +60,7 @@ pub fn of_peers(
 }
 
 /// What a scan is answered.
-pub fn of_scans(word: &str, fields: &mut Split<'_, char>) -> Result<Option<Answer>, Unread> {
+pub fn of_scans(word: &str, fields: &mut Fields<'_>) -> Result<Option<Answer>, Unread> {
     Ok(Some(match word {
         "drawn" => Answer::Drawn(wide(fields.next())?),
         "checked" => Answer::Checked(check(fields.next())?),
@@ -70,7 +69,7 @@ pub fn of_scans(word: &str, fields: &mut Split<'_, char>) -> Result<Option<Answe
     }))
 }
 
-fn wish(alloc: Global, fields: &mut Split<'_, char>) -> Result<Wish, Unread> {
+fn wish(alloc: Global, fields: &mut Fields<'_>) -> Result<Wish, Unread> {
     let key = key(fields.next())?;
     let subscriber = subscriber(fields.next())?;
     let mark = count(fields.next())?;
@@ -86,7 +85,7 @@ fn wish(alloc: Global, fields: &mut Split<'_, char>) -> Result<Wish, Unread> {
     })
 }
 
-fn verdict(fields: &mut Split<'_, char>) -> Result<Said, Unread> {
+fn verdict(fields: &mut Fields<'_>) -> Result<Said, Unread> {
     let number = count(fields.next())?;
     let outcome = outcome(fields.next())?;
     Ok(Said::Verdict { number, outcome })
@@ -100,23 +99,24 @@ fn outcome(field: Option<&str>) -> Result<Option<Outcome>, Unread> {
         Some("invalid") => Ok(Some(Outcome::Invalid)),
         Some("ignored") => Ok(Some(Outcome::Ignored)),
         Some("dropped") => Ok(None),
-        _ => Err(Unread::Unreadable),
+        Some(_) => Err(Unread::Unreadable(Why::NoWord)),
+        None => Err(Unread::Unreadable(Why::Missing)),
     }
 }
 
-fn peer_set(alloc: Global, fields: &mut Split<'_, char>) -> Result<Said, Unread> {
+fn peer_set(alloc: Global, fields: &mut Fields<'_>) -> Result<Said, Unread> {
     let index = count(fields.next())?;
     let peers = peers(alloc, fields.next())?;
     Ok(Said::Peers { index, peers })
 }
 
-fn net(alloc: Global, fields: &mut Split<'_, char>) -> Result<Said, Unread> {
+fn net(alloc: Global, fields: &mut Fields<'_>) -> Result<Said, Unread> {
     let peer = peer(fields.next())?;
     let bytes = bytes(alloc, fields.next())?;
     Ok(Said::Net { peer, bytes })
 }
 
-fn served(alloc: Global, fields: &mut Split<'_, char>) -> Result<Said, Unread> {
+fn served(alloc: Global, fields: &mut Fields<'_>) -> Result<Said, Unread> {
     let serve = count(fields.next())?;
     let value = value_or(alloc, "dropped", fields.next())?;
     Ok(Said::Served { serve, value })
@@ -141,6 +141,7 @@ fn is_accepted(field: Option<&str>) -> Result<bool, Unread> {
     match field {
         Some("accepted") => Ok(true),
         Some("refused") => Ok(false),
-        _ => Err(Unread::Unreadable),
+        Some(_) => Err(Unread::Unreadable(Why::NoWord)),
+        None => Err(Unread::Unreadable(Why::Missing)),
     }
 }
