@@ -1,10 +1,10 @@
 //! The store: an actor, and what it wants done.
 
-ghost use Rattle.std.specs.Prelude.{◌<◌, ◌^◌, ◌==◌, not};
+ghost use Rattle.std.specs.Prelude.{◌==◌, not};
 ghost use Rattle.std.proofs.Common.{rules};
 
 use anyhow::Result;
-use resolver::base::{NonEmptyVec, Predicate};
+use resolver::base::{Moment, NonEmptyVec, Predicate};
 use resolver::ingress::FetchKey;
 use resolver::opaque::{Actor, Effect, Event, Input};
 use resolver::{Outcome, Resolution};
@@ -35,13 +35,6 @@ pub struct Arrived {
     pub value: u64,
     pub subscribers: usize,
     pub at: u128,
-}
-
-/// A moment, in nanoseconds: below 2^94.
-#[derive(Clone, Copy, Debug)]
-struct Moment {
-    nanoseconds: u128,
-    ghost in_range: { nanoseconds < 2 ^ 94 },
 }
 
 #[derive(Drop)]
@@ -121,11 +114,9 @@ impl Store {
 
     /// Waits until chunks are asked for again, if some wait.
     pub fn retry(&mut self) -> Result<()> {
-        if let Some(nanoseconds) = self.actor.next_retry() {
-            if nanoseconds < 1 << 94 {
-                self.now = Moment { nanoseconds };
-                self.step(Event::RetriesDue)?;
-            }
+        if let Some(due) = self.actor.next_retry().and_then(Moment::from_nanos) {
+            self.now = due;
+            self.step(Event::RetriesDue)?;
         }
         Ok(())
     }

@@ -1,6 +1,9 @@
 //! Names, refusals, tests of subscribers, lists that are never empty, sets ordered by priority,
-//! numbers that are given once, and what the caller lends to a machine or to its loop.
+//! numbers that are given once, moments, and what the caller lends to a machine or to its loop.
 
+mod moment;
+
+pub use moment::Moment;
 pub use resolver_base::base::{
     Check, Draws, Faithful, Fault, Feedback, NonEmptyVec, Numbers, Predicate, PrioritySet,
     PublicKey, Seeded, Sender, Span, Unreliable,

@@ -3,9 +3,9 @@
 use crate::endings::{Fault, written};
 use crate::kept::Kept;
 use crate::print;
-use crate::script::{Moment, Said, Wish};
+use crate::script::{Said, Wish};
 use bytes::Bytes;
-use resolver::base::NonEmptyVec;
+use resolver::base::{Moment, NonEmptyVec};
 use resolver::ingress::FetchKey;
 use resolver::opaque::{Actor, Effect, Event, Input};
 use resolver::p2p::mocks::Key;

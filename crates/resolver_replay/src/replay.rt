@@ -3,7 +3,8 @@
 use crate::endings::{Ending, Fault, Place, written};
 use crate::opaque::Opaque;
 use crate::peers::Peers;
-use crate::script::{Command, Moment, Rejected, Said, Why, Wrong, is_skipped, parse};
+use crate::script::{Command, Rejected, Said, Why, Wrong, is_skipped, parse};
+use resolver::base::Moment;
 use resolver::p2p::fetcher::Answer;
 use std::alloc::Global;
 use std::io::{BufRead, BufReader, ErrorKind, Read, Write};

@@ -12,18 +12,11 @@ use bytes::Bytes;
 use fields::{Fields, moment, peer, timeout};
 use inputs::{of_both_machines, of_peers, of_scans, of_sources};
 use resolver::Outcome;
-use resolver::base::NonEmptyVec;
+use resolver::base::{Moment, NonEmptyVec};
 use resolver::p2p::fetcher::Answer;
 use std::alloc::{AllocError, AllocFailed, Global};
 use std::str;
 pub use wrong::{Why, Wrong};
-
-/// A moment or a duration, in nanoseconds: below 2^94.
-#[derive(Clone, Copy, Debug, PartialEq, Eq)]
-pub struct Moment {
-    pub nanoseconds: u128,
-    ghost in_range: { nanoseconds < 2 ^ 94 },
-}
 
 /// How an engine that fetches from peers asks them, in nanoseconds.
 #[derive(Clone, Copy, Debug, PartialEq, Eq)]

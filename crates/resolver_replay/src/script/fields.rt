@@ -8,9 +8,9 @@ ghost use Rattle.resolver_replay.specs.declared.script.Unread.TheVariants.{OutOf
 ghost use Rattle.resolver_replay.specs.declared.script.wrong.Why.TheVariants.{Zero};
 ghost use Rattle.resolver_replay.specs.Numbers.{is_plain, list_of, number_of, numbers_in, parts_of};
 
-use crate::script::{Moment, Unread, Why};
+use crate::script::{Unread, Why};
 use bytes::Bytes;
-use resolver::base::NonEmptyVec;
+use resolver::base::{Moment, NonEmptyVec};
 use std::alloc::{AllocError, Global};
 use std::str::Split;
 
