@@ -2,9 +2,4 @@
 //!
 //! `Actor` is the machine: it takes inputs with their moments and answers with effects.
 
-mod actor;
-mod rows;
-mod stages;
-
-pub use actor::{Actor, Effect, Event, Input};
-pub use rows::{Phase, Row};
+pub use resolver_actor::opaque::{Actor, Effect, Event, Input, Phase, Row};
