@@ -8,10 +8,15 @@ pub mod IdleScores
 pub mod Fades
 pub mod Counts
 pub mod Choices
+pub mod SumTrees
+pub mod SumSteps
+pub mod Powers
 pub mod ChoiceCounts
 pub mod Ascending
 pub mod Draws
 pub mod Takes
+pub mod Positive
+pub mod Restored
 pub mod Soonest
 pub mod Timed
 pub mod NextIds

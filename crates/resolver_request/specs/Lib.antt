@@ -7,6 +7,8 @@ pub mod Bounded
 pub mod ScoreLaws
 pub mod Choice
 pub mod ChoiceLaws
+pub mod Visits
+pub mod SumTrees
 pub mod Left
 pub mod Selections
 pub mod Requests

@@ -2,14 +2,19 @@
 //!
 //! A `WeightedIndex` is the list. A `Selection` draws places from it without replacement. Whoever
 //! draws hands in the numbers: of those below the total, as many as its weight choose a place.
+//! `Visits` counts what a draw costs.
 
 ghost use Rattle.std.specs.Prelude.{◌≡◌};
 ghost use Rattle.resolver_request.specs.Choice.{means_weighted};
 
 pub mod selection;
+mod stored;
+mod tree;
+pub mod visits;
 pub mod weighted_index;
 
 pub use selection::Selection;
+pub use visits::Visits;
 pub use weighted_index::WeightedIndex;
 
 /// Whether a number below 4 and a key's retries means a weighted draw. The others mean a uniform

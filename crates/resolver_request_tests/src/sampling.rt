@@ -1,7 +1,7 @@
 //! What indexes and selections choose.
 
 use resolver_base::base::Fault;
-use resolver_request::sampling::{Selection, WeightedIndex, is_weighted};
+use resolver_request::sampling::{Selection, Visits, WeightedIndex, is_weighted};
 use std::process::Abort;
 use std::test::Fail;
 
@@ -103,6 +103,60 @@ fn widest_weights(rt: HostRuntime) -> Result<(), Fail> {
         assert!(rt; number < index.total());
         assert_eq!(rt; index.pick(number), place, "at {number}");
     }
+    Ok(())
+}
+
+#[test]
+fn index_thousand_places(rt: HostRuntime) -> Result<(), Fail> {
+    let mut weights = Vec::with_capacity(rt.alloc(), 1_000)?;
+    for weight in 0..1_000_u64 {
+        weights.push(weight)?;
+    }
+    let mut index = WeightedIndex::new(rt.alloc(), &weights)?;
+    assert_eq!(rt; index.total(), 499_500);
+    for (number, place) in [(0, 1), (498_500, 998), (499_499, 999)] {
+        let mut visits = Visits::new();
+        assert!(rt; number < index.total());
+        assert_eq!(rt;
+            index.pick_counted(number, &mut visits),
+            place,
+            "at {number}"
+        );
+        assert!(rt; visits.count() <= 11, "at {number}");
+    }
+    let mut visits = Visits::new();
+    assert_eq!(rt; visits.count(), 0);
+    assert!(rt; index.count() > 998);
+    index.set_counted(998, 0, &mut visits);
+    assert_eq!(rt; index.weight(998), 0);
+    assert!(rt; visits.count() <= 22);
+    Ok(())
+}
+
+#[test]
+fn index_wide_weights(rt: HostRuntime) -> Result<(), Fail> {
+    let index = WeightedIndex::new(rt.alloc(), &[u64::MAX; 3])?;
+    assert_eq!(rt; index.total(), 55_340_232_221_128_654_845);
+    let mut visits = Visits::new();
+    let number = 36_893_488_147_419_103_230;
+    assert!(rt; number < index.total());
+    assert_eq!(rt; index.pick_counted(number, &mut visits), 2);
+    assert!(rt; visits.count() <= 3);
+    Ok(())
+}
+
+#[test]
+fn draws_are_counted(rt: HostRuntime) -> Result<(), Fail> {
+    let mut selection = begun(WeightedIndex::new(rt.alloc(), &[3, 0, 2, 5])?)?;
+    let mut visits = Visits::new();
+    assert!(rt; selection.left_count() > 1);
+    assert_eq!(rt; selection.take_uniform_counted(1, &mut visits), 2);
+    assert!(rt; visits.count() <= 12);
+    let mut visits = Visits::new();
+    assert!(rt; selection.left_total() > 3);
+    assert_eq!(rt; selection.take_weighted_counted(3, &mut visits), 3);
+    assert!(rt; visits.count() <= 12);
+    has_weights(&rt, &selection.end(), &[3, 0, 2, 5]);
     Ok(())
 }
 

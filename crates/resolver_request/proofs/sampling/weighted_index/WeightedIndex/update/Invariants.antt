@@ -4,6 +4,6 @@ use Rattle.resolver_request.proofs.sampling.weighted_index.WeightedIndex.update.
 
 abbrev pub invariant-loop-place : goal.invariant-loop-place
 invariant-loop-place l = record {
-  so_far : l.self-inside.weights.items ≡ changed l.initial.self-inside.weights.items (take l.place-index l.changes);
-  same_length : length l.self-inside.weights.items ≡ length l.initial.self-inside.weights.items;
+  so_far : l.self ≡ changed l.initial.self (take l.place-index l.changes);
+  same_length : length l.self ≡ length l.initial.self;
 }
