@@ -8,10 +8,11 @@
 
 pub use resolver_actor::laws;
 pub use resolver_base::root::{Delivery, Fetch, Outcome, Resolution};
-pub use resolver_demand::{delivery, ingress, subscribers};
+pub use resolver_demand::{ingress, subscribers};
 pub use resolver_mailbox::mailbox;
-pub use resolver_surface::Consumer;
+pub use resolver_surface::{Consumer, Resolver, TargetedResolver};
 
 pub mod base;
+pub mod delivery;
 pub mod opaque;
 pub mod p2p;

@@ -105,7 +105,7 @@ impl<
             consumer: cfg.consumer,
             producer: cfg.producer,
         };
-        Ok((engine, Mailbox::over(sender)))
+        Ok((engine, Mailbox::over(alloc, sender)))
     }
 }
 
