@@ -1,4 +1,4 @@
-use Rattle.std.proofs.Common.{rules, arith, ◌≡◌, ◌<◌, map, get_or, Ok, Err, ℕ, length, true, false, List, Bor, refl, sym}
+use Rattle.std.proofs.Common.{rules, arith, ◌≡◌, ◌<◌, map, get_or, Ok, Err, ℕ, length, true, false, List, Bor, refl, sym, ◌∙◌}
 use Rattle.std.proofs.lemmas.Grind.{common_steps}
 use Rattle.std.proofs.lemmas.List.Folds.{list_all-map, list_all_at}
 use Rattle.std.proofs.lemmas.Simd.{map-map}
@@ -7,6 +7,7 @@ use Rattle.std.specs.Str.Parse.{digits_value}
 use Rattle.resolver_replay.specs.Numbers.{is_number, number_in, numbers_in}
 use Rattle.resolver_replay.specs.declared.script.Unread.{Unread}
 use Rattle.resolver_replay.specs.declared.script.Unread.TheVariants.{Unreadable}
+use Rattle.resolver_replay.specs.declared.script.wrong.Why.TheVariants.{NoList}
 use Rattle.resolver_replay.proofs.script.fields.numbers.Goals as goal
 
 -- what all parts write
@@ -17,20 +18,20 @@ all_read parts read written is =
     rw (each, written, values, is) refl
 
 -- digits that write no number
-no_number : (digits : List ℕ) (unread : Unread) → number_in digits 255 ≡ Err unread → (is_number digits 255 ≡ false) × (unread ≡ Unreadable)
+no_number : (digits : List ℕ) (unread : Unread) → number_in digits 255 ≡ Err unread → is_number digits 255 ≡ false
 no_number digits unread is = grind (arith, common_steps, is)
 
 -- a part that writes none
-one_unread : (parts : List (Bor (List ℕ))) (place : ℕ) (unread : Unread) (other : Bor (List ℕ)) → place < length parts → number_in (get_or parts place other).now 255 ≡ Err unread → numbers_in (map (λ part. part.now) parts) 255 ≡ Err unread
+one_unread : (parts : List (Bor (List ℕ))) (place : ℕ) (unread : Unread) (other : Bor (List ℕ)) → place < length parts → number_in (get_or parts place other).now 255 ≡ Err unread → numbers_in (map (λ part. part.now) parts) 255 ≡ Err (Unreadable NoList)
 one_unread parts place unread other within is =
     let none = no_number (get_or parts place other).now unread is in
     let each = list_all-map (λ digits. is_number digits 255) (λ part. part.now) parts in
-    let some = list_all_at (λ part. is_number part.now 255) parts place other within none.0 in
-    rw (each, some, none.1) refl
+    let some = list_all_at (λ part. is_number part.now 255) parts place other within none in
+    rw (each, some) refl
 
-pub returns-in_err-peer-clause-err : goal.returns-in_err-peer-clause-err
-returns-in_err-peer-clause-err c =
-    let unread = one_unread c.args.parts.now c.loop-part.part-index c.in_err-peer.field-0.0 _ c.loop-part-test.true (sym c.in_err-peer.ensures) in
+pub returns-in-Err-clause-err : goal.returns-in-Err-clause-err
+returns-in-Err-clause-err c =
+    let unread = one_unread c.args.parts.now c.loop-part.part-index c.in-Err.field-0 _ c.loop-part-test.true (sym c.peer.ensures ∙ c.in-Err.is) in
     search (rules, unread)
 
 pub returns-clause-is : goal.returns-clause-is
