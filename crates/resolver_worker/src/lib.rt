@@ -1,0 +1,20 @@
+//! A loop in a thread of its own: what the loops of both machines share.
+//!
+//! A `Worker` takes what is ready, one input a turn. `Running` is its loop as a future, `start` runs
+//! that in a thread, and its `Handle` waits for the end. `Awaited` holds the one-shots that a loop
+//! waits for, each under its number.
+#![tactic(auto)]
+
+mod awaited;
+mod deadline;
+mod ending;
+mod handle;
+mod running;
+mod worker;
+
+pub use awaited::Awaited;
+pub use deadline::{earlier, poll_moment};
+pub use ending::Ending;
+pub use handle::{Handle, start};
+pub use running::{Running, TURNS};
+pub use worker::{Turn, Worker};
