@@ -31,7 +31,7 @@ impl<W: Worker> Future for Running<W> {
         for _ in 0..TURNS {
             match self.worker.poll_turn(cx) {
                 Poll::Pending => return Poll::Pending,
-                Poll::Ready(Turn::Taken) => {}
+                Poll::Ready(Turn::Again) => {}
                 Poll::Ready(Turn::Over(ending)) => {
                     self.worker.close();
                     return Poll::Ready(ending);

@@ -9,8 +9,8 @@ use futures::task::{Context, Poll};
 /// What a turn of a loop came to.
 #[derive(Clone, Copy, Debug, PartialEq, Eq)]
 pub enum Turn {
-    /// One input was taken, and there may be another.
-    Taken,
+    /// There may be another input to take.
+    Again,
     /// The loop is over.
     Over(Ending),
 }
