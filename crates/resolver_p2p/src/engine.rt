@@ -4,6 +4,8 @@ ghost use Rattle.std.specs.Prelude.{◌≡◌, ◌≢◌, ◌⊎◌, ℕ, map, N
 ghost use Rattle.std.specs.List.{IsDistinct};
 ghost use Rattle.std.specs.List.Sorted.{IsStrictlySortedBy};
 ghost use Rattle.std.specs.Ordering.{is_eq};
+ghost use Rattle.futures.specs.Poll.{OnPending};
+ghost use Rattle.futures.specs.Task.{IsArmed, Keeps};
 ghost use Rattle.resolver_base.specs.declared.base.fault.Fault.TheVariants.{OutOfMemory};
 ghost use Rattle.resolver_fetch.specs.Fetcher.{IsTimely};
 ghost use Rattle.resolver_peer.specs.Parties.{parties};
@@ -16,21 +18,30 @@ ghost use Rattle.resolver_engine.specs.Matching.{Matches};
 ghost use Rattle.resolver_engine.specs.Said.{answer_of, codec, fed_of};
 ghost use Rattle.resolver_p2p.specs.Configured.{fetching};
 
+use crate::asking::Asking;
 use crate::config::Config;
+use crate::looping::Loop;
+use crate::mail::Mail;
 use crate::mailbox::Mailbox;
 use bytes::Bytes;
-use resolver_base::base::{Faithful, Fault, NonEmptyVec, Predicate, PublicKey, Span};
+use futures::future::poll_fn;
+use futures::task::{Context, Poll};
+use resolver_base::base::{Draws, Faithful, Fault, Predicate, PublicKey, Sender, Span};
 use resolver_engine::effects::Effect;
 use resolver_engine::engine::Core;
 use resolver_engine::inputs::Input;
 use resolver_engine::rows::Row;
 use resolver_fetch::fetcher;
 use resolver_mailbox::mailbox;
-use resolver_mailbox::mailbox::{Receiver, Unrecorded};
-use resolver_surface::{Blocker, Consumer, Producer, Provider};
-use std::alloc::Global;
+use resolver_mailbox::mailbox::Unrecorded;
+use resolver_surface::{Blocker, Clock, Consumer, Producer, Provider, Receiver};
+use resolver_worker::{Ending, Handle, Judging, Peers, Serving};
+use std::alloc::{AllocGlobal, Global};
 use std::hash::Hash;
 use std::marker::Model;
+use std::random::RandomSource;
+use std::sync::Wait;
+use std::thread::Threads;
 
 /// Fetches keys from peers, and owns what its loop is to poll: the end of its mailbox that takes
 /// messages, the sources of peers, the consumer and the producer.
@@ -50,8 +61,10 @@ pub struct Engine<
     Q: Predicate<K, S>,
     R,
 > {
+    rt: R,
+    alloc: Global,
     core: Core<K, P, S, Q>,
-    mail: Receiver<K, S, Option<NonEmptyVec<P>>, Q, Unrecorded, R>,
+    mail: Mail<K, P, S, Q, R>,
     peer_provider: D,
     blocker: B,
     consumer: C,
@@ -98,6 +111,8 @@ impl<
             priority_requests: cfg.priority_requests,
         };
         let engine = Engine {
+            rt,
+            alloc,
             core: Core::new(alloc, configuration, cfg.priority_responses),
             mail,
             peer_provider: cfg.peer_provider,
@@ -106,6 +121,67 @@ impl<
             producer: cfg.producer,
         };
         Ok((engine, Mailbox::over(sender)))
+    }
+
+    /// The loop that `start` runs, for a caller that polls it in a thread of its own.
+    pub fn into_loop<X, Y, W, G>(
+        self,
+        network: (X, Y),
+        clock: W,
+        draws: G,
+    ) -> Result<Loop<P, D, B, K, S, C, O, Q, R, X, Y, W, G>, Fault>
+    where
+        X: Sender<PublicKey = P> + Drop,
+        Y: Receiver<PublicKey = P> + Drop,
+        W: Clock + Drop,
+        G: Draws + Drop,
+        C::Outcome: Drop,
+        ensures only { IfErr result (λ fault. fault ≡ OutOfMemory) }
+    {
+        let (sender, receiver) = network;
+        Ok(Loop {
+            alloc: self.alloc,
+            core: self.core,
+            mail: self.mail,
+            peers: Peers::new(self.peer_provider, self.blocker),
+            judging: Judging::new(self.alloc, self.consumer)?,
+            serving: Serving::new(self.alloc, self.producer)?,
+            asking: Asking { sender, draws },
+            receiver,
+            clock,
+            answer: None,
+            is_starved: false,
+        })
+    }
+
+    /// Runs the engine in a thread of its own, over this network, clock and source of draws, until
+    /// its mailbox, its network or its source of peer sets is closed, or memory or numbers are
+    /// wanting. The handle's `join` says which.
+    ///
+    /// Where memory is wanting, or no thread can be made, nothing runs, and the mailbox stays open.
+    pub fn start<X, Y, W, G>(self, network: (X, Y), clock: W, draws: G) -> Result<Handle, Fault>
+    where
+        P: 'static,
+        D: Send + 'static,
+        B: Send + 'static,
+        K: 'static,
+        S: Send + 'static,
+        C::Outcome: Drop + 'static,
+        Q: Send + 'static,
+        R: Threads + Wait + RandomSource + AllocGlobal + Drop + Send + 'static,
+        X: Sender<PublicKey = P> + Drop + Send + 'static,
+        Y: Receiver<PublicKey = P> + Drop + Send + 'static,
+        W: Clock + Drop + Send + 'static,
+        G: Draws + Drop + Send + 'static,
+        ensures only { IfErr result (λ fault. fault ≡ OutOfMemory) }
+    {
+        let rt = self.rt;
+        let mut looped = self.into_loop(network, clock, draws)?;
+        let polled = move |cx: &mut Context<'_>| -> Poll<Ending>
+            ensures armed { OnPending result (IsArmed cx.new) }
+            ensures kept { Keeps cx.old cx.new }
+        { looped.poll(cx) };
+        resolver_worker::start(rt, poll_fn(polled))
     }
 }
 

@@ -4,15 +4,15 @@ ghost use Rattle.std.specs.Prelude.{◌≡◌, ◌⊎◌, IfErr};
 ghost use Rattle.resolver_base.specs.declared.base.fault.Fault.TheVariants.{OutOfMemory, Exhausted};
 
 use crate::ending::Ending;
-use crate::running::Running;
-use crate::worker::Worker;
-use futures::executor::block_on;
+use futures::Future;
+use futures::executor::block_on_queue;
+use futures::task::{Doorbell, Queue};
 use resolver_base::base::Fault;
 use std::alloc::AllocGlobal;
 use std::random::RandomSource;
 use std::sync::Wait;
-use std::thread;
 use std::thread::{JoinHandle, Threads};
+use std::{io, thread};
 
 /// A loop's thread.
 #[derive(Drop)]
@@ -31,29 +31,40 @@ impl Handle {
     }
 }
 
-/// Runs a worker's loop in a thread of its own. Where no thread can be made, which counts as want
-/// of memory, the worker is dropped, and its mailbox stays as it is.
-pub fn start<R, W>(rt: R, worker: W) -> Result<Handle, Fault>
+/// Polls a loop in a thread of its own until it is over. Where memory is wanting or no thread can
+/// be made, the loop is dropped.
+pub fn start<R, F>(rt: R, looped: F) -> Result<Handle, Fault>
 where
     R: Threads + Wait + RandomSource + AllocGlobal + Copy + Drop + Send + 'static,
-    W: Worker + Send + 'static,
+    F: Future<Output = Ending> + Send + 'static,
+    requires { F.can_poll looped }
     ensures only { IfErr result (λ fault. fault ≡ OutOfMemory) }
 {
-    let Ok(thread) = thread::spawn(&rt, move || run(&rt, worker)) else {
+    let Ok(queue) = queue(&rt) else {
         return Err(Fault::OutOfMemory);
     };
-    Ok(Handle { thread })
+    let run = move || -> Ending
+        requires { F.can_poll looped }
+    { run(&rt, &queue, looped) };
+    match thread::spawn(&rt, run) {
+        Ok(thread) => Ok(Handle { thread }),
+        Err(_) => Err(Fault::OutOfMemory),
+    }
 }
 
-/// Runs a worker's loop in this thread. The mailbox is closed at the end, also where no memory is
-/// left to begin.
-fn run<R: Wait + RandomSource + AllocGlobal, W: Worker>(rt: &R, worker: W) -> Ending {
-    let mut running = Running::new(worker);
-    match block_on(rt, &mut running) {
+/// A queue with room for its one task, so that a loop begins without memory.
+fn queue<R: RandomSource + AllocGlobal>(rt: &R) -> io::Result<Queue> {
+    let queue = Queue::new(rt, Doorbell::parking())?;
+    queue.add()?.cancel();
+    Ok(queue)
+}
+
+/// Polls a loop in this thread until it is over.
+fn run<R: Wait, F: Future<Output = Ending>>(rt: &R, queue: &Queue, looped: F) -> Ending
+    requires { F.can_poll looped }
+{
+    match block_on_queue(rt, queue, looped) {
         Ok(ending) => ending,
-        Err(_) => {
-            running.worker.close();
-            Ending::OutOfMemory
-        }
+        Err(_) => Ending::OutOfMemory,
     }
 }
