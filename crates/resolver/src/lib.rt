@@ -6,12 +6,14 @@
 //! `p2p::Engine` is such a core with all that its loop will poll.
 #![tactic(auto)]
 
+pub use resolver_actor::laws;
 pub use resolver_base::root::{Delivery, Fetch, Outcome, Resolution};
-pub use resolver_demand::{delivery, ingress, subscribers};
+pub use resolver_demand::{ingress, subscribers};
 pub use resolver_mailbox::mailbox;
-pub use resolver_surface::Consumer;
+pub use resolver_surface::{Consumer, Resolver, TargetedResolver};
+pub use resolver_worker::{Ending, Handle};
 
 pub mod base;
-pub mod laws;
+pub mod delivery;
 pub mod opaque;
 pub mod p2p;

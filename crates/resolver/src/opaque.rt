@@ -1,10 +1,7 @@
 //! Fetching from one opaque source, which gives a value for a key or none.
 //!
-//! `Actor` is the machine: it takes inputs with their moments and answers with effects.
+//! `Actor` is the machine: it takes inputs with their moments and answers with effects. `Resolver` is
+//! a handle of the mailbox of its loop.
 
-mod actor;
-mod rows;
-mod stages;
-
-pub use actor::{Actor, Effect, Event, Input};
-pub use rows::{Phase, Row};
+pub use resolver_actor::opaque::{Actor, Effect, Event, Input, Phase, Row};
+pub use resolver_opaque::Resolver;

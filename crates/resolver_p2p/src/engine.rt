@@ -120,7 +120,7 @@ impl<
             consumer: cfg.consumer,
             producer: cfg.producer,
         };
-        Ok((engine, Mailbox::over(sender)))
+        Ok((engine, Mailbox::over(alloc, sender)))
     }
 
     /// The loop that `start` runs, for a caller that polls it in a thread of its own.

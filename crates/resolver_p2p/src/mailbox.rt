@@ -1,13 +1,17 @@
 //! How an engine is asked.
 
-ghost use Rattle.std.specs.Prelude.{◌≡◌, None};
+ghost use Rattle.std.specs.Prelude.{◌≡◌, [], ◌∷◌, map, None, Some};
 ghost use Rattle.std.specs.Option.{option_copied};
+ghost use Rattle.resolver_asking.specs.Asking.{PutsOne, asked};
+ghost use Rattle.resolver_demand.specs.Backlog.{Fetches, Retains};
 
-use resolver_base::base::{Faithful, NonEmptyVec, Predicate};
+use resolver_asking as asking;
+use resolver_base::base::{Faithful, Fault, Feedback, NonEmptyVec, Predicate, PublicKey, Span};
+use resolver_base::root::Fetch;
 use resolver_demand::ingress;
-use resolver_demand::ingress::Metadata;
 use resolver_mailbox::mailbox::{Naming, Sender, Share};
-use std::alloc::AllocError;
+use resolver_surface::{Resolver, TargetedResolver};
+use std::alloc::{AllocError, Global};
 use std::hash::Hash;
 use std::marker::Model;
 use std::sync::Wait;
@@ -18,9 +22,11 @@ pub type FetchKey<K, P, S> = ingress::FetchKey<K, S, Option<NonEmptyVec<P>>>;
 /// What an engine is told.
 pub type Message<K, P, S, Q> = ingress::Message<K, S, Option<NonEmptyVec<P>>, Q>;
 
-/// A handle of an engine's mailbox. Any number of them may be used at once, each by its own thread.
+/// A handle of an engine's mailbox, through which keys are fetched. Any number of them may be used at
+/// once, each by its own thread.
 ///
-/// Contracts see the share of its sender, or none. Dropping a handle closes nothing.
+/// Contracts see the share of its sender, or none. Each call of `Resolver` and `TargetedResolver`
+/// puts one message, and waits for the mailbox's lock. Dropping a handle closes nothing.
 #[derive(Drop)]
 pub struct Mailbox<
     K: Ord + Hash,
@@ -30,6 +36,7 @@ pub struct Mailbox<
     N: Naming,
     R,
 > {
+    alloc: Global,
     sender: Sender<K, S, Option<NonEmptyVec<P>>, Q, N, R>,
 }
 
@@ -52,10 +59,10 @@ impl<K: Ord + Hash, P: Ord + Faithful + Drop, S: Ord, Q: Predicate<K, S>, N: Nam
     R,
 > {
     /// A handle that puts what it is told by this sender.
-    pub fn over(sender: Sender<K, S, Option<NonEmptyVec<P>>, Q, N, R>) -> Self
+    pub fn over(alloc: Global, sender: Sender<K, S, Option<NonEmptyVec<P>>, Q, N, R>) -> Self
         ensures { result ≡ sender }
     {
-        Mailbox { sender }
+        Mailbox { alloc, sender }
     }
 
     /// What this handle has put. There is none in a mailbox that isn't recorded, and before the
@@ -80,6 +87,7 @@ impl<
     /// A new handle of the same mailbox, without a share.
     fn clone(&self) -> Result<Self, AllocError> {
         Ok(Mailbox {
+            alloc: self.alloc,
             sender: self.sender.clone()?,
         })
     }
@@ -99,5 +107,77 @@ impl<
         ensures { self.new ≡ self.old }
     {
         self.sender.close();
+    }
+}
+
+impl<K, P, S, Q, N, R> Resolver for Mailbox<K, P, S, Q, N, R>
+where
+    K: Span + Faithful + Drop + 'static,
+    P: PublicKey + Faithful + Drop + 'static,
+    S: Ord + Faithful + Drop + Send + 'static,
+    Q: Predicate<K, S> + Faithful + Drop + Send + 'static,
+    N: Naming + Send + Sync + 'static,
+    R: Wait + Copy + Send + 'static,
+{
+    type Key = K;
+
+    type Subscriber = S;
+
+    type Predicate = Q;
+
+    /// Any peer may be asked.
+    fn fetch(&mut self, fetch: Fetch<K, S>) -> Result<Feedback, Fault>
+        ensures puts { PutsOne N.is_recorded (Fetches (asked fetch None ∷ []))
+            self.old result self.new }
+    {
+        asking::ask(self.alloc, &mut self.sender, fetch)
+    }
+
+    /// Any peer may be asked.
+    fn fetch_all(&mut self, fetches: Vec<Fetch<K, S>>) -> Result<Feedback, Fault>
+        ensures puts { PutsOne N.is_recorded
+            (Fetches (map (λ fetch. asked fetch None) fetches.items)) self.old result self.new }
+    {
+        asking::ask_all(self.alloc, &mut self.sender, fetches)
+    }
+
+    fn retain(&mut self, keep: Q) -> Result<Feedback, Fault>
+        ensures puts { PutsOne N.is_recorded (Retains keep) self.old result self.new }
+    {
+        asking::retain(&mut self.sender, keep)
+    }
+}
+
+impl<K, P, S, Q, N, R> TargetedResolver for Mailbox<K, P, S, Q, N, R>
+where
+    K: Span + Faithful + Drop + 'static,
+    P: PublicKey + Faithful + Drop + 'static,
+    S: Ord + Faithful + Drop + Send + 'static,
+    Q: Predicate<K, S> + Faithful + Drop + Send + 'static,
+    N: Naming + Send + Sync + 'static,
+    R: Wait + Copy + Send + 'static,
+{
+    type PublicKey = P;
+
+    fn fetch_targeted(
+        &mut self,
+        fetch: Fetch<K, S>,
+        targets: NonEmptyVec<P>,
+    ) -> Result<Feedback, Fault>
+        ensures puts { PutsOne N.is_recorded (Fetches (asked fetch (Some targets) ∷ []))
+            self.old result self.new }
+    {
+        asking::ask(self.alloc, &mut self.sender, (fetch, targets))
+    }
+
+    fn fetch_all_targeted(
+        &mut self,
+        targeted: Vec<(Fetch<K, S>, NonEmptyVec<P>)>,
+    ) -> Result<Feedback, Fault>
+        ensures puts { PutsOne N.is_recorded
+            (Fetches (map (λ one. asked one.0 (Some one.1)) targeted.items))
+            self.old result self.new }
+    {
+        asking::ask_all(self.alloc, &mut self.sender, targeted)
     }
 }

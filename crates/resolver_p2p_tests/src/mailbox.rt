@@ -95,7 +95,7 @@ fn used<N: Naming, R: Wait + Copy + Drop>(
     let mut sender = sender;
     let answer = sender.enqueue(fetch(alloc, 1)?)?;
     writeln!(text, "{answer:?}")?;
-    let handle = Mailbox::over(sender);
+    let handle = Mailbox::over(alloc, sender);
     spell_share(text, &handle)?;
     let mut other = handle.clone()?;
     spell_share(text, &other)?;

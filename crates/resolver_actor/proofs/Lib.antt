@@ -1,0 +1,13 @@
+pub mod Led
+pub mod DueFirst
+pub mod Going
+pub mod Running
+pub mod Dues
+pub mod Joined
+pub mod Inserted
+pub mod Agrees
+pub mod OpaqueDemand
+pub mod OpaqueKept
+pub mod ByDue
+pub mod Closing
+pub mod Dead

@@ -1,0 +1,47 @@
+use Rattle.std.proofs.Common.{◌∙◌, ap, sym, refl, rules}
+use Rattle.resolver_base.specs.Names.{names}
+use Rattle.resolver_actor.specs.OpaqueActor.{status_of}
+use Rattle.resolver_actor.proofs.Going.{hand_out_goes, agree-delivered, asked-idle, asked-stage, at-idle, idle-asked, idle-tracked, idle-free_number, asked-none}
+use Rattle.resolver_actor.proofs.opaque.actor.Actor.hand_out.Goals as goal
+
+pub unreachable-requires : goal.unreachable-requires
+unreachable-requires g c =
+    let idle = asked-idle _ (rw (← c.self.view_is) at c.requires.asked) in
+    let asked = idle-asked (names g.K.Ord.cmp g.S.Ord.cmp) c.self.inside.demand c.self.inside.stages.entries.keys c.self.invariant.agree c.args.key idle in
+    asked-none _ asked (sym c.in_default.is ∙ c.in_ok-subscribers.ensures.ok)
+
+pub deliver-requires-clause-tracked : goal.deliver-requires-clause-tracked
+deliver-requires-clause-tracked g c =
+    let idle = asked-idle _ (rw (← c.self.view_is) at c.requires.asked) in
+    let tracked = idle-tracked (names g.K.Ord.cmp g.S.Ord.cmp) c.self.inside.demand c.self.inside.stages.entries.keys c.self.invariant.agree c.args.key idle in
+    rw tracked refl
+
+pub deliver-requires-clause-asked : goal.deliver-requires-clause-asked
+deliver-requires-clause-asked g c = asked-stage (names g.K.Ord.cmp g.S.Ord.cmp) c.self.inside.demand c.self.inside.stages.entries.keys c.self.invariant.agree c.args.key (rw (← c.self.view_is) at c.requires.asked)
+
+pub deliver-requires-clause-idle : goal.deliver-requires-clause-idle
+deliver-requires-clause-idle g c =
+    let idle = asked-idle _ (rw (← c.self.view_is) at c.requires.asked) in
+    idle-free_number (names g.K.Ord.cmp g.S.Ord.cmp) c.self.inside.demand c.self.inside.stages.entries.keys c.self.invariant.agree c.args.key idle
+
+pub invariant_of-self-in_err-push : goal.invariant_of-self-in_err-push
+invariant_of-self-in_err-push g c = record {
+  delay = c.self.invariant.delay;
+  agree = agree-delivered (names g.K.Ord.cmp g.S.Ord.cmp) c.self.inside.demand c.self.inside.stages.entries c.self.invariant.agree c.self.inside.stages.next_attempt c.self.inside.delay (status_of c.self.inside.status) c.args.key c.in-Some.subscribers c.in_ok-copy.copy c.deliver.new.self.entries (ap (λ s. s.entries) c.in_ok-number.ensures.ok);
+}
+
+pub invariant_of-self-2 : goal.invariant_of-self-2
+invariant_of-self-2 g c = record {
+  delay = c.self.invariant.delay;
+  agree = agree-delivered (names g.K.Ord.cmp g.S.Ord.cmp) c.self.inside.demand c.self.inside.stages.entries c.self.invariant.agree c.self.inside.stages.next_attempt c.self.inside.delay (status_of c.self.inside.status) c.args.key c.in-Some.subscribers c.in_ok-copy.copy c.deliver.new.self.entries (ap (λ s. s.entries) c.in_ok-number.ensures.ok);
+}
+
+pub returns : goal.returns
+returns g c =
+    let idle = asked-idle _ (rw (← c.self.view_is) at c.requires.asked) in
+    let put = rw (c.requires.values_clone _ _ c.in_ok-copy.ensures.cases) at (ap (λ s. s.entries) c.in_ok-number.ensures.ok) in
+    let wanted = sym c.in_ok-subscribers.ensures.ok ∙ c.in-Some.is in
+    rw (← c.self.view_is, ap (λ s. s.next_attempt) c.in_ok-number.ensures.ok)
+    (at-idle _ _ idle (λ row found waits.
+    hand_out_goes (names g.K.Ord.cmp g.S.Ord.cmp) c.self.inside.demand c.self.inside.stages.entries c.self.invariant.agree c.self.inside.stages.next_attempt c.self.inside.delay (status_of c.self.inside.status) c.args.key row c.in-Some.subscribers c.args.value c.args.effects.now.items c.push.new.self.items c.deliver.new.self.entries c.in_ok-number.number
+    found wanted c.in_ok-number.ensures.number (search rules) put (search rules)))

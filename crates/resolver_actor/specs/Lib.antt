@@ -1,0 +1,14 @@
+pub use Rattle.resolver_base.specs.Names
+pub use Rattle.resolver_base.specs.Demand
+pub use Rattle.resolver_base.specs.Subscribers
+pub mod Opaque
+pub mod OpaqueActor
+pub mod OpaqueStages
+pub mod OpaqueSteps
+pub mod OpaqueInputs
+pub mod OpaqueRows
+pub mod OpaqueStanding
+pub mod OpaqueLaws
+pub mod OpaqueListed
+pub mod OpaqueOverdue
+pub mod OpaqueFound

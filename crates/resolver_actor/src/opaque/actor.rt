@@ -1,0 +1,539 @@
+//! The actor's machine: inputs, effects, and one step after another.
+
+ghost use Rattle.std.specs.Prelude.{◌≡◌, ◌<◌, ◌^◌, ◌++◌, ◌∷◌, [], None, IfErr, IfOk, IfSome, IsSome, OnOk, map};
+ghost use Rattle.std.specs.Map.{keys_of};
+ghost use Rattle.resolver_demand.specs.Entries.{number_of, response_of, state_of};
+ghost use Rattle.resolver_actor.specs.declared.opaque.actor.Effect.TheVariants.{Deliver};
+ghost use Rattle.resolver_actor.specs.OpaqueActor.{AreCached};
+ghost use Rattle.resolver_actor.specs.OpaqueFound.{IsRefusal, flagged, handed_again};
+ghost use Rattle.resolver_actor.specs.OpaqueStages.{IsAsked};
+ghost use Rattle.resolver_machine.specs.Steps.{stops};
+
+use super::rows::{Row, call_off_all, call_off_each, forget_each, listed};
+use super::stages::Stages;
+use resolver_base::base::{Fault, NonEmptyVec, Numbers, Predicate};
+use resolver_base::root::{Delivery, Outcome};
+use resolver_demand::ingress::FetchKey;
+use resolver_demand::subscribers::Tracker;
+use resolver_machine::ruling::{Ruling, rule_on};
+use std::alloc::Global;
+use std::marker::{Model, PhantomData};
+
+/// What the actor takes.
+#[derive(Debug, Drop)]
+pub enum Event<K, V, S, Q> {
+    /// Subscribers want keys. A new key is asked for, and a demanded one takes the subscribers.
+    Fetch(Vec<FetchKey<K, S, ()>>),
+    /// Subscribers that the predicate doesn't keep want their keys no more. A key without a
+    /// subscriber is called off.
+    Retain(Q),
+    /// The source's answer to an attempt: a value, or none. An old attempt's is passed over.
+    Fetched {
+        attempt: u64,
+        value: Option<V>,
+    },
+    /// The consumer's outcome for a delivery, or none where it dropped the delivery. A number
+    /// that is not open is passed over.
+    Verdict {
+        number: u64,
+        outcome: Option<Outcome>,
+    },
+    /// The waiting keys that are due are asked for again, from the earliest due on.
+    RetriesDue,
+    /// No key is wanted any more, and none will be: every later input is refused.
+    End,
+}
+
+/// An event, and when it came, in nanoseconds: below 2^94.
+#[derive(Debug, Drop)]
+pub struct Input<K, V, S, Q> {
+    pub now: u128,
+    pub event: Event<K, V, S, Q>,
+    ghost in_range: { now < 2 ^ 94 },
+}
+
+/// What the actor wants done.
+#[derive(Debug, Drop)]
+pub enum Effect<K, V, S> {
+    /// The source is to be asked for the key, under this attempt.
+    Start {
+        attempt: u64,
+        key: K,
+    },
+    /// The answer to this attempt is no longer wanted.
+    Abort {
+        attempt: u64,
+    },
+    /// The value is to be handed to the consumer, which judges it under this number. A response
+    /// goes by the number of the first delivery that carried it.
+    Deliver {
+        number: u64,
+        response: u64,
+        delivery: Delivery<K, S>,
+        value: V,
+    },
+    /// The judgement under this number is no longer wanted.
+    Cancel {
+        number: u64,
+    },
+}
+
+#[derive(Clone, Copy)]
+enum Status {
+    Running,
+    Ended,
+    Failed,
+}
+
+/// Fetches keys from one opaque source, each by one attempt at a time, until no subscriber wants
+/// it.
+///
+/// Contracts see it as the opaque machine: one map from key to row, beside the open deliveries and
+/// the next numbers.
+#[derive(Drop)]
+pub struct Actor<K: Ord, V, S: Ord, Q> {
+    demand: Tracker<K, S>,
+    stages: Stages<K, S, V>,
+    delay: u128,
+    status: Status,
+    alloc: Global,
+    predicate: PhantomData<Q>,
+}
+
+impl<K: Ord, V, S: Ord, Q> Model for Actor<K, V, S, Q> {
+    ghost use Rattle.std.specs.Prelude.{◌<◌, ◌^◌};
+    ghost use Rattle.resolver_actor.specs.Opaque.{Machine};
+
+    ghost Value = { Machine K V S };
+
+    ghost use Rattle.resolver_actor.specs.OpaqueActor.{IsSound, machine_of};
+
+    ghost view = { machine_of };
+
+    ghost invariant = { IsSound K.cmp };
+}
+
+impl<K: Ord + Clone, V: Clone, S: Ord + Clone, Q: Predicate<K, S> + Drop> Actor<K, V, S, Q> {
+    ghost use Rattle.std.specs.Prelude.{◌==◌, Err, Some, false, find, is_none, length};
+    ghost use Rattle.std.specs.List.{IsDistinct};
+    ghost use Rattle.std.specs.List.Sorted.{IsStrictlySortedBy};
+    ghost use Rattle.std.specs.Map.{lookup};
+    ghost use Rattle.std.specs.Ordering.{is_eq, nat_cmp};
+    ghost use Rattle.std.specs.BTreeMap.{is_at};
+    ghost use Rattle.resolver_base.specs.Names.{names};
+    ghost use Rattle.resolver_base.specs.Subscribers.{attached_all};
+    ghost use Rattle.resolver_actor.specs.Opaque.{opening, start_new, fetch_one, fetch, hand_out, fetched, verdict, does, row_of, next_retry, end, retain, start_again, start_all, waiting_by_due};
+    ghost use Rattle.resolver_actor.specs.OpaqueSteps.{Goes, Takes, Runs, answer_of, takes_no_memory};
+    ghost use Rattle.resolver_actor.specs.OpaqueInputs.{item_of, event_of, input_of};
+    ghost use Rattle.resolver_actor.specs.OpaqueFound.{IsAskedFor, IsIdle};
+    ghost use Rattle.resolver_actor.specs.OpaqueListed.{listed};
+    ghost use Rattle.resolver_actor.specs.OpaqueLaws.{KeepsDemand};
+
+    /// An actor without demand. A key that the source had no value for is asked for again after
+    /// `delay` nanoseconds, which is below 2^94.
+    pub fn new(alloc: Global, delay: u128) -> Self
+        requires { delay < 2 ^ 94 }
+        ensures { result ≡ opening delay }
+    {
+        Self::starting_at(alloc, delay, Numbers::new())
+    }
+
+    /// An actor without demand whose attempts are numbered from here, so that one that takes the
+    /// place of another can go on after its last number.
+    pub fn starting_at(alloc: Global, delay: u128, attempts: Numbers) -> Self
+        requires { delay < 2 ^ 94 }
+        ensures { result ≡ record (opening delay) { next_attempt = attempts } }
+    {
+        Actor {
+            demand: Tracker::new(alloc),
+            stages: Stages::new(alloc, attempts),
+            delay,
+            status: Status::Running,
+            alloc,
+            predicate: PhantomData,
+        }
+    }
+
+    /// Takes one input and answers with its effects, in order.
+    ///
+    /// `OutOfMemory` and `Exhausted` fail the actor for good: each later step answers `Failed` and
+    /// changes nothing, as after `End` each answers `Ended`. A verdict that is passed over takes no
+    /// memory. A fetched value, a verdict and each key that `RetriesDue` asks for again take time
+    /// logarithmic in the demanded keys.
+    pub fn step(&mut self, input: Input<K, V, S, Q>) -> Result<Vec<Effect<K, V, S>>, Fault>
+        requires keys_clone { (x y : K) → K.is_clone x y → y ≡ x }
+        requires values_clone { (x y : V) → V.is_clone x y → y ≡ x }
+        requires subscribers_clone { (x y : S) → S.is_clone x y → y ≡ x }
+        ensures { Takes (names K.cmp S.cmp) self.old (input_of Q.keeps input)
+            (answer_of result) self.new }
+    {
+        match self.status {
+            Status::Running => {}
+            Status::Ended => return Err(Fault::Ended),
+            Status::Failed => return Err(Fault::Failed),
+        }
+        let mut effects = Vec::new(self.alloc);
+        match self.advance(input.now, input.event, &mut effects) {
+            Ok(()) => Ok(effects),
+            Err(fault) => {
+                self.status = Status::Failed;
+                Err(fault)
+            }
+        }
+    }
+
+    /// Takes inputs one after another, with one answer each, up to the first `OutOfMemory` or
+    /// `Exhausted` among the answers.
+    ///
+    /// The call itself answers `OutOfMemory` where the list of answers can't be made: then no
+    /// input was taken and nothing has changed.
+    pub fn run(
+        &mut self,
+        inputs: Vec<Input<K, V, S, Q>>,
+    ) -> Result<Vec<Result<Vec<Effect<K, V, S>>, Fault>>, Fault>
+        requires keys_clone { (x y : K) → K.is_clone x y → y ≡ x }
+        requires values_clone { (x y : V) → V.is_clone x y → y ≡ x }
+        requires subscribers_clone { (x y : S) → S.is_clone x y → y ≡ x }
+        ensures runs { IfOk result (λ answers. Runs (names K.cmp S.cmp) self.old
+            (map (input_of Q.keeps) inputs.items) (map answer_of answers.items) self.new) }
+        ensures demand { IfOk result (λ answers. KeepsDemand (names K.cmp S.cmp) self.old
+            (map (input_of Q.keeps) inputs.items) (map answer_of answers.items) self.new) }
+        ensures err { IfErr result
+            (λ fault. (fault ≡ Fault.OutOfMemory) × (self.new ≡ self.old)) }
+    {
+        let mut answers = Vec::with_capacity(self.alloc, inputs.len())?;
+        for input in inputs {
+            let answer = self.step(input);
+            let stops = stops(&answer);
+            answers.push(answer)?;
+            if stops {
+                return Ok(answers);
+            }
+        }
+        Ok(answers)
+    }
+
+    /// The demanded keys, in their order: each stands in one row, so in one phase. Where memory is
+    /// wanting nothing has changed.
+    pub fn rows(&self) -> Result<Vec<Row<K, S>>, Fault>
+        requires keys_clone { (x y : K) → K.is_clone x y → y ≡ x }
+        requires subscribers_clone { (x y : S) → S.is_clone x y → y ≡ x }
+        ensures rows { IfOk result (λ rows. rows.items ≡ map listed self.now.rows) }
+        ensures once { IfOk result
+            (λ rows. IsDistinct (λ k l. is_eq (K.cmp k l)) (map (λ row. row.key) rows.items)) }
+        ensures ordered { IfOk result
+            (λ rows. IsStrictlySortedBy K.cmp (map (λ row. row.key) rows.items)) }
+        ensures only { IfErr result (λ fault. fault ≡ Fault.OutOfMemory) }
+    {
+        listed(self.alloc, &self.demand, self.stages.entries())
+    }
+
+    /// The earliest moment at which a waiting key is due, if a key is waiting: a moment that the
+    /// actor was handed and its delay after it, so below 2^95. It takes time logarithmic in the
+    /// waiting keys.
+    pub fn next_retry(&self) -> Option<u128>
+        ensures value { result ≡ next_retry self.now.rows }
+        ensures soon { IfSome result (λ due. due < 2 ^ 95) }
+    {
+        self.stages.next_retry()
+    }
+
+    fn advance(
+        &mut self,
+        now: u128,
+        event: Event<K, V, S, Q>,
+        effects: &mut Vec<Effect<K, V, S>>,
+    ) -> Result<(), Fault>
+        requires keys_clone { (x y : K) → K.is_clone x y → y ≡ x }
+        requires values_clone { (x y : V) → V.is_clone x y → y ≡ x }
+        requires subscribers_clone { (x y : S) → S.is_clone x y → y ≡ x }
+        requires moment { now < 2 ^ 94 }
+        ensures goes { Goes (does (names K.cmp S.cmp) self.old now (event_of Q.keeps event))
+            effects.old.items effects.new.items self.new result }
+        ensures memory { result ≡ Err Fault.OutOfMemory
+            → takes_no_memory self.old now (event_of Q.keeps event) ≡ false }
+    {
+        match event {
+            Event::Fetch(items) => self.fetch(items, effects),
+            Event::Retain(keep) => self.retain(&keep, effects),
+            Event::Fetched { attempt, value } => self.fetched(now, attempt, value, effects),
+            Event::Verdict { number, outcome } => self.verdict(now, number, outcome, effects),
+            Event::RetriesDue => self.start_due(now, effects),
+            Event::End => self.end(effects),
+        }
+    }
+
+    fn fetch(
+        &mut self,
+        items: Vec<FetchKey<K, S, ()>>,
+        effects: &mut Vec<Effect<K, V, S>>,
+    ) -> Result<(), Fault>
+        requires clones { (x y : K) → K.is_clone x y → y ≡ x }
+        requires subscribers_clone { (x y : S) → S.is_clone x y → y ≡ x }
+        ensures { Goes (fetch (names K.cmp S.cmp) self.old (map item_of items.items))
+            effects.old.items effects.new.items self.new result }
+    {
+        for item in items {
+            self.fetch_one(item, effects)?;
+        }
+        Ok(())
+    }
+
+    fn fetch_one(
+        &mut self,
+        item: FetchKey<K, S, ()>,
+        effects: &mut Vec<Effect<K, V, S>>,
+    ) -> Result<(), Fault>
+        requires clones { (x y : K) → K.is_clone x y → y ≡ x }
+        requires subscribers_clone { (x y : S) → S.is_clone x y → y ≡ x }
+        ensures { Goes (fetch_one (names K.cmp S.cmp) self.old (item_of item)
+            (row_of (names K.cmp S.cmp) self.old item.key))
+            effects.old.items effects.new.items self.new result }
+    {
+        let FetchKey {
+            key,
+            subscribers,
+            ..
+        } = item;
+        if self.demand.contains(&key) {
+            self.demand.insert(key, subscribers)?;
+            return Ok(());
+        }
+        self.start_new(key, subscribers, effects)
+    }
+
+    fn start_new(
+        &mut self,
+        key: K,
+        subscribers: NonEmptyVec<(S, u64)>,
+        effects: &mut Vec<Effect<K, V, S>>,
+    ) -> Result<(), Fault>
+        requires clones { (x y : K) → K.is_clone x y → y ≡ x }
+        requires subscribers_clone { (x y : S) → S.is_clone x y → y ≡ x }
+        requires absent { row_of (names K.cmp S.cmp) self.old key ≡ None }
+        ensures { Goes (start_new (names K.cmp S.cmp) self.old key
+            (attached_all S.cmp [] subscribers))
+            effects.old.items effects.new.items self.new result }
+    {
+        let wanted = key.clone()?;
+        let tracked = key.clone()?;
+        self.demand.insert(wanted, subscribers)?;
+        match self.stages.ask(tracked) {
+            Ok(attempt) => Ok(effects.push(Effect::Start { attempt, key })?),
+            Err(fault) => {
+                self.demand.remove(&key);
+                Err(fault)
+            }
+        }
+    }
+
+    fn retain(&mut self, keep: &Q, effects: &mut Vec<Effect<K, V, S>>) -> Result<(), Fault>
+        requires clones { (x y : K) → K.is_clone x y → y ≡ x }
+        ensures { Goes (Some (retain self.old (Q.keeps keep.now)))
+            effects.old.items effects.new.items self.new result }
+    {
+        let emptied = self.demand.retain(keep)?;
+        let called_off = call_off_each(self.stages.entries(), emptied.as_slice(), effects);
+        forget_each(&mut self.stages, emptied);
+        called_off
+    }
+
+    fn fetched(
+        &mut self,
+        now: u128,
+        attempt: u64,
+        value: Option<V>,
+        effects: &mut Vec<Effect<K, V, S>>,
+    ) -> Result<(), Fault>
+        requires keys_clone { (x y : K) → K.is_clone x y → y ≡ x }
+        requires values_clone { (x y : V) → V.is_clone x y → y ≡ x }
+        requires subscribers_clone { (x y : S) → S.is_clone x y → y ≡ x }
+        requires moment { now < 2 ^ 94 }
+        ensures { Goes (fetched (names K.cmp S.cmp) self.old now attempt value)
+            effects.old.items effects.new.items self.new result }
+    {
+        let Some(held) = self.stages.asked_by(attempt) else {
+            return Ok(());
+        };
+        let key = held.clone()?;
+        match value {
+            None => self.stages.wait(&key, now + self.delay),
+            Some(value) => self.hand_out(key, value, effects),
+        }
+    }
+
+    /// Hands a new response out.
+    fn hand_out(
+        &mut self,
+        key: K,
+        value: V,
+        effects: &mut Vec<Effect<K, V, S>>,
+    ) -> Result<(), Fault>
+        requires keys_clone { (x y : K) → K.is_clone x y → y ≡ x }
+        requires values_clone { (x y : V) → V.is_clone x y → y ≡ x }
+        requires subscribers_clone { (x y : S) → S.is_clone x y → y ≡ x }
+        requires asked { IsAskedFor (row_of (names K.cmp S.cmp) self.old key) }
+        ensures { IfSome (row_of (names K.cmp S.cmp) self.old key) (λ row.
+            Goes (hand_out (names K.cmp S.cmp) self.old key row.subscribers self.old.next_number
+            value false) effects.old.items effects.new.items self.new result) }
+    {
+        let Some(subscribers) = self.demand.pending(&key)? else {
+            unreachable!()
+        };
+        let delivery = Delivery { key, subscribers };
+        let told = delivery.clone()?;
+        let copy = value.clone()?;
+        let number = self.stages.deliver(delivery, copy)?;
+        effects.push(Effect::Deliver {
+            number,
+            response: number,
+            delivery: told,
+            value,
+        })?;
+        Ok(())
+    }
+
+    fn verdict(
+        &mut self,
+        now: u128,
+        number: u64,
+        outcome: Option<Outcome>,
+        effects: &mut Vec<Effect<K, V, S>>,
+    ) -> Result<(), Fault>
+        requires keys_clone { (x y : K) → K.is_clone x y → y ≡ x }
+        requires values_clone { (x y : V) → V.is_clone x y → y ≡ x }
+        requires subscribers_clone { (x y : S) → S.is_clone x y → y ≡ x }
+        requires moment { now < 2 ^ 94 }
+        ensures goes { Goes (verdict (names K.cmp S.cmp) self.old now number outcome)
+            effects.old.items effects.new.items self.new result }
+        ensures memory { result ≡ Err Fault.OutOfMemory
+            → is_none (lookup (is_at (nat_cmp number)) self.old.deliveries) ≡ false }
+    {
+        let Ok(completion) = self.stages.completed(number, outcome) else {
+            return Ok(());
+        };
+        if completion.canceled {
+            return Ok(());
+        }
+        let Delivery { key, subscribers } = completion.delivery;
+        match rule_on(outcome, self.stages.entries().response_accepted(&key)) {
+            Ruling::Serve { accepted } => {
+                let Some(subscribers) = self.demand.remove_delivered(&key, &subscribers)? else {
+                    self.stages.remove(&key);
+                    return Ok(());
+                };
+                let delivery = Delivery { key, subscribers };
+                hand_out_again(&mut self.stages, delivery, accepted, effects)
+            }
+            Ruling::Retry => self.stages.wait(&key, now + self.delay),
+            Ruling::Retire => {
+                self.demand.remove(&key);
+                self.stages.remove(&key);
+                Ok(())
+            }
+        }
+    }
+
+    fn start_due(&mut self, now: u128, effects: &mut Vec<Effect<K, V, S>>) -> Result<(), Fault>
+        requires keys_clone { (x y : K) → K.is_clone x y → y ≡ x }
+        ensures goes { Goes (start_all (names K.cmp S.cmp) self.old
+            (waiting_by_due now self.old.rows))
+            effects.old.items effects.new.items self.new result }
+        ensures memory { result ≡ Err Fault.OutOfMemory
+            → (length (waiting_by_due now self.old.rows) == 0) ≡ false }
+    {
+        while let Some(first) = self.stages.due_first(now) {
+            let key = first.clone()?;
+            self.start_again(key, effects)?;
+        }
+        Ok(())
+    }
+
+    fn start_again(&mut self, key: K, effects: &mut Vec<Effect<K, V, S>>) -> Result<(), Fault>
+        requires keys_clone { (x y : K) → K.is_clone x y → y ≡ x }
+        requires own { find (λ k. is_eq (K.cmp key k)) (keys_of self.old.rows) ≡ Some key }
+        requires idle { IsIdle (row_of (names K.cmp S.cmp) self.old key) }
+        ensures { IfSome (row_of (names K.cmp S.cmp) self.old key) (λ row.
+            Goes (start_again (names K.cmp S.cmp) self.old key row.subscribers)
+            effects.old.items effects.new.items self.new result) }
+    {
+        let attempt = self.stages.ask_again(&key)?;
+        effects.push(Effect::Start { attempt, key })?;
+        Ok(())
+    }
+
+    fn end(&mut self, effects: &mut Vec<Effect<K, V, S>>) -> Result<(), Fault>
+        ensures { Goes (Some (end self.old))
+            effects.old.items effects.new.items self.new result }
+    {
+        call_off_all(self.stages.entries(), effects)?;
+        self.demand.clear();
+        self.stages.clear(self.alloc);
+        self.status = Status::Ended;
+        Ok(())
+    }
+}
+
+/// Hands the cached response out once more, accepted or not.
+fn hand_out_again<K: Ord + Clone + Drop, V: Clone + Drop, S: Clone + Drop>(
+    stages: &mut Stages<K, S, V>,
+    delivery: Delivery<K, S>,
+    accepted: bool,
+    effects: &mut Vec<Effect<K, V, S>>,
+) -> Result<(), Fault>
+    requires keys_clone { (x y : K) → K.is_clone x y → y ≡ x }
+    requires values_clone { (x y : V) → V.is_clone x y → y ≡ x }
+    requires subscribers_clone { (x y : S) → S.is_clone x y → y ≡ x }
+    requires cached { IsSome (response_of K.cmp stages.old.entries delivery.key) }
+    requires asked { IsAsked (state_of K.cmp stages.old.entries delivery.key) }
+    requires free { number_of K.cmp stages.old.entries delivery.key ≡ None }
+    ensures ok { OnOk result (stages.new.entries
+        ≡ handed_again K.cmp delivery accepted stages.old.entries) }
+    ensures attempts { stages.new.next_attempt ≡ stages.old.next_attempt }
+    ensures told { OnOk result (IfSome (response_of K.cmp stages.old.entries delivery.key) (λ r.
+        effects.new.items ≡ effects.old.items
+        ++ Deliver stages.old.entries.next r.name delivery r.value ∷ [])) }
+    ensures room { OnOk result (stages.old.entries.next < 2 ^ 64) }
+    ensures same { keys_of stages.new.entries.keys ≡ keys_of stages.old.entries.keys }
+    ensures cached { AreCached stages.old.entries.keys → AreCached stages.new.entries.keys }
+    ensures only { IfErr result (λ fault. IsRefusal stages.old.entries.next fault) }
+{
+    note_accepted(stages, &delivery.key, accepted);
+    let Some(response) = stages.entries().response(&delivery.key) else {
+        unreachable!()
+    };
+    let name = response.name;
+    let value = response.value.clone()?;
+    let told = delivery.clone()?;
+    let number = stages.redeliver(delivery)?;
+    effects.push(Effect::Deliver {
+        number,
+        response: name,
+        delivery: told,
+        value,
+    })?;
+    Ok(())
+}
+
+/// Notes that a key's cached response is right, if it is.
+fn note_accepted<K: Ord + Drop, V: Drop, S: Drop>(
+    stages: &mut Stages<K, S, V>,
+    key: &K,
+    accepted: bool,
+)
+    requires cached { IsSome (response_of K.cmp stages.old.entries key.now) }
+    ensures { stages.new ≡ record stages.old {
+      entries = flagged K.cmp accepted key.now stages.old.entries;
+    } }
+{
+    if accepted {
+        stages.accept_response(key);
+    }
+}
+
+/// Whether a run ends with this answer.
+fn stops<T>(answer: &Result<T, Fault>) -> bool
+    ensures { result ≡ stops answer.now }
+{
+    matches!(answer, Err(Fault::OutOfMemory | Fault::Exhausted))
+}

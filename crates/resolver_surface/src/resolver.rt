@@ -1,0 +1,65 @@
+//! What a resolver's users ask of it.
+
+ghost use Rattle.std.specs.Prelude.{◌≡◌, ◌≢◌, IfErr};
+ghost use Rattle.resolver_base.specs.declared.base.fault.Fault.TheVariants.{Exhausted, OutOfMemory};
+
+use resolver_base::base::{Fault, Feedback, NonEmptyVec, Predicate, PublicKey, Span};
+use resolver_base::root::Fetch;
+
+/// A handle through which data is fetched by key. A clone is another handle of the same resolver.
+///
+/// Each call leaves one message with the resolver, and is answered at once: Ok, Backoff where the
+/// caller does well to slow down, and Closed where the resolver takes no messages any more, nor
+/// will. Where memory is wanting (`OutOfMemory`), or a number for the handle (`Exhausted`), it
+/// leaves none.
+pub trait Resolver: Clone + Send + 'static {
+    /// How data is named.
+    type Key: Span;
+
+    /// Who wants it.
+    type Subscriber: Eq;
+
+    /// Which subscribers stay.
+    type Predicate: Predicate<Self::Key, Self::Subscriber>;
+
+    /// Asks for a key on behalf of a subscriber. The fetch persists until it is retired.
+    fn fetch(&mut self, fetch: Fetch<Self::Key, Self::Subscriber>) -> Result<Feedback, Fault>
+        ensures only { IfErr result (λ fault. fault ≢ OutOfMemory → fault ≡ Exhausted) };
+
+    /// Asks for several keys by one message, also where there is none.
+    fn fetch_all(
+        &mut self,
+        fetches: Vec<Fetch<Self::Key, Self::Subscriber>>,
+    ) -> Result<Feedback, Fault>
+        ensures only { IfErr result (λ fault. fault ≢ OutOfMemory → fault ≡ Exhausted) };
+
+    /// Lets all subscribers go that aren't kept, and the keys that nobody wants then.
+    fn retain(&mut self, keep: Self::Predicate) -> Result<Feedback, Fault>
+        ensures only { IfErr result (λ fault. fault ≢ OutOfMemory → fault ≡ Exhausted) };
+}
+
+/// A resolver that can be told which peers are likely to have the data.
+pub trait TargetedResolver: Resolver {
+    /// How peers are named.
+    type PublicKey: PublicKey;
+
+    /// Asks for a key, of these peers alone.
+    fn fetch_targeted(
+        &mut self,
+        fetch: Fetch<Self::Key, Self::Subscriber>,
+        targets: NonEmptyVec<Self::PublicKey>,
+    ) -> Result<Feedback, Fault>
+        ensures only { IfErr result (λ fault. fault ≢ OutOfMemory → fault ≡ Exhausted) };
+
+    /// Asks for several keys by one message, each of its own peers alone.
+    fn fetch_all_targeted(
+        &mut self,
+        fetches: Vec<
+            (
+                Fetch<Self::Key, Self::Subscriber>,
+                NonEmptyVec<Self::PublicKey>,
+            ),
+        >,
+    ) -> Result<Feedback, Fault>
+        ensures only { IfErr result (λ fault. fault ≢ OutOfMemory → fault ≡ Exhausted) };
+}
