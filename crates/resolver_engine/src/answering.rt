@@ -11,7 +11,8 @@ ghost use Rattle.resolver_engine.specs.Tied.{Agrees};
 ghost use Rattle.resolver_engine.specs.declared.effects.Effect.TheVariants.{Deliver};
 
 use crate::effects::Effect;
-use crate::parts::{Judged, Parts};
+use crate::inflight::Inflight;
+use crate::parts::Parts;
 use bytes::Bytes;
 use resolver_base::base::Fault;
 use resolver_base::root::Delivery;
@@ -72,7 +73,7 @@ impl<K: Ord + Clone + Drop, P: Ord + Clone + Drop, S: Ord + Clone + Drop> Parts<
 
 /// Hands a new value out.
 fn hand_out<K: Ord + Clone + Drop, P: Clone + Drop, S: Clone + Drop>(
-    entries: &mut Judged<K, P, S>,
+    entries: &mut Inflight<K, P, S>,
     delivery: Delivery<K, S>,
     source: Source<P>,
     value: Bytes,

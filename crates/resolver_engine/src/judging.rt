@@ -19,7 +19,8 @@ ghost use Rattle.resolver_engine.specs.Tied.{Agrees};
 ghost use Rattle.resolver_engine.specs.declared.effects.Effect.TheVariants.{Deliver};
 
 use crate::effects::Effect;
-use crate::parts::{Judged, Parts};
+use crate::inflight::Inflight;
+use crate::parts::Parts;
 use resolver_base::base::Fault;
 use resolver_base::root::{Delivery, Outcome};
 use resolver_demand::delivery::Completion;
@@ -178,7 +179,7 @@ fn account<K: Ord + Drop, P: Ord + Drop, S: Drop>(
 
 /// Hands the cached response out once more, accepted or as it was.
 fn hand_out_again<K: Ord + Clone + Drop, P: Clone + Drop, S: Clone + Drop>(
-    entries: &mut Judged<K, P, S>,
+    entries: &mut Inflight<K, P, S>,
     delivery: Delivery<K, S>,
     accepted: bool,
     effects: &mut Vec<Effect<K, P, S>>,
@@ -215,7 +216,7 @@ fn hand_out_again<K: Ord + Clone + Drop, P: Clone + Drop, S: Clone + Drop>(
 
 /// Notes that a key's cached response is right, if it is.
 fn note_accepted<K: Ord + Drop, P: Drop, S: Drop>(
-    entries: &mut Judged<K, P, S>,
+    entries: &mut Inflight<K, P, S>,
     key: &K,
     accepted: bool,
 )

@@ -10,6 +10,7 @@ pub mod effects;
 pub mod engine;
 mod failing;
 mod fetching;
+mod inflight;
 pub mod inputs;
 mod judging;
 mod parts;

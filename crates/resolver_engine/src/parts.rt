@@ -7,25 +7,21 @@ ghost use Rattle.resolver_peer.specs.Parties.{parties};
 ghost use Rattle.resolver_peer.specs.Peer.{Machine, opening, peer_set, block};
 ghost use Rattle.resolver_engine.specs.Tied.{Agrees};
 
-use bytes::Bytes;
+use crate::inflight::Inflight;
 use resolver_base::base::{Fault, Numbers};
 use resolver_demand::delivery::Entries;
 use resolver_demand::subscribers::Tracker;
 use resolver_fetch::fetcher::{Config, Fetcher};
-use resolver_peer::named::{Serve, Source};
+use resolver_peer::named::Serve;
 use std::alloc::Global;
 use std::collections::BTreeMap;
-
-/// What is judged, with what is known of each response, and the moment at which its key was fetched
-/// first.
-pub(crate) type Judged<K, P, S> = Entries<K, S, Bytes, Source<P>, u128>;
 
 /// The parts of the engine. Each has what it says of one peer machine; together they are that
 /// machine.
 #[derive(Drop)]
 pub(crate) struct Parts<K: Ord, P: Ord, S: Ord> {
     pub(crate) demand: Tracker<K, S>,
-    pub(crate) entries: Judged<K, P, S>,
+    pub(crate) entries: Inflight<K, P, S>,
     pub(crate) fetcher: Fetcher<K, P>,
     pub(crate) serves: BTreeMap<u64, Serve<P>>,
     pub(crate) next_serve: Numbers,

@@ -15,13 +15,11 @@ ghost use Rattle.resolver_engine.specs.Said.{codec};
 ghost use Rattle.resolver_engine.specs.Tied.{Agrees};
 
 use crate::effects::Effect;
+use crate::inflight::Inflight;
 use crate::parts::Parts;
-use bytes::Bytes;
 use resolver_base::base::{Fault, Predicate, Span};
-use resolver_demand::delivery::Entries;
 use resolver_demand::subscribers::Tracker;
 use resolver_fetch::fetcher::Fetcher;
-use resolver_peer::named::Source;
 
 impl<K: Span + Drop, P: Ord + Drop, S: Ord + Drop> Parts<K, P, S> {
     /// Removes the subscribers that aren't kept, and calls off what is done for the keys that have
@@ -62,7 +60,7 @@ impl<K: Span + Drop, P: Ord + Drop, S: Ord + Drop> Parts<K, P, S> {
 
 /// Calls off the judgements in progress of these keys, in their order.
 fn cancel_each<K: Ord + Drop, P: Drop, S: Drop>(
-    entries: &Entries<K, S, Bytes, Source<P>, u128>,
+    entries: &Inflight<K, P, S>,
     keys: &[K],
     effects: &mut Vec<Effect<K, P, S>>,
 ) -> Result<(), Fault>
@@ -80,7 +78,7 @@ fn cancel_each<K: Ord + Drop, P: Drop, S: Drop>(
 
 /// Calls off the judgements in progress of all keys, in their order.
 fn cancel_all<K: Ord + Drop, P: Drop, S: Drop>(
-    entries: &Entries<K, S, Bytes, Source<P>, u128>,
+    entries: &Inflight<K, P, S>,
     effects: &mut Vec<Effect<K, P, S>>,
 ) -> Result<(), Fault>
     ensures told { OnOk result
@@ -98,7 +96,7 @@ fn cancel_all<K: Ord + Drop, P: Drop, S: Drop>(
 /// Lets the keys go that nobody wants.
 fn forget<K: Ord + Drop, P: Ord + Drop, S: Ord + Drop>(
     demand: &Tracker<K, S>,
-    entries: &mut Entries<K, S, Bytes, Source<P>, u128>,
+    entries: &mut Inflight<K, P, S>,
     fetcher: &mut Fetcher<K, P>,
 )
     requires closed { is_some fetcher.old.scan ≡ false }
