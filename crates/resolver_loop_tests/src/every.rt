@@ -1,28 +1,9 @@
-use crate::world::{Looped, World, into_loop, make_world};
-use futures::task::Poll;
+use crate::world::{Looped, World, into_loop, make_world, turn};
 use futures::test::MockTask;
-use resolver::base::Feedback;
-use resolver::{Ending, Outcome, Resolution, Resolver};
+use resolver::{Outcome, Resolution};
 use std::fmt::Write;
 use std::sync::Wait;
 use std::test::Fail;
-
-/// Polls the loop once, and writes what it did.
-fn turn<R: Wait + Copy + Drop>(
-    text: &mut String,
-    task: &MockTask,
-    looped: &mut Looped<R>,
-    world: &mut World<R>,
-) -> Result<(), Fail> {
-    let polled = task.enter(|cx| looped.poll(cx));
-    world.spell(text)?;
-    match polled {
-        Poll::Ready(Ending::Complete) => writeln!(text, "complete")?,
-        Poll::Ready(_) => writeln!(text, "refused")?,
-        Poll::Pending => writeln!(text, "-")?,
-    }
-    Ok(())
-}
 
 /// Every input of the peer machine is ready once, one after another.
 fn every_input<R: Wait + Copy + Drop + Send + 'static>(
@@ -116,5 +97,51 @@ fn every_input_every_effect(rt: HostRuntime) -> Result<(), Fail> {
     let mut looped = into_loop(engine, lent)?;
     every_input(&mut text, &task, &mut looped, &mut world)?;
     assert_eq!(rt; text.as_str(), SEEN);
+    Ok(())
+}
+
+/// A subscriber joins while a response is being judged.
+fn join_late<R: Wait + Copy + Drop + Send + 'static>(
+    text: &mut String,
+    task: &MockTask,
+    looped: &mut Looped<R>,
+    world: &mut World<R>,
+) -> Result<(), Fail> {
+    world.peers(1, &[3, 4, 9])?;
+    world.fetch(10)?;
+    turn(text, task, looped, world)?;
+    world.net(3, b"\0\0\0\0\0\0\0\0\x01\x02hi");
+    turn(text, task, looped, world)?;
+    world.fetch(11)?;
+    turn(text, task, looped, world)?;
+    world.judge(Outcome::Resolved(Resolution::Complete));
+    turn(text, task, looped, world)?;
+    world.judge(Outcome::Resolved(Resolution::Complete));
+    turn(text, task, looped, world)
+}
+
+#[test]
+fn a_late_subscriber_gets_the_same_response(rt: HostRuntime) -> Result<(), Fail> {
+    let task = MockTask::new(&rt)?;
+    let mut text = String::new(rt.alloc());
+    let (mut world, engine, lent) = make_world(rt, rt.alloc())?;
+    let mut looped = into_loop(engine, lent)?;
+    join_late(&mut text, &task, &mut looped, &mut world)?;
+    assert_eq!(rt;
+        text.as_str(),
+        "draw 4
+draw 2
+check 3
+draw 18446744073709551616
+send 3 x00000000000000000001
+-
+deliver 1 to 10 x6869
+-
+-
+deliver 1 to 11 x6869
+-
+-
+"
+    );
     Ok(())
 }

@@ -9,4 +9,6 @@ mod fakes;
 #[cfg(test)]
 mod names;
 #[cfg(test)]
+mod source;
+#[cfg(test)]
 mod world;

@@ -4,11 +4,13 @@ use crate::fakes::{Given, Judge, Seen, Standing, Store, Told, Watch, Wire, Zeros
 use crate::names::{Below, Peer};
 use bytes::Bytes;
 use futures::channel::{mpsc, oneshot};
+use futures::task::Poll;
+use futures::test::MockTask;
 use resolver::base::{Fault, NonEmptyVec};
 use resolver::mailbox::Unrecorded;
 use resolver::p2p::mocks::Key;
 use resolver::p2p::{Config, Engine, Loop, Mailbox};
-use resolver::{Fetch, Outcome, Resolver, TargetedResolver};
+use resolver::{Ending, Fetch, Outcome, Resolver, TargetedResolver};
 use std::alloc::Global;
 use std::fmt::Write;
 use std::num::NonZeroUsize;
@@ -239,7 +241,7 @@ fn spell_bytes(text: &mut String, bytes: &[u8]) -> Result<(), Fail> {
     Ok(())
 }
 
-fn spell_seen(text: &mut String, seen: &Seen) -> Result<(), Fail> {
+pub fn spell_seen(text: &mut String, seen: &Seen) -> Result<(), Fail> {
     match seen {
         Seen::Drew(below) => writeln!(text, "draw {below}")?,
         Seen::Checked(peer) => writeln!(text, "check {}", peer.0)?,
@@ -257,6 +259,34 @@ fn spell_seen(text: &mut String, seen: &Seen) -> Result<(), Fail> {
         }
         Seen::Produced(key) => writeln!(text, "produce {}", key.0)?,
         Seen::Blocked(peer) => writeln!(text, "block {}", peer.0)?,
+    }
+    Ok(())
+}
+
+/// Polls the loop, and once more where it was woken in that poll: what is new in a set of futures wakes
+/// the task that polls it.
+fn settle<R: Wait + Copy + Drop>(task: &MockTask, looped: &mut Looped<R>) -> Poll<Ending> {
+    let polled = task.enter(|cx| looped.poll(cx));
+    if polled.is_pending() && task.is_woken() {
+        return task.enter(|cx| looped.poll(cx));
+    }
+    polled
+}
+
+/// Polls the loop, and writes what the fakes were asked, and whether it waits, is busy or over.
+pub fn turn<R: Wait + Copy + Drop>(
+    text: &mut String,
+    task: &MockTask,
+    looped: &mut Looped<R>,
+    world: &mut World<R>,
+) -> Result<(), Fail> {
+    let polled = settle(task, looped);
+    world.spell(text)?;
+    match polled {
+        Poll::Ready(Ending::Complete) => writeln!(text, "complete")?,
+        Poll::Ready(_) => writeln!(text, "refused")?,
+        Poll::Pending if task.is_woken() => writeln!(text, "busy")?,
+        Poll::Pending => writeln!(text, "-")?,
     }
     Ok(())
 }

@@ -4,8 +4,6 @@ ghost use Rattle.std.specs.Prelude.{◌≡◌, ◌≢◌, ◌⊎◌, ℕ, map, N
 ghost use Rattle.std.specs.List.{IsDistinct};
 ghost use Rattle.std.specs.List.Sorted.{IsStrictlySortedBy};
 ghost use Rattle.std.specs.Ordering.{is_eq};
-ghost use Rattle.futures.specs.Poll.{OnPending};
-ghost use Rattle.futures.specs.Task.{IsArmed, Keeps};
 ghost use Rattle.resolver_base.specs.declared.base.fault.Fault.TheVariants.{OutOfMemory};
 ghost use Rattle.resolver_fetch.specs.Fetcher.{IsTimely};
 ghost use Rattle.resolver_peer.specs.Parties.{parties};
@@ -24,8 +22,6 @@ use crate::looping::Loop;
 use crate::mail::Mail;
 use crate::mailbox::Mailbox;
 use bytes::Bytes;
-use futures::future::poll_fn;
-use futures::task::{Context, Poll};
 use resolver_base::base::{Draws, Faithful, Fault, Predicate, PublicKey, Sender, Span};
 use resolver_engine::effects::Effect;
 use resolver_engine::engine::Core;
@@ -35,13 +31,10 @@ use resolver_fetch::fetcher;
 use resolver_mailbox::mailbox;
 use resolver_mailbox::mailbox::Unrecorded;
 use resolver_surface::{Blocker, Clock, Consumer, Producer, Provider, Receiver};
-use resolver_worker::{Ending, Handle, Judging, Peers, Serving};
-use std::alloc::{AllocGlobal, Global};
+use resolver_worker::{Judging, Peers, Serving};
+use std::alloc::Global;
 use std::hash::Hash;
 use std::marker::Model;
-use std::random::RandomSource;
-use std::sync::Wait;
-use std::thread::Threads;
 
 /// Fetches keys from peers, and owns what its loop is to poll: the end of its mailbox that takes
 /// messages, the sources of peers, the consumer and the producer.
@@ -123,7 +116,8 @@ impl<
         Ok((engine, Mailbox::over(alloc, sender)))
     }
 
-    /// The loop that `start` runs, for a caller that polls it in a thread of its own.
+    /// The engine's loop over this network, clock and source of draws, which its caller polls in a
+    /// thread. Where memory is wanting, all is dropped, and the mailbox stays open.
     pub fn into_loop<X, Y, W, G>(
         self,
         network: (X, Y),
@@ -152,36 +146,6 @@ impl<
             answer: None,
             is_starved: false,
         })
-    }
-
-    /// Runs the engine in a thread of its own, over this network, clock and source of draws, until
-    /// its mailbox, its network or its source of peer sets is closed, or memory or numbers are
-    /// wanting. The handle's `join` says which.
-    ///
-    /// Where memory is wanting, or no thread can be made, nothing runs, and the mailbox stays open.
-    pub fn start<X, Y, W, G>(self, network: (X, Y), clock: W, draws: G) -> Result<Handle, Fault>
-    where
-        P: 'static,
-        D: Send + 'static,
-        B: Send + 'static,
-        K: 'static,
-        S: Send + 'static,
-        C::Outcome: Drop + 'static,
-        Q: Send + 'static,
-        R: Threads + Wait + RandomSource + AllocGlobal + Drop + Send + 'static,
-        X: Sender<PublicKey = P> + Drop + Send + 'static,
-        Y: Receiver<PublicKey = P> + Drop + Send + 'static,
-        W: Clock + Drop + Send + 'static,
-        G: Draws + Drop + Send + 'static,
-        ensures only { IfErr result (λ fault. fault ≡ OutOfMemory) }
-    {
-        let rt = self.rt;
-        let mut looped = self.into_loop(network, clock, draws)?;
-        let polled = move |cx: &mut Context<'_>| -> Poll<Ending>
-            ensures armed { OnPending result (IsArmed cx.new) }
-            ensures kept { Keeps cx.old cx.new }
-        { looped.poll(cx) };
-        resolver_worker::start(rt, poll_fn(polled))
     }
 }
 
