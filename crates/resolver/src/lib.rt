@@ -11,6 +11,7 @@ pub use resolver_base::root::{Delivery, Fetch, Outcome, Resolution};
 pub use resolver_demand::{ingress, subscribers};
 pub use resolver_mailbox::mailbox;
 pub use resolver_surface::{Consumer, Resolver, TargetedResolver};
+pub use resolver_worker::{Ending, Handle};
 
 pub mod base;
 pub mod delivery;

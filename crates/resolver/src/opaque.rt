@@ -1,7 +1,7 @@
 //! Fetching from one opaque source, which gives a value for a key or none.
 //!
 //! `Actor` is the machine: it takes inputs with their moments and answers with effects. `Resolver` is
-//! a handle of the mailbox of its loop.
+//! a handle of the mailbox of its loop, which `open` makes over a `Fetcher`.
 
 pub use resolver_actor::opaque::{Actor, Effect, Event, Input, Phase, Row};
-pub use resolver_opaque::Resolver;
+pub use resolver_opaque::{Fetcher, Loop, Resolver, open};

@@ -4,7 +4,7 @@
 pub use resolver_engine::engine::Core;
 pub use resolver_engine::{effects, inputs, rows};
 pub use resolver_fetch::fetcher;
-pub use resolver_p2p::{Config, Engine, FetchKey, Mailbox, Message};
+pub use resolver_p2p::{Config, Engine, FetchKey, Loop, Mailbox, Message};
 pub use resolver_peer::named;
 pub use resolver_request::wire::{MAX_RESPONSE_OVERHEAD, REQUEST_OVERHEAD, max_message_size};
 pub use resolver_request::{sampling, score, wire};

@@ -16,18 +16,22 @@ ghost use Rattle.resolver_engine.specs.Matching.{Matches};
 ghost use Rattle.resolver_engine.specs.Said.{answer_of, codec, fed_of};
 ghost use Rattle.resolver_p2p.specs.Configured.{fetching};
 
+use crate::asking::Asking;
 use crate::config::Config;
+use crate::looping::Loop;
+use crate::mail::Mail;
 use crate::mailbox::Mailbox;
 use bytes::Bytes;
-use resolver_base::base::{Faithful, Fault, NonEmptyVec, Predicate, PublicKey, Span};
+use resolver_base::base::{Draws, Faithful, Fault, Predicate, PublicKey, Sender, Span};
 use resolver_engine::effects::Effect;
 use resolver_engine::engine::Core;
 use resolver_engine::inputs::Input;
 use resolver_engine::rows::Row;
 use resolver_fetch::fetcher;
 use resolver_mailbox::mailbox;
-use resolver_mailbox::mailbox::{Receiver, Unrecorded};
-use resolver_surface::{Blocker, Consumer, Producer, Provider};
+use resolver_mailbox::mailbox::Unrecorded;
+use resolver_surface::{Blocker, Clock, Consumer, Producer, Provider, Receiver};
+use resolver_worker::{Judging, Peers, Serving};
 use std::alloc::Global;
 use std::hash::Hash;
 use std::marker::Model;
@@ -50,8 +54,10 @@ pub struct Engine<
     Q: Predicate<K, S>,
     R,
 > {
+    rt: R,
+    alloc: Global,
     core: Core<K, P, S, Q>,
-    mail: Receiver<K, S, Option<NonEmptyVec<P>>, Q, Unrecorded, R>,
+    mail: Mail<K, P, S, Q, R>,
     peer_provider: D,
     blocker: B,
     consumer: C,
@@ -98,6 +104,8 @@ impl<
             priority_requests: cfg.priority_requests,
         };
         let engine = Engine {
+            rt,
+            alloc,
             core: Core::new(alloc, configuration, cfg.priority_responses),
             mail,
             peer_provider: cfg.peer_provider,
@@ -106,6 +114,38 @@ impl<
             producer: cfg.producer,
         };
         Ok((engine, Mailbox::over(alloc, sender)))
+    }
+
+    /// The engine's loop over this network, clock and source of draws, which its caller polls in a
+    /// thread. Where memory is wanting, all is dropped, and the mailbox stays open.
+    pub fn into_loop<X, Y, W, G>(
+        self,
+        network: (X, Y),
+        clock: W,
+        draws: G,
+    ) -> Result<Loop<P, D, B, K, S, C, O, Q, R, X, Y, W, G>, Fault>
+    where
+        X: Sender<PublicKey = P> + Drop,
+        Y: Receiver<PublicKey = P> + Drop,
+        W: Clock + Drop,
+        G: Draws + Drop,
+        C::Outcome: Drop,
+        ensures only { IfErr result (λ fault. fault ≡ OutOfMemory) }
+    {
+        let (sender, receiver) = network;
+        Ok(Loop {
+            alloc: self.alloc,
+            core: self.core,
+            mail: self.mail,
+            peers: Peers::new(self.peer_provider, self.blocker),
+            judging: Judging::new(self.alloc, self.consumer)?,
+            serving: Serving::new(self.alloc, self.producer)?,
+            asking: Asking { sender, draws },
+            receiver,
+            clock,
+            answer: None,
+            is_starved: false,
+        })
     }
 }
 

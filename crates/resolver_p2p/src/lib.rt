@@ -5,10 +5,14 @@
 //! caller lends. `Mailbox` is a handle of that mailbox.
 #![tactic(auto)]
 
+mod asking;
 mod config;
 mod engine;
+mod looping;
+mod mail;
 mod mailbox;
 
 pub use config::Config;
 pub use engine::Engine;
+pub use looping::Loop;
 pub use mailbox::{FetchKey, Mailbox, Message};

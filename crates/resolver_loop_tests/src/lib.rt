@@ -1,0 +1,14 @@
+//! Tests of the loops, over fakes in memory: sources that give what a test says, and a consumer, a
+//! producer, a network and draws that write down what they are asked.
+#![tactic(auto)]
+
+#[cfg(test)]
+mod every;
+#[cfg(test)]
+mod fakes;
+#[cfg(test)]
+mod names;
+#[cfg(test)]
+mod source;
+#[cfg(test)]
+mod world;

@@ -1,0 +1,35 @@
+//! Names of peers and a predicate for the tests.
+
+ghost use Rattle.std.specs.Prelude.{◌≡◌, nat_lt};
+ghost use Rattle.std.proofs.Common.{rules};
+
+use resolver::base::{Faithful, Predicate, PublicKey};
+use resolver::p2p::mocks::Key;
+
+/// A name of a peer.
+#[derive(Clone, Copy, Debug, PartialEq, Eq, PartialOrd, Ord, Hash)]
+pub struct Peer(pub u8);
+
+impl PublicKey for Peer {}
+
+impl Faithful for Peer {
+    ghost clones = { Prim.search rules };
+}
+
+/// Keeps the subscribers below this one.
+#[derive(Clone, Copy)]
+pub struct Below(pub u16);
+
+impl Predicate<Key, u16> for Below {
+    ghost keeps = { λ below _ subscriber. nat_lt subscriber below.0 };
+
+    fn keep(&self, _key: &Key, subscriber: &u16) -> bool {
+        *subscriber < self.0
+    }
+
+    ghost alike = { λ q k l s t same_key same_subscriber. Prim.search rules };
+}
+
+impl Faithful for Below {
+    ghost clones = { Prim.search rules };
+}

@@ -1,0 +1,292 @@
+//! An engine's loop in memory, and what its test holds of it.
+
+use crate::fakes::{Given, Judge, Seen, Standing, Store, Told, Watch, Wire, Zeros};
+use crate::names::{Below, Peer};
+use bytes::Bytes;
+use futures::channel::{mpsc, oneshot};
+use futures::task::Poll;
+use futures::test::MockTask;
+use resolver::base::{Fault, NonEmptyVec};
+use resolver::mailbox::Unrecorded;
+use resolver::p2p::mocks::Key;
+use resolver::p2p::{Config, Engine, Loop, Mailbox};
+use resolver::{Ending, Fetch, Outcome, Resolver, TargetedResolver};
+use std::alloc::Global;
+use std::fmt::Write;
+use std::num::NonZeroUsize;
+use std::sync::{Arc, Wait};
+use std::test::Fail;
+
+/// The engine of a world, called 9, with a timeout of 50 and a delay of 10.
+pub type Made<R> = Engine<
+    Peer,
+    Given<(u64, Vec<Peer>)>,
+    Given<Vec<Peer>>,
+    Key,
+    u16,
+    Judge,
+    Store,
+    Below,
+    R,
+>;
+
+/// Its loop.
+pub type Looped<R> = Loop<
+    Peer,
+    Given<(u64, Vec<Peer>)>,
+    Given<Vec<Peer>>,
+    Key,
+    u16,
+    Judge,
+    Store,
+    Below,
+    R,
+    Wire,
+    Given<(Peer, Bytes)>,
+    Standing,
+    Zeros,
+>;
+
+/// What a test holds.
+#[derive(Drop)]
+pub struct World<R> {
+    pub alloc: Global,
+    pub mailbox: Mailbox<Key, Peer, u16, Below, Unrecorded, R>,
+    pub sets: mpsc::UnboundedSender<(u64, Vec<Peer>)>,
+    pub blocked: mpsc::UnboundedSender<Vec<Peer>>,
+    pub network: mpsc::UnboundedSender<(Peer, Bytes)>,
+    pub watch: Arc<Watch>,
+    pub verdicts: mpsc::UnboundedReceiver<oneshot::Sender<Outcome>>,
+    pub serves: mpsc::UnboundedReceiver<oneshot::Sender<Bytes>>,
+    pub told: mpsc::UnboundedReceiver<Seen>,
+}
+
+/// What a world's engine is lent besides.
+#[derive(Drop)]
+pub struct Lent {
+    pub told: Told,
+    pub incoming: mpsc::UnboundedReceiver<(Peer, Bytes)>,
+    pub watch: Arc<Watch>,
+}
+
+/// A world with its engine.
+pub fn make_world<R: Copy>(rt: R, alloc: Global) -> Result<(World<R>, Made<R>, Lent), Fault> {
+    let Some(mailbox_size) = NonZeroUsize::new(4) else {
+        return Err(Fault::OutOfRange);
+    };
+    let (told, seen) = mpsc::unbounded(alloc)?;
+    let (sets, given_sets) = mpsc::unbounded(alloc)?;
+    let (blocked, given_blocked) = mpsc::unbounded(alloc)?;
+    let (network, incoming) = mpsc::unbounded(alloc)?;
+    let (verdicts, verdict_senders) = mpsc::unbounded(alloc)?;
+    let (serves, serve_senders) = mpsc::unbounded(alloc)?;
+    let watch = Arc::new(alloc, Watch::new())?;
+    let cfg = Config {
+        peer_provider: Given {
+            told: told.clone()?,
+            given: given_sets,
+        },
+        blocker: Given {
+            told: told.clone()?,
+            given: given_blocked,
+        },
+        consumer: Judge {
+            alloc,
+            told: told.clone()?,
+            verdicts,
+        },
+        producer: Store {
+            alloc,
+            told: told.clone()?,
+            serves,
+        },
+        mailbox_size,
+        me: Some(Peer(9)),
+        fetch_timeout: 50,
+        fetch_retry_delay: 10,
+        priority_requests: false,
+        priority_responses: false,
+    };
+    let (engine, mailbox) = Engine::new(rt, alloc, cfg)?;
+    let world = World {
+        alloc,
+        mailbox,
+        sets,
+        blocked,
+        network,
+        watch: Arc::try_clone(&watch)?,
+        verdicts: verdict_senders,
+        serves: serve_senders,
+        told: seen,
+    };
+    let lent = Lent {
+        told,
+        incoming,
+        watch,
+    };
+    Ok((world, engine, lent))
+}
+
+/// The loop of a world's engine.
+pub fn into_loop<R: Copy>(engine: Made<R>, lent: Lent) -> Result<Looped<R>, Fault> {
+    let Lent {
+        told,
+        incoming,
+        watch,
+    } = lent;
+    let sender = Wire {
+        told: told.clone()?,
+    };
+    let receiver = Given {
+        told: told.clone()?,
+        given: incoming,
+    };
+    engine.into_loop((sender, receiver), Standing { watch }, Zeros { told })
+}
+
+/// Peers by their numbers.
+pub fn peers(alloc: Global, numbers: &[u8]) -> Result<Vec<Peer>, Fault> {
+    let mut peers = Vec::new(alloc);
+    for number in numbers {
+        peers.push(Peer(*number))?;
+    }
+    Ok(peers)
+}
+
+/// A fetch of key 1.
+pub fn wanted(subscriber: u16) -> Fetch<Key, u16> {
+    Fetch {
+        key: Key(1),
+        subscriber,
+        mark: 7,
+    }
+}
+
+impl<R: Wait + Copy + Send + 'static> World<R> {
+    /// Subscriber wants key 1.
+    pub fn fetch(&mut self, subscriber: u16) -> Result<(), Fault> {
+        self.mailbox.fetch(wanted(subscriber))?;
+        Ok(())
+    }
+
+    /// Subscriber wants key 1 of this peer.
+    pub fn fetch_from(&mut self, subscriber: u16, peer: u8) -> Result<(), Fault> {
+        let Ok(targets) = NonEmptyVec::new(self.alloc, Peer(peer)) else {
+            return Err(Fault::OutOfMemory);
+        };
+        self.mailbox.fetch_targeted(wanted(subscriber), targets)?;
+        Ok(())
+    }
+
+    /// Subscribers from this one on are let go.
+    pub fn retain_below(&mut self, subscriber: u16) -> Result<(), Fault> {
+        self.mailbox.retain(Below(subscriber))?;
+        Ok(())
+    }
+}
+
+impl<R> World<R> {
+    /// There are these peers.
+    pub fn peers(&self, index: u64, numbers: &[u8]) -> Result<(), Fault> {
+        let _ = self
+            .sets
+            .unbounded_send((index, peers(self.alloc, numbers)?));
+        Ok(())
+    }
+
+    /// These peers are blocked.
+    pub fn block(&self, numbers: &[u8]) -> Result<(), Fault> {
+        let _ = self.blocked.unbounded_send(peers(self.alloc, numbers)?);
+        Ok(())
+    }
+
+    /// A peer sends these bytes.
+    pub fn net(&self, peer: u8, message: &'static [u8]) {
+        let _ = self
+            .network
+            .unbounded_send((Peer(peer), Bytes::from_static(message)));
+    }
+
+    /// The consumer says this of the first delivery that it hasn't judged.
+    pub fn judge(&mut self, outcome: Outcome) {
+        if let Ok(verdict) = self.verdicts.try_recv() {
+            let _ = verdict.send(outcome);
+        }
+    }
+
+    /// The producer has these bytes for the first request that it hasn't answered.
+    pub fn serve(&mut self, value: &'static [u8]) {
+        if let Ok(serve) = self.serves.try_recv() {
+            let _ = serve.send(Bytes::from_static(value));
+        }
+    }
+
+    /// Writes what the fakes were asked since the last time.
+    pub fn spell(&mut self, text: &mut String) -> Result<(), Fail> {
+        for _ in 0..1000 {
+            let Ok(seen) = self.told.try_recv() else {
+                return Ok(());
+            };
+            spell_seen(text, &seen)?;
+        }
+        Ok(())
+    }
+}
+
+fn spell_bytes(text: &mut String, bytes: &[u8]) -> Result<(), Fail> {
+    for byte in bytes {
+        write!(text, "{byte:02x}")?;
+    }
+    writeln!(text)?;
+    Ok(())
+}
+
+pub fn spell_seen(text: &mut String, seen: &Seen) -> Result<(), Fail> {
+    match seen {
+        Seen::Drew(below) => writeln!(text, "draw {below}")?,
+        Seen::Checked(peer) => writeln!(text, "check {}", peer.0)?,
+        Seen::Sent(peer, bytes) => {
+            write!(text, "send {} x", peer.0)?;
+            spell_bytes(text, bytes)?;
+        }
+        Seen::Delivered(delivery, value) => {
+            write!(text, "deliver {} to", delivery.key.0)?;
+            for (subscriber, _) in delivery.subscribers.iter() {
+                write!(text, " {subscriber}")?;
+            }
+            write!(text, " x")?;
+            spell_bytes(text, value)?;
+        }
+        Seen::Produced(key) => writeln!(text, "produce {}", key.0)?,
+        Seen::Blocked(peer) => writeln!(text, "block {}", peer.0)?,
+    }
+    Ok(())
+}
+
+/// Polls the loop, and once more where it was woken in that poll: what is new in a set of futures wakes
+/// the task that polls it.
+fn settle<R: Wait + Copy + Drop>(task: &MockTask, looped: &mut Looped<R>) -> Poll<Ending> {
+    let polled = task.enter(|cx| looped.poll(cx));
+    if polled.is_pending() && task.is_woken() {
+        return task.enter(|cx| looped.poll(cx));
+    }
+    polled
+}
+
+/// Polls the loop, and writes what the fakes were asked, and whether it waits, is busy or over.
+pub fn turn<R: Wait + Copy + Drop>(
+    text: &mut String,
+    task: &MockTask,
+    looped: &mut Looped<R>,
+    world: &mut World<R>,
+) -> Result<(), Fail> {
+    let polled = settle(task, looped);
+    world.spell(text)?;
+    match polled {
+        Poll::Ready(Ending::Complete) => writeln!(text, "complete")?,
+        Poll::Ready(_) => writeln!(text, "refused")?,
+        Poll::Pending if task.is_woken() => writeln!(text, "busy")?,
+        Poll::Pending => writeln!(text, "-")?,
+    }
+    Ok(())
+}

@@ -1,0 +1,188 @@
+//! The actor's loop: it turns what is ready into inputs, and carries effects out.
+
+ghost use Rattle.futures.specs.Poll.{OnPending};
+ghost use Rattle.futures.specs.Task.{IsArmed, Keeps};
+
+use crate::attempts::Attempts;
+use crate::fetcher::Fetcher;
+use futures::Stream;
+use futures::task::{Context, Poll};
+use resolver_actor::opaque::{Actor, Effect, Event, Input};
+use resolver_base::base::{Faithful, Predicate, Span};
+use resolver_base::root::Delivery;
+use resolver_demand::ingress::Message;
+use resolver_mailbox::mailbox::{Receiver, Unrecorded};
+use resolver_surface::{Clock, Consumer};
+use resolver_worker::{Ending, Judging, TURNS, Turn, poll_moment};
+use std::hash::Hash;
+use std::sync::Wait;
+
+/// An actor with all that it is fed from and that its effects go to.
+///
+/// In each turn it looks for one input, in this order: the end, where memory was wanting outside the
+/// actor; a value that was fetched; a verdict; a key that waits no longer; a message of the mailbox.
+/// A closed mailbox is the end.
+#[derive(Drop)]
+pub struct Loop<K, V, S, Q, R, W, F, C>
+where
+    K: Ord + Hash,
+    S: Ord,
+    Q: Predicate<K, S>,
+    F: Fetcher,
+    C: Consumer,
+{
+    pub(crate) actor: Actor<K, V, S, Q>,
+    pub(crate) mail: Receiver<K, S, (), Q, Unrecorded, R>,
+    pub(crate) clock: W,
+    pub(crate) fetcher: F,
+    pub(crate) attempts: Attempts<F::Future>,
+    pub(crate) judging: Judging<C>,
+    /// Whether memory was wanting outside the actor.
+    pub(crate) is_starved: bool,
+}
+
+impl<K, V, S, Q, R, W, F, C> Loop<K, V, S, Q, R, W, F, C>
+where
+    K: Span + Faithful + Drop,
+    V: Faithful + Drop,
+    S: Ord + Faithful + Drop,
+    Q: Predicate<K, S> + Faithful + Drop,
+    R: Wait + Drop,
+    W: Clock + Drop,
+    F: Fetcher<Key = K, Value = V> + Drop,
+    C: Consumer<Key = K, Value = V, Subscriber = S> + Drop,
+    C::Outcome: Drop,
+{
+    /// Whether a key waits no longer.
+    fn is_due(&self) -> bool {
+        match self.actor.next_retry() {
+            Some(at) => at <= self.clock.now(),
+            None => false,
+        }
+    }
+
+    /// The next message as an event.
+    fn poll_mail(&mut self, cx: &mut Context<'_>) -> Poll<Event<K, V, S, Q>>
+        ensures armed { OnPending result (IsArmed cx.new) }
+        ensures kept { Keeps cx.old cx.new }
+    {
+        match self.mail.poll_next(cx) {
+            Poll::Ready(Some(Ok(Message::Fetch(items)))) => Poll::Ready(Event::Fetch(items)),
+            Poll::Ready(Some(Ok(Message::Retain(keep)))) => Poll::Ready(Event::Retain(keep)),
+            // A mailbox that isn't recorded takes no memory for a take.
+            Poll::Ready(Some(Err(_))) => Poll::Ready(Event::RetriesDue),
+            Poll::Ready(None) => Poll::Ready(Event::End),
+            Poll::Pending => Poll::Pending,
+        }
+    }
+
+    /// The first event that has come.
+    fn poll_event(&mut self, cx: &mut Context<'_>) -> Poll<Event<K, V, S, Q>>
+        ensures armed { OnPending result (IsArmed cx.new) }
+        ensures kept { Keeps cx.old cx.new }
+    {
+        if self.is_starved {
+            return Poll::Ready(Event::End);
+        }
+        if let Poll::Ready((attempt, value)) = self.attempts.poll_any(cx) {
+            return Poll::Ready(Event::Fetched { attempt, value });
+        }
+        if let Poll::Ready((number, outcome)) = self.judging.poll_verdict(cx) {
+            return Poll::Ready(Event::Verdict { number, outcome });
+        }
+        if self.is_due() {
+            return Poll::Ready(Event::RetriesDue);
+        }
+        self.poll_mail(cx)
+    }
+
+    /// Looks for a value.
+    fn start(&mut self, attempt: u64, key: K) {
+        let look = self.fetcher.fetch(key);
+        if self.attempts.add(attempt, look).is_err() {
+            self.is_starved = true;
+        }
+    }
+
+    /// Asks the consumer to judge a value.
+    fn deliver(&mut self, number: u64, delivery: Delivery<K, S>, value: V) {
+        if self.judging.deliver(number, delivery, value).is_err() {
+            self.is_starved = true;
+        }
+    }
+
+    /// Carries an effect out.
+    fn carry_out(&mut self, effect: Effect<K, V, S>) {
+        match effect {
+            Effect::Start { attempt, key } => self.start(attempt, key),
+            Effect::Abort { attempt } => self.attempts.abort(attempt),
+            Effect::Deliver {
+                number,
+                response: _,
+                delivery,
+                value,
+            } => self.deliver(number, delivery, value),
+            Effect::Cancel { number } => self.judging.cancel(number),
+        }
+    }
+
+    /// Feeds an input to the actor, and carries out what it answers.
+    fn feed(&mut self, input: Input<K, V, S, Q>) -> Option<Ending> {
+        match self.actor.step(input) {
+            Ok(effects) => {
+                for effect in effects {
+                    self.carry_out(effect);
+                }
+                None
+            }
+            Err(fault) => Ending::of(fault),
+        }
+    }
+
+    /// Feeds an event, of now.
+    fn take(&mut self, event: Event<K, V, S, Q>) -> Turn {
+        let ends = matches!(event, Event::End);
+        let now = self.clock.now();
+        match self.feed(Input { now, event }) {
+            Some(ending) => Turn::Over(ending),
+            None if !ends => Turn::Again,
+            None if self.is_starved => Turn::Over(Ending::OutOfMemory),
+            None => Turn::Over(Ending::Complete),
+        }
+    }
+
+    /// Takes the first input that has come.
+    fn poll_turn(&mut self, cx: &mut Context<'_>) -> Poll<Turn>
+        ensures armed { OnPending result (IsArmed cx.new) }
+        ensures kept { Keeps cx.old cx.new }
+    {
+        if let Poll::Ready(event) = self.poll_event(cx) {
+            return Poll::Ready(self.take(event));
+        }
+        let due = self.actor.next_retry();
+        match poll_moment(&mut self.clock, cx, due) {
+            Poll::Ready(()) => Poll::Ready(Turn::Again),
+            Poll::Pending => Poll::Pending,
+        }
+    }
+
+    /// Takes what has come, and is ready once the loop is over, with how it ended and the mailbox
+    /// closed. Where nothing has come so far, every source that may give something wakes the task.
+    /// After `TURNS` turns it asks to be polled again.
+    pub fn poll(&mut self, cx: &mut Context<'_>) -> Poll<Ending>
+        ensures armed { OnPending result (IsArmed cx.new) }
+        ensures kept { Keeps cx.old cx.new }
+    {
+        for _ in 0..TURNS {
+            match self.poll_turn(cx) {
+                Poll::Ready(Turn::Again) => {}
+                Poll::Ready(Turn::Over(ending)) => {
+                    self.mail.close();
+                    return Poll::Ready(ending);
+                }
+                Poll::Pending => return Poll::Pending,
+            }
+        }
+        cx.yield_now()
+    }
+}

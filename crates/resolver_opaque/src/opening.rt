@@ -1,0 +1,61 @@
+//! An actor over an opaque source that is opened.
+
+ghost use Rattle.std.specs.Prelude.{◌≡◌, ◌<◌, ◌^◌, IfErr};
+ghost use Rattle.resolver_base.specs.declared.base.fault.Fault.TheVariants.{OutOfMemory};
+
+use crate::attempts::Attempts;
+use crate::fetcher::Fetcher;
+use crate::looping::Loop;
+use crate::resolver::Resolver;
+use resolver_actor::opaque::Actor;
+use resolver_base::base::{Faithful, Fault, Predicate, Span};
+use resolver_mailbox::mailbox;
+use resolver_mailbox::mailbox::Unrecorded;
+use resolver_surface::{Clock, Consumer};
+use resolver_worker::Judging;
+use std::alloc::Global;
+use std::num::NonZeroUsize;
+
+/// An actor over a source, as a handle and a loop, for a caller that polls it in a thread of its
+/// own. A key that the source has no value for is asked for again after `fetch_retry_delay`
+/// nanoseconds.
+pub fn open<K, V, S, P, Q, R, W, F, C>(
+    rt: R,
+    alloc: Global,
+    clock: W,
+    fetcher: F,
+    consumer: C,
+    mailbox_size: NonZeroUsize,
+    fetch_retry_delay: u128,
+) -> Result<
+    (
+        Resolver<K, S, P, Q, Unrecorded, R>,
+        Loop<K, V, S, Q, R, W, F, C>,
+    ),
+    Fault,
+>
+where
+    K: Span + Faithful + Drop,
+    V: Faithful + Drop,
+    S: Ord + Faithful + Drop,
+    Q: Predicate<K, S> + Faithful + Drop,
+    R: Copy,
+    W: Clock + Drop,
+    F: Fetcher<Key = K, Value = V> + Drop,
+    C: Consumer<Key = K, Value = V, Subscriber = S> + Drop,
+    C::Outcome: Drop,
+    requires { fetch_retry_delay < 2 ^ 94 }
+    ensures only { IfErr result (λ fault. fault ≡ OutOfMemory) }
+{
+    let (sender, mail) = mailbox::new(rt, alloc, mailbox_size.get())?;
+    let looped = Loop {
+        actor: Actor::new(alloc, fetch_retry_delay),
+        mail,
+        clock,
+        fetcher,
+        attempts: Attempts::new(alloc)?,
+        judging: Judging::new(alloc, consumer)?,
+        is_starved: false,
+    };
+    Ok((Resolver::over(alloc, sender), looped))
+}

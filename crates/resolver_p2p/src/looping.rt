@@ -1,0 +1,262 @@
+//! The engine's loop: it turns what is ready into inputs, and carries effects out.
+
+ghost use Rattle.futures.specs.Poll.{OnPending};
+ghost use Rattle.futures.specs.Task.{IsArmed, Keeps};
+
+use crate::asking::Asking;
+use crate::mail::{Mail, poll_mail};
+use bytes::Bytes;
+use futures::task::{Context, Poll};
+use resolver_base::base::{Draws, Faithful, Predicate, PublicKey, Sender, Span};
+use resolver_base::root::Delivery;
+use resolver_engine::effects::Effect;
+use resolver_engine::engine::Core;
+use resolver_engine::inputs::{Event, Happening, Input};
+use resolver_fetch::fetcher::{Answer, Ask};
+use resolver_surface::{Blocker, Clock, Consumer, Producer, Provider, Receiver};
+use resolver_worker::{Ending, Judging, Peers, Serving, TURNS, Turn, earlier, poll_moment};
+use std::alloc::Global;
+use std::hash::Hash;
+use std::sync::Wait;
+
+/// An engine's core with all that it is fed from and that its effects go to.
+///
+/// In each turn it looks for one input, in this order: the answer that a scan waits for; the end,
+/// where memory was wanting outside the core; a set of peers; a blocked set; a request whose time is
+/// over; a verdict; a message of the mailbox; a key whose time has come; bytes of the producer;
+/// a message of a peer. A closed source of sets, mailbox or network is the end.
+#[derive(Drop)]
+pub struct Loop<P, D, B, K, S, C, O, Q, R, X, Y, W, G>
+where
+    P: Ord + Faithful + Drop,
+    K: Ord + Hash,
+    S: Ord,
+    C: Consumer,
+    Q: Predicate<K, S>,
+{
+    pub(crate) alloc: Global,
+    pub(crate) core: Core<K, P, S, Q>,
+    pub(crate) mail: Mail<K, P, S, Q, R>,
+    pub(crate) peers: Peers<D, B>,
+    pub(crate) judging: Judging<C>,
+    pub(crate) serving: Serving<O>,
+    pub(crate) asking: Asking<X, G>,
+    pub(crate) receiver: Y,
+    pub(crate) clock: W,
+    /// What the open scan is to be told.
+    pub(crate) answer: Option<Answer>,
+    /// Whether memory was wanting outside the core.
+    pub(crate) is_starved: bool,
+}
+
+impl<P, D, B, K, S, C, O, Q, R, X, Y, W, G> Loop<P, D, B, K, S, C, O, Q, R, X, Y, W, G>
+where
+    P: PublicKey + Faithful + Drop,
+    D: Provider<PublicKey = P> + Drop,
+    B: Blocker<PublicKey = P> + Drop,
+    K: Span + Faithful + Drop,
+    S: Ord + Faithful + Drop,
+    C: Consumer<Key = K, Value = Bytes, Subscriber = S> + Drop,
+    C::Outcome: Drop,
+    O: Producer<Key = K> + Drop,
+    Q: Predicate<K, S> + Faithful + Drop,
+    R: Wait + Drop,
+    X: Sender<PublicKey = P> + Drop,
+    Y: Receiver<PublicKey = P> + Drop,
+    W: Clock + Drop,
+    G: Draws + Drop,
+{
+    /// Whether this deadline has come.
+    fn is_due(&self, deadline: Option<u128>) -> bool {
+        match deadline {
+            Some(at) => at <= self.clock.now(),
+            None => false,
+        }
+    }
+
+    /// What comes before the mailbox.
+    fn poll_first(&mut self, cx: &mut Context<'_>) -> Poll<Event<K, P, S, Q>>
+        ensures kept { Keeps cx.old cx.new }
+    {
+        if self.is_starved {
+            return Poll::Ready(Event::End);
+        }
+        match self.peers.poll_set(cx) {
+            Poll::Ready(Some((index, peers))) => {
+                return Poll::Ready(Event::PeerSet { index, peers });
+            }
+            Poll::Ready(None) => return Poll::Ready(Event::End),
+            Poll::Pending => {}
+        }
+        if let Poll::Ready(peers) = self.peers.poll_blocked(cx) {
+            return Poll::Ready(Event::Blocked(peers));
+        }
+        if self.is_due(self.core.get_active_deadline()) {
+            return Poll::Ready(Event::ActiveDue);
+        }
+        match self.judging.poll_verdict(cx) {
+            Poll::Ready((number, outcome)) => Poll::Ready(Event::Verdict { number, outcome }),
+            Poll::Pending => Poll::Pending,
+        }
+    }
+
+    /// What comes from the mailbox on.
+    fn poll_last(&mut self, cx: &mut Context<'_>) -> Poll<Event<K, P, S, Q>>
+        ensures armed { OnPending result (IsArmed cx.new) }
+        ensures kept { Keeps cx.old cx.new }
+    {
+        if let Poll::Ready(event) = poll_mail(&mut self.mail, cx) {
+            return Poll::Ready(event);
+        }
+        if self.is_due(self.core.get_pending_deadline()) {
+            return Poll::Ready(Event::PendingDue);
+        }
+        if let Poll::Ready((serve, value)) = self.serving.poll_served(cx) {
+            return Poll::Ready(Event::Served { serve, value });
+        }
+        match self.receiver.poll_recv(cx) {
+            Poll::Ready(Some((peer, bytes))) => Poll::Ready(Event::Net { peer, bytes }),
+            Poll::Ready(None) => Poll::Ready(Event::End),
+            Poll::Pending => Poll::Pending,
+        }
+    }
+
+    /// The first event that has come.
+    fn poll_event(&mut self, cx: &mut Context<'_>) -> Poll<Event<K, P, S, Q>>
+        ensures armed { OnPending result (IsArmed cx.new) }
+        ensures kept { Keeps cx.old cx.new }
+    {
+        if let Poll::Ready(event) = self.poll_first(cx) {
+            return Poll::Ready(event);
+        }
+        self.poll_last(cx)
+    }
+
+    /// Ready once the earlier of the two deadlines has come.
+    fn poll_deadlines(&mut self, cx: &mut Context<'_>) -> Poll<()>
+        ensures kept { Keeps cx.old cx.new }
+    {
+        let active = self.core.get_active_deadline();
+        let pending = self.core.get_pending_deadline();
+        poll_moment(&mut self.clock, cx, earlier(active, pending))
+    }
+
+    /// Asks the consumer to judge a value.
+    fn deliver(&mut self, number: u64, delivery: Delivery<K, S>, value: Bytes) {
+        if self.judging.deliver(number, delivery, value).is_err() {
+            self.is_starved = true;
+        }
+    }
+
+    /// Asks the producer for bytes.
+    fn produce(&mut self, serve: u64, key: K) {
+        if self.serving.produce(serve, key).is_err() {
+            self.is_starved = true;
+        }
+    }
+
+    /// Answers what the scan asks. A request that there is no memory for is refused.
+    fn answer(&mut self, ask: Ask<K, P>) {
+        let answer = self.asking.answer(self.alloc, ask);
+        self.is_starved |= answer.is_err();
+        self.answer = Some(answer.unwrap_or(Answer::Sent(false)));
+    }
+
+    /// Carries an effect out.
+    fn carry_out(&mut self, effect: Effect<K, P, S>) {
+        match effect {
+            Effect::Ask(ask) => self.answer(ask),
+            Effect::Deliver {
+                number,
+                response: _,
+                delivery,
+                value,
+            } => self.deliver(number, delivery, value),
+            Effect::Cancel { number } => self.judging.cancel(number),
+            Effect::Produce { serve, key } => self.produce(serve, key),
+            Effect::Reply {
+                peer,
+                bytes,
+                priority,
+            } => {
+                self.asking.send(&peer, bytes, priority);
+            }
+            Effect::Credit {
+                response: _,
+                source: _,
+            } => {}
+            Effect::Block { response: _, peer } => self.peers.block(&peer),
+        }
+    }
+
+    /// Feeds an input to the core, and carries out what it answers.
+    fn feed(&mut self, input: Input<K, P, S, Q>) -> Option<Ending> {
+        match self.core.step(input) {
+            Ok(effects) => {
+                for effect in effects {
+                    self.carry_out(effect);
+                }
+                None
+            }
+            Err(fault) => Ending::of(fault),
+        }
+    }
+
+    /// Feeds an event, of now.
+    fn take(&mut self, event: Event<K, P, S, Q>) -> Turn {
+        let ends = matches!(event, Event::End);
+        let now = self.clock.now();
+        let ending = self.feed(Input::Happens(Happening { now, event }));
+        match ending {
+            Some(ending) => Turn::Over(ending),
+            None if !ends => Turn::Again,
+            None if self.is_starved => Turn::Over(Ending::OutOfMemory),
+            None => Turn::Over(Ending::Complete),
+        }
+    }
+
+    /// Feeds the answer that the open scan waits for.
+    fn go_on(&mut self, answer: Answer) -> Turn {
+        match self.feed(Input::Answers(answer)) {
+            Some(ending) => Turn::Over(ending),
+            None => Turn::Again,
+        }
+    }
+
+    /// Takes the first input that has come.
+    fn poll_turn(&mut self, cx: &mut Context<'_>) -> Poll<Turn>
+        ensures armed { OnPending result (IsArmed cx.new) }
+        ensures kept { Keeps cx.old cx.new }
+    {
+        if let Some(answer) = self.answer.take() {
+            return Poll::Ready(self.go_on(answer));
+        }
+        if let Poll::Ready(event) = self.poll_event(cx) {
+            return Poll::Ready(self.take(event));
+        }
+        match self.poll_deadlines(cx) {
+            Poll::Ready(()) => Poll::Ready(Turn::Again),
+            Poll::Pending => Poll::Pending,
+        }
+    }
+
+    /// Takes what has come, and is ready once the loop is over, with how it ended and the mailbox
+    /// closed. Where nothing has come so far, every source that may give something wakes the task.
+    /// After `TURNS` turns it asks to be polled again.
+    pub fn poll(&mut self, cx: &mut Context<'_>) -> Poll<Ending>
+        ensures armed { OnPending result (IsArmed cx.new) }
+        ensures kept { Keeps cx.old cx.new }
+    {
+        for _ in 0..TURNS {
+            match self.poll_turn(cx) {
+                Poll::Ready(Turn::Again) => {}
+                Poll::Ready(Turn::Over(ending)) => {
+                    self.mail.close();
+                    return Poll::Ready(ending);
+                }
+                Poll::Pending => return Poll::Pending,
+            }
+        }
+        cx.yield_now()
+    }
+}
