@@ -33,6 +33,21 @@ use std::marker::Model;
 /// A key that is there has at least one subscriber. Of equal keys and of equal subscribers the
 /// first one stays. A call on one key takes time logarithmic in the number of keys; to add one
 /// subscriber, logarithmic in the number of the key's own; to answer them, linear.
+///
+/// Subscribers 10, 11 and 12 want key 1, and then 10 and 12 have it:
+///
+/// ```rust
+/// let mut tracker = Tracker::new(alloc);
+/// assert!(rt; insert(&mut tracker, alloc, 1, &[(10, 0), (11, 0)])?);
+/// assert!(rt; !insert(&mut tracker, alloc, 1, &[(11, 0), (12, 0)])?);
+/// assert_eq!(rt;
+///     pending(&tracker, 1)?.as_slice(),
+///     [(10, 0), (11, 0), (12, 0)].as_slice()
+/// );
+///
+/// let rest = tracker.remove_delivered(&1, &list(alloc, &[(10, 0), (12, 0)])?)?;
+/// assert_eq!(rt; rest.ok_or("11 is left")?.as_slice(), [(11, 0)].as_slice());
+/// ```
 #[derive(Debug, Drop)]
 pub struct Tracker<K: Ord, S: Ord> {
     demand: BTreeMap<K, Subscribers<S>>,

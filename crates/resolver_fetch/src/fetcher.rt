@@ -56,6 +56,18 @@ use std::marker::Model;
 ///
 /// Moments are in nanoseconds, and below 2^94 where they are handed in. A call that names one key
 /// or one peer takes time logarithmic in the number of keys and peers, unless it says otherwise.
+///
+/// Each key is asked for by a scan of its own, over a network and draws:
+///
+/// ```rust
+/// let mut draws = Seeded::new(7);
+/// for now in 0..count {
+///     if fetcher.is_scanning() {
+///         bail!("a scan is open");
+///     }
+///     fetcher.fetch(network, &mut draws, u128::from(now))?;
+/// }
+/// ```
 #[derive(Debug, Drop)]
 pub struct Fetcher<K: Ord, P: Ord> {
     pending: Pending<K>,

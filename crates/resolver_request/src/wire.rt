@@ -38,6 +38,18 @@ const RESPONSE: u8 = 1;
 const ERROR: u8 = 2;
 
 /// What one peer sends another.
+///
+/// A request for a key under an id, as bytes:
+///
+/// ```rust
+/// let request = Message {
+///     id,
+///     payload: Payload::Request(key),
+/// };
+/// let mut out = BytesMut::new(alloc);
+/// request.write(&mut out)?;
+/// Ok(out.freeze()?)
+/// ```
 #[derive(Clone, Debug, Drop, PartialEq, Eq)]
 pub struct Message<Key> {
     /// Names a request; its answer has the same.

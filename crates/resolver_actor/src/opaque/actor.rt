@@ -90,6 +90,37 @@ enum Status {
 ///
 /// Contracts see it as the opaque machine: one map from key to row, beside the open deliveries and
 /// the next numbers.
+///
+/// How its effects are carried out:
+///
+/// ```rust
+/// fn step(&mut self, event: Event<u32, u64, u16, AllBut>) -> Result<()> {
+///     let now = self.now.nanoseconds;
+///     for effect in self.actor.step(Input { now, event })? {
+///         match effect {
+///             Effect::Start { attempt, key } => self.asked.push((attempt, key))?,
+///             Effect::Abort { attempt } => self.asked.retain(|one| one.0 != attempt),
+///             Effect::Cancel { number } => self.delivered.retain(|one| one.0 != number),
+///             Effect::Deliver {
+///                 number,
+///                 delivery,
+///                 value,
+///                 ..
+///             } => {
+///                 let (key, subscribers) = (delivery.key, delivery.subscribers.len());
+///                 let chunk = Arrived {
+///                     key,
+///                     value,
+///                     subscribers,
+///                     at: now,
+///                 };
+///                 self.delivered.push((number, chunk))?;
+///             }
+///         }
+///     }
+///     Ok(())
+/// }
+/// ```
 #[derive(Drop)]
 pub struct Actor<K: Ord, V, S: Ord, Q> {
     demand: Tracker<K, S>,

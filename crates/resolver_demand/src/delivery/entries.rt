@@ -26,6 +26,18 @@ use std::marker::Model;
 /// are open: those without a verdict, also of keys that were let go.
 ///
 /// A call takes time logarithmic in the number of keys and of open deliveries.
+///
+/// A value is handed out for a key that is tracked and has no delivery in progress:
+///
+/// ```rust
+/// fn deliver(entries: &mut Tracked, alloc: Global, key: u16, context: u64) -> Result<u64, Fail> {
+///     let delivery = delivery(alloc, key)?;
+///     if !entries.contains(&delivery.key) || entries.number(&delivery.key).is_some() {
+///         return Err(Fail::from("a key that isn't free"));
+///     }
+///     Ok(entries.deliver(delivery, context, 5)?)
+/// }
+/// ```
 #[derive(Debug, Drop)]
 pub struct Entries<K: Ord, S, V, Context, State> {
     keys: BTreeMap<K, Entry<V, Context, State>>,

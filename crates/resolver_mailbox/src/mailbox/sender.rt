@@ -49,6 +49,20 @@ impl<
 /// own thread.
 ///
 /// Contracts see its share, or none. Dropping a handle closes nothing.
+///
+/// Fetches of fifty keys are put, one by one:
+///
+/// ```rust
+/// for key in first..first.saturating_add(50) {
+///     let mut items = Vec::new(alloc);
+///     items.push(FetchKey {
+///         key,
+///         subscribers: NonEmptyVec::new(alloc, (10, 0))?,
+///         metadata: (),
+///     })?;
+///     putter.enqueue(Message::Fetch(items))?;
+/// }
+/// ```
 #[derive(Drop)]
 pub struct Sender<K: Ord + Hash, S: Ord, M: Metadata, Q: Predicate<K, S>, N: Naming, R> {
     pub(super) alloc: Global,
