@@ -47,11 +47,14 @@ pub type Looped<R> = Loop<
     Zeros,
 >;
 
+/// A handle of its mailbox.
+type Asked<R> = Mailbox<Key, Peer, u16, Below, Unrecorded, R>;
+
 /// What a test holds.
 #[derive(Drop)]
 pub struct World<R> {
     pub alloc: Global,
-    pub mailbox: Mailbox<Key, Peer, u16, Below, Unrecorded, R>,
+    pub mailbox: Asked<R>,
     pub sets: mpsc::UnboundedSender<(u64, Vec<Peer>)>,
     pub blocked: mpsc::UnboundedSender<Vec<Peer>>,
     pub network: mpsc::UnboundedSender<(Peer, Bytes)>,
@@ -69,60 +72,139 @@ pub struct Lent {
     pub watch: Arc<Watch>,
 }
 
-/// A world with its engine.
-pub fn make_world<R: Copy>(rt: R, alloc: Global) -> Result<(World<R>, Made<R>, Lent), Fault> {
-    let Some(mailbox_size) = NonZeroUsize::new(4) else {
-        return Err(Fault::OutOfRange);
+/// What gives an engine its peers, and the ends by which a test gives it.
+#[derive(Drop)]
+struct Sources {
+    sets: mpsc::UnboundedSender<(u64, Vec<Peer>)>,
+    blocked: mpsc::UnboundedSender<Vec<Peer>>,
+    provider: Given<(u64, Vec<Peer>)>,
+    blocker: Given<Vec<Peer>>,
+}
+
+/// What an engine's effects go to, and the ends by which a test answers.
+#[derive(Drop)]
+struct Hands {
+    verdicts: mpsc::UnboundedReceiver<oneshot::Sender<Outcome>>,
+    serves: mpsc::UnboundedReceiver<oneshot::Sender<Bytes>>,
+    consumer: Judge,
+    producer: Store,
+}
+
+/// A source of what its test gives.
+fn given<T: Drop>(
+    alloc: Global,
+    told: &Told,
+) -> Result<(mpsc::UnboundedSender<T>, Given<T>), Fault> {
+    let told = told.clone()?;
+    let (sender, given) = mpsc::unbounded(alloc)?;
+    Ok((sender, Given { told, given }))
+}
+
+fn make_sources(alloc: Global, told: &Told) -> Result<Sources, Fault> {
+    let (sets, provider) = given(alloc, told)?;
+    let (blocked, blocker) = given(alloc, told)?;
+    Ok(Sources {
+        sets,
+        blocked,
+        provider,
+        blocker,
+    })
+}
+
+fn judge(
+    alloc: Global,
+    told: &Told,
+) -> Result<(mpsc::UnboundedReceiver<oneshot::Sender<Outcome>>, Judge), Fault> {
+    let told = told.clone()?;
+    let (verdicts, senders) = mpsc::unbounded(alloc)?;
+    let judge = Judge {
+        alloc,
+        told,
+        verdicts,
     };
-    let (told, seen) = mpsc::unbounded(alloc)?;
-    let (sets, given_sets) = mpsc::unbounded(alloc)?;
-    let (blocked, given_blocked) = mpsc::unbounded(alloc)?;
+    Ok((senders, judge))
+}
+
+fn store(
+    alloc: Global,
+    told: &Told,
+) -> Result<(mpsc::UnboundedReceiver<oneshot::Sender<Bytes>>, Store), Fault> {
+    let told = told.clone()?;
+    let (serves, senders) = mpsc::unbounded(alloc)?;
+    let store = Store {
+        alloc,
+        told,
+        serves,
+    };
+    Ok((senders, store))
+}
+
+fn make_hands(alloc: Global, told: &Told) -> Result<Hands, Fault> {
+    let (verdicts, consumer) = judge(alloc, told)?;
+    let (serves, producer) = store(alloc, told)?;
+    Ok(Hands {
+        verdicts,
+        serves,
+        consumer,
+        producer,
+    })
+}
+
+/// What the engine is lent besides, and the ends that a test holds of that.
+fn make_lent(
+    alloc: Global,
+    told: Told,
+) -> Result<(mpsc::UnboundedSender<(Peer, Bytes)>, Arc<Watch>, Lent), Fault> {
     let (network, incoming) = mpsc::unbounded(alloc)?;
-    let (verdicts, verdict_senders) = mpsc::unbounded(alloc)?;
-    let (serves, serve_senders) = mpsc::unbounded(alloc)?;
     let watch = Arc::new(alloc, Watch::new())?;
+    let lent = Lent {
+        told,
+        incoming,
+        watch: Arc::try_clone(&watch)?,
+    };
+    Ok((network, watch, lent))
+}
+
+/// An engine that is called 9, with a timeout of 50 and a delay of 10, and its mailbox.
+fn made<R: Copy>(
+    rt: R,
+    alloc: Global,
+    peers: (Given<(u64, Vec<Peer>)>, Given<Vec<Peer>>),
+    hands: (Judge, Store),
+) -> Result<(Made<R>, Asked<R>), Fault> {
     let cfg = Config {
-        peer_provider: Given {
-            told: told.clone()?,
-            given: given_sets,
-        },
-        blocker: Given {
-            told: told.clone()?,
-            given: given_blocked,
-        },
-        consumer: Judge {
-            alloc,
-            told: told.clone()?,
-            verdicts,
-        },
-        producer: Store {
-            alloc,
-            told: told.clone()?,
-            serves,
-        },
-        mailbox_size,
+        peer_provider: peers.0,
+        blocker: peers.1,
+        consumer: hands.0,
+        producer: hands.1,
+        mailbox_size: NonZeroUsize::MIN,
         me: Some(Peer(9)),
         fetch_timeout: 50,
         fetch_retry_delay: 10,
         priority_requests: false,
         priority_responses: false,
     };
-    let (engine, mailbox) = Engine::new(rt, alloc, cfg)?;
+    Engine::new(rt, alloc, cfg)
+}
+
+/// A world with its engine.
+pub fn make_world<R: Copy>(rt: R, alloc: Global) -> Result<(World<R>, Made<R>, Lent), Fault> {
+    let (told, seen) = mpsc::unbounded(alloc)?;
+    let sources = make_sources(alloc, &told)?;
+    let hands = make_hands(alloc, &told)?;
+    let (network, watch, lent) = make_lent(alloc, told)?;
+    let peers = (sources.provider, sources.blocker);
+    let (engine, mailbox) = made(rt, alloc, peers, (hands.consumer, hands.producer))?;
     let world = World {
         alloc,
         mailbox,
-        sets,
-        blocked,
+        sets: sources.sets,
+        blocked: sources.blocked,
         network,
-        watch: Arc::try_clone(&watch)?,
-        verdicts: verdict_senders,
-        serves: serve_senders,
-        told: seen,
-    };
-    let lent = Lent {
-        told,
-        incoming,
         watch,
+        verdicts: hands.verdicts,
+        serves: hands.serves,
+        told: seen,
     };
     Ok((world, engine, lent))
 }
@@ -241,7 +323,7 @@ fn spell_bytes(text: &mut String, bytes: &[u8]) -> Result<(), Fail> {
     Ok(())
 }
 
-pub fn spell_seen(text: &mut String, seen: &Seen) -> Result<(), Fail> {
+fn spell_seen(text: &mut String, seen: &Seen) -> Result<(), Fail> {
     match seen {
         Seen::Drew(below) => writeln!(text, "draw {below}")?,
         Seen::Checked(peer) => writeln!(text, "check {}", peer.0)?,
