@@ -123,7 +123,9 @@ impl Consumer for Judge {
         &mut self,
         delivery: Delivery<Key, u16>,
         value: Bytes,
-    ) -> Result<oneshot::Receiver<Outcome>, Fault> {
+    ) -> Result<oneshot::Receiver<Outcome>, Fault>
+        ensures only { IfErr result (λ fault. fault ≡ OutOfMemory) }
+    {
         let (verdict, receiver) = oneshot::channel(self.alloc)?;
         let _ = self.told.unbounded_send(Seen::Delivered(delivery, value));
         let _ = self.verdicts.unbounded_send(verdict);
@@ -142,7 +144,9 @@ pub struct Store {
 impl Producer for Store {
     type Key = Key;
 
-    fn produce(&mut self, key: Key) -> Result<oneshot::Receiver<Bytes>, Fault> {
+    fn produce(&mut self, key: Key) -> Result<oneshot::Receiver<Bytes>, Fault>
+        ensures only { IfErr result (λ fault. fault ≡ OutOfMemory) }
+    {
         let (serve, receiver) = oneshot::channel(self.alloc)?;
         let _ = self.told.unbounded_send(Seen::Produced(key));
         let _ = self.serves.unbounded_send(serve);
