@@ -45,8 +45,6 @@ struct Source {
 }
 
 impl Fetcher for Source {
-    ghost use Rattle.std.specs.Prelude.{tt};
-
     type Key = Key;
 
     type Value = Bytes;
