@@ -1,11 +1,13 @@
-//! What the handles of a resolver have in common: each call puts one message, which asks for keys or
-//! lets subscribers go.
+//! The handles of resolvers: each call puts one message, which asks for keys or lets subscribers go.
 //!
-//! `Asked` says how what is asked for stands in the message. `ask`, `ask_all` and `retain` put it.
+//! `mailbox` has the handle of an engine, and `resolver` that of an actor over an opaque source.
+//! `Asked` says how what is asked for stands in a message. `ask`, `ask_all` and `retain` put it.
 #![tactic(auto)]
 
 mod asked;
+pub mod mailbox;
 mod putting;
+pub mod resolver;
 
 pub use asked::Asked;
 pub use putting::{ask, ask_all, retain};

@@ -9,9 +9,8 @@ mod attempts;
 mod fetcher;
 mod looping;
 mod opening;
-mod resolver;
 
 pub use fetcher::Fetcher;
 pub use looping::Loop;
 pub use opening::open;
-pub use resolver::{Message, Resolver};
+pub use resolver_asking::resolver::{Message, Resolver};

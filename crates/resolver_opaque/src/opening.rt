@@ -6,8 +6,8 @@ ghost use Rattle.resolver_base.specs.declared.base.fault.Fault.TheVariants.{OutO
 use crate::attempts::Attempts;
 use crate::fetcher::Fetcher;
 use crate::looping::Loop;
-use crate::resolver::Resolver;
 use resolver_actor::opaque::Actor;
+use resolver_asking::resolver::Resolver;
 use resolver_base::base::{Faithful, Fault, Predicate, Span};
 use resolver_mailbox::mailbox;
 use resolver_mailbox::mailbox::Unrecorded;

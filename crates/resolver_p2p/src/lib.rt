@@ -10,9 +10,8 @@ mod config;
 mod engine;
 mod looping;
 mod mail;
-mod mailbox;
 
 pub use config::Config;
 pub use engine::Engine;
 pub use looping::Loop;
-pub use mailbox::{FetchKey, Mailbox, Message};
+pub use resolver_asking::mailbox::{FetchKey, Mailbox, Message};

@@ -5,7 +5,7 @@ ghost use Rattle.std.specs.Option.{option_copied};
 ghost use Rattle.resolver_asking.specs.Asking.{PutsOne, asked};
 ghost use Rattle.resolver_demand.specs.Backlog.{Fetches, Retains};
 
-use resolver_asking as asking;
+use crate::putting as asking;
 use resolver_base::base::{Faithful, Fault, Feedback, NonEmptyVec, Predicate, PublicKey, Span};
 use resolver_base::root::Fetch;
 use resolver_demand::ingress;
