@@ -2,6 +2,7 @@
 //! tests.
 
 pub use resolver_engine::engine::Core;
+pub use resolver_engine::metrics::{Durations, Metrics, Tally};
 pub use resolver_engine::{effects, inputs, rows};
 pub use resolver_fetch::fetcher;
 pub use resolver_p2p::{Config, Engine, FetchKey, Loop, Mailbox, Message};

@@ -27,3 +27,4 @@ mod Rulings
 mod Verdicts
 mod Shown
 mod RunLaws
+mod Settled

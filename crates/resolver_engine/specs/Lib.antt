@@ -10,3 +10,4 @@ pub mod Tied
 pub mod Ruled
 pub mod Listed
 pub mod EngineLaws
+pub mod Counted

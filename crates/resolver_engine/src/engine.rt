@@ -1,6 +1,6 @@
 //! The engine's core.
 
-ghost use Rattle.std.specs.Prelude.{◌≡◌, ◌≢◌, ◌⊎◌, ℕ, map, IfErr, IfOk, Ok, Err};
+ghost use Rattle.std.specs.Prelude.{◌≡◌, ◌≢◌, ◌⊎◌, ℕ, length, map, IfErr, IfOk, Ok, Err};
 ghost use Rattle.std.specs.List.{IsDistinct};
 ghost use Rattle.std.specs.List.Sorted.{IsStrictlySortedBy};
 ghost use Rattle.std.specs.Ordering.{is_eq};
@@ -16,9 +16,11 @@ ghost use Rattle.resolver_engine.specs.EngineSteps.{Takes, all_fed};
 ghost use Rattle.resolver_engine.specs.Listed.{listed};
 ghost use Rattle.resolver_engine.specs.Matching.{Matches, is_final};
 ghost use Rattle.resolver_engine.specs.Said.{answer_of, codec, fed_of};
+ghost use Rattle.resolver_engine.specs.Tied.{fetcher_of};
 
 use crate::effects::Effect;
 use crate::inputs::{Event, Input};
+use crate::metrics::Metrics;
 use crate::parts::Parts;
 use crate::rows::Row;
 use resolver_base::base::{Fault, Predicate, Span};
@@ -41,6 +43,7 @@ enum Status {
 pub struct Core<K: Ord, P: Ord, S: Ord, Q> {
     parts: Parts<K, P, S>,
     status: Status,
+    counted: Metrics,
     predicate: PhantomData<Q>,
 }
 
@@ -72,6 +75,7 @@ impl<K: Span + Drop, P: Ord + Clone + Drop, S: Ord + Clone + Drop, Q: Predicate<
         Core {
             parts: Parts::new(alloc, configuration, priority_responses),
             status: Status::Running,
+            counted: Metrics::init(),
             predicate: PhantomData,
         }
     }
@@ -99,7 +103,10 @@ impl<K: Span + Drop, P: Ord + Clone + Drop, S: Ord + Clone + Drop, Q: Predicate<
         }
         let ends = is_end(&input);
         let mut effects = Vec::new(self.parts.alloc);
-        match self.parts.take(input, &mut effects) {
+        match self
+            .parts
+            .take_and_count(input, &mut self.counted, &mut effects)
+        {
             Ok(()) => {
                 if ends {
                     self.status = Status::Ended;
@@ -189,6 +196,21 @@ impl<K: Span + Drop, P: Ord + Clone + Drop, S: Ord + Clone + Drop, Q: Predicate<
             → m.status ≢ machines.Failed → result ≡ active_deadline (parties K.cmp S.cmp P.cmp) m }
     {
         self.parts.active_deadline()
+    }
+
+    /// What the engine has counted since it was made, and how many keys wait, requests have no
+    /// answer and serves are open now.
+    pub fn metrics(&self) -> Metrics
+        ensures pending { (m : Machine K S P) → Matches (parties K.cmp S.cmp P.cmp) self.now m
+            → m.status ≢ machines.Failed
+            → result.fetch_pending ≡ length (fetcher_of (parties K.cmp S.cmp P.cmp) m).waiting }
+        ensures active { (m : Machine K S P) → Matches (parties K.cmp S.cmp P.cmp) self.now m
+            → m.status ≢ machines.Failed
+            → result.fetch_active ≡ length (fetcher_of (parties K.cmp S.cmp P.cmp) m).asked }
+        ensures serves { (m : Machine K S P) → Matches (parties K.cmp S.cmp P.cmp) self.now m
+            → m.status ≢ machines.Failed → result.serve_processing ≡ length m.serves }
+    {
+        self.parts.metrics(&self.counted)
     }
 }
 

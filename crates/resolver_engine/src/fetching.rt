@@ -12,6 +12,7 @@ ghost use Rattle.resolver_engine.specs.Going.{IsTied};
 ghost use Rattle.resolver_engine.specs.Said.{item_of};
 ghost use Rattle.resolver_engine.specs.Tied.{Agrees};
 
+use crate::inflight::Start;
 use crate::parts::Parts;
 use resolver_base::base::{Fault, NonEmptyVec};
 use resolver_demand::ingress::FetchKey;
@@ -65,7 +66,7 @@ impl<K: Ord + Clone + Drop, P: Ord + Clone + Drop, S: Ord + Clone + Drop> Parts<
             return aim(&mut self.fetcher, key, metadata);
         }
         let tracked = key.clone()?;
-        self.entries.insert_state(tracked, now)?;
+        self.entries.insert_state(tracked, Start::at(now))?;
         ready(&mut self.fetcher, now, key, metadata)
     }
 }

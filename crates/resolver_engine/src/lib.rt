@@ -6,6 +6,7 @@
 
 mod advancing;
 mod answering;
+mod counting;
 pub mod effects;
 pub mod engine;
 mod failing;
@@ -13,6 +14,7 @@ mod fetching;
 mod inflight;
 pub mod inputs;
 mod judging;
+pub mod metrics;
 mod parts;
 mod receiving;
 mod retaining;

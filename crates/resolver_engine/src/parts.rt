@@ -1,18 +1,19 @@
 //! The parts of the engine: who wants what, what is judged, and what is asked for.
 
-ghost use Rattle.std.specs.Prelude.{◌≡◌, None, false, is_some, IfErr, OnOk, OnErr};
+ghost use Rattle.std.specs.Prelude.{◌≡◌, None, false, length, is_some, IfErr, OnOk, OnErr};
 ghost use Rattle.resolver_base.specs.declared.base.fault.Fault.TheVariants.{OutOfMemory};
 ghost use Rattle.resolver_fetch.specs.Fetcher.{IsTimely};
 ghost use Rattle.resolver_peer.specs.Parties.{parties};
 ghost use Rattle.resolver_peer.specs.Peer.{Machine, opening, peer_set, block};
-ghost use Rattle.resolver_engine.specs.Tied.{Agrees};
+ghost use Rattle.resolver_engine.specs.Tied.{Agrees, fetcher_of};
 
 use crate::inflight::Inflight;
+use crate::metrics::Metrics;
+use crate::serving::OpenServe;
 use resolver_base::base::{Fault, Numbers};
 use resolver_demand::delivery::Entries;
 use resolver_demand::subscribers::Tracker;
 use resolver_fetch::fetcher::{Config, Fetcher};
-use resolver_peer::named::Serve;
 use std::alloc::Global;
 use std::collections::BTreeMap;
 
@@ -23,7 +24,7 @@ pub(crate) struct Parts<K: Ord, P: Ord, S: Ord> {
     pub(crate) demand: Tracker<K, S>,
     pub(crate) entries: Inflight<K, P, S>,
     pub(crate) fetcher: Fetcher<K, P>,
-    pub(crate) serves: BTreeMap<u64, Serve<P>>,
+    pub(crate) serves: BTreeMap<u64, OpenServe<P>>,
     pub(crate) next_serve: Numbers,
     pub(crate) last_index: Option<u64>,
     pub(crate) priority_responses: bool,
@@ -46,6 +47,28 @@ impl<K: Ord + Drop, P: Ord + Drop, S: Ord + Drop> Parts<K, P, S> {
             last_index: None,
             priority_responses,
             alloc,
+        }
+    }
+
+    /// What was counted, with how many keys wait, requests have no answer and serves are open.
+    pub(crate) fn metrics(&self, counted: &Metrics) -> Metrics
+        ensures pending { (m : Machine K S P) → Agrees (parties K.cmp S.cmp P.cmp) self.now m
+            → result.fetch_pending ≡ length (fetcher_of (parties K.cmp S.cmp P.cmp) m).waiting }
+        ensures active { (m : Machine K S P) → Agrees (parties K.cmp S.cmp P.cmp) self.now m
+            → result.fetch_active ≡ length (fetcher_of (parties K.cmp S.cmp P.cmp) m).asked }
+        ensures serves { (m : Machine K S P) → Agrees (parties K.cmp S.cmp P.cmp) self.now m
+            → result.serve_processing ≡ length m.serves }
+        ensures counted { counted.now ≡ record result {
+          fetch_pending = counted.now.fetch_pending;
+          fetch_active = counted.now.fetch_active;
+          serve_processing = counted.now.serve_processing;
+        } }
+    {
+        Metrics {
+            fetch_pending: self.fetcher.len_pending() as u64,
+            fetch_active: self.fetcher.len_active() as u64,
+            serve_processing: self.serves.len() as u64,
+            ..*counted
         }
     }
 

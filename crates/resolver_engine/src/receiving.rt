@@ -61,7 +61,7 @@ impl<K: Span + Drop, P: Ord + Clone + Drop, S: Ord + Clone + Drop> Parts<K, P, S
             effects.old.items effects.new.items self.new result }
     {
         match payload {
-            Payload::Request(key) => self.produce(peer, id, key, effects),
+            Payload::Request(key) => self.produce(now, peer, id, key, effects),
             Payload::Response(value) => self.respond(now, &peer, id, value, effects),
             Payload::Error => self.miss(now, &peer, id),
         }

@@ -14,15 +14,54 @@ use crate::effects::Effect;
 use crate::parts::Parts;
 use bytes::{Bytes, BytesMut};
 use resolver_base::base::{Fault, Span};
+use resolver_fetch::fetcher::elapsed_since;
 use resolver_peer::named::Serve;
 use resolver_request::wire::{Message, Payload};
 use std::alloc::Global;
+use std::marker::Model;
+
+/// A peer's request that the producer has, and when it came. Contracts see the request alone.
+#[derive(Debug, Drop)]
+pub(crate) struct OpenServe<P> {
+    serve: Serve<P>,
+    start: u128,
+}
+
+impl<P> Model for OpenServe<P> {
+    ghost use Rattle.resolver_peer.specs.declared.named.Serve.{Serve};
+
+    ghost Value = { Serve P };
+
+    ghost view = { λ a. a.serve };
+}
+
+impl<P: Drop> OpenServe<P> {
+    /// The request came now.
+    fn new(serve: Serve<P>, now: u128) -> Self
+        ensures { result ≡ serve }
+    {
+        OpenServe { serve, start: now }
+    }
+
+    /// The request.
+    fn into_serve(self) -> Serve<P>
+        ensures { result ≡ self }
+    {
+        self.serve
+    }
+
+    /// How many nanoseconds ago it came.
+    pub(crate) fn elapsed_until(&self, now: u128) -> u128 {
+        elapsed_since(self.start, now)
+    }
+}
 
 impl<K: Span + Drop, P: Ord + Drop, S: Ord + Drop> Parts<K, P, S> {
     /// Hands a peer's request to the producer, under the next number. There is none once
     /// `u64::MAX` was given: then the answer is `Exhausted`.
     pub(crate) fn produce(
         &mut self,
+        now: u128,
         peer: P,
         id: u64,
         key: K,
@@ -33,7 +72,8 @@ impl<K: Span + Drop, P: Ord + Drop, S: Ord + Drop> Parts<K, P, S> {
             (produce m peer id key) effects.old.items effects.new.items self.new result }
     {
         let serve = self.next_serve.peek().ok_or(Fault::Exhausted)?;
-        self.serves.insert(serve, Serve { peer, id })?;
+        let begun = OpenServe::new(Serve { peer, id }, now);
+        self.serves.insert(serve, begun)?;
         effects.push(Effect::Produce { serve, key })?;
         self.next_serve.take();
         Ok(())
@@ -55,9 +95,10 @@ impl<K: Span + Drop, P: Ord + Drop, S: Ord + Drop> Parts<K, P, S> {
             → is_none (lookup (λ n. serve == n) m.serves) ≡ false }
         ensures only { IfErr result (λ fault. fault ≡ OutOfMemory) }
     {
-        let Some(Serve { peer, id }) = self.serves.remove(&serve) else {
+        let Some(begun) = self.serves.remove(&serve) else {
             return Ok(());
         };
+        let Serve { peer, id } = begun.into_serve();
         let bytes = reply::<K>(self.alloc, id, value)?;
         effects.push(Effect::Reply {
             peer,

@@ -4,6 +4,8 @@
 #![tactic(auto)]
 
 #[cfg(test)]
+mod metrics;
+#[cfg(test)]
 mod runs;
 #[cfg(test)]
 mod serves;

@@ -1,6 +1,6 @@
 //! The engine, with all that it owns.
 
-ghost use Rattle.std.specs.Prelude.{◌≡◌, ◌≢◌, ◌⊎◌, ℕ, map, None, IfErr, IfOk};
+ghost use Rattle.std.specs.Prelude.{◌≡◌, ◌≢◌, ◌⊎◌, ℕ, length, map, None, IfErr, IfOk};
 ghost use Rattle.std.specs.List.{IsDistinct};
 ghost use Rattle.std.specs.List.Sorted.{IsStrictlySortedBy};
 ghost use Rattle.std.specs.Ordering.{is_eq};
@@ -14,6 +14,7 @@ ghost use Rattle.resolver_engine.specs.EngineSteps.{Takes, all_fed};
 ghost use Rattle.resolver_engine.specs.Listed.{listed};
 ghost use Rattle.resolver_engine.specs.Matching.{Matches};
 ghost use Rattle.resolver_engine.specs.Said.{answer_of, codec, fed_of};
+ghost use Rattle.resolver_engine.specs.Tied.{fetcher_of};
 ghost use Rattle.resolver_p2p.specs.Configured.{fetching};
 
 use crate::asking::Asking;
@@ -26,6 +27,7 @@ use resolver_base::base::{Draws, Faithful, Fault, Predicate, PublicKey, Sender, 
 use resolver_engine::effects::Effect;
 use resolver_engine::engine::Core;
 use resolver_engine::inputs::Input;
+use resolver_engine::metrics::Metrics;
 use resolver_engine::rows::Row;
 use resolver_fetch::fetcher;
 use resolver_mailbox::mailbox;
@@ -234,5 +236,20 @@ impl<
             → m.status ≢ machines.Failed → result ≡ active_deadline (parties K.cmp S.cmp P.cmp) m }
     {
         self.core.get_active_deadline()
+    }
+
+    /// What the engine has counted since it was made, and how many keys wait, requests have no
+    /// answer and serves are open now.
+    pub fn metrics(&self) -> Metrics
+        ensures pending { (m : Machine K S P) → Matches (parties K.cmp S.cmp P.cmp) self.now m
+            → m.status ≢ machines.Failed
+            → result.fetch_pending ≡ length (fetcher_of (parties K.cmp S.cmp P.cmp) m).waiting }
+        ensures active { (m : Machine K S P) → Matches (parties K.cmp S.cmp P.cmp) self.now m
+            → m.status ≢ machines.Failed
+            → result.fetch_active ≡ length (fetcher_of (parties K.cmp S.cmp P.cmp) m).asked }
+        ensures serves { (m : Machine K S P) → Matches (parties K.cmp S.cmp P.cmp) self.now m
+            → m.status ≢ machines.Failed → result.serve_processing ≡ length m.serves }
+    {
+        self.core.metrics()
     }
 }

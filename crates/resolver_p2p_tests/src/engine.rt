@@ -146,7 +146,17 @@ fn rows_of<R>(engine: &Silent<R>) -> Result<Vec<Row<Key, u16, Peer>>, Fault> {
     engine.rows()
 }
 
-/// Writes the rows and both deadlines.
+/// Writes how many keys wait, how many requests have no answer, and how many were sent.
+fn spell_counts<R>(text: &mut String, engine: &Silent<R>) -> Result<(), Fail> {
+    let counted = engine.metrics();
+    let sent = counted.requests_sent.success;
+    let waiting = counted.fetch_pending;
+    let asked = counted.fetch_active;
+    writeln!(text, "waiting {waiting} asked {asked} sent {sent}")?;
+    Ok(())
+}
+
+/// Writes the rows, both deadlines and the counts.
 fn spell_state<R>(text: &mut String, engine: &Silent<R>) -> Result<(), Fail> {
     let rows = rows_of(engine)?;
     for row in &rows {
@@ -155,11 +165,11 @@ fn spell_state<R>(text: &mut String, engine: &Silent<R>) -> Result<(), Fail> {
     let wake = engine.get_pending_deadline();
     let timeout = engine.get_active_deadline();
     writeln!(text, "wake {wake:?} timeout {timeout:?}")?;
-    Ok(())
+    spell_counts(text, engine)
 }
 
 /// What the row `peer_refusals` of the worked rows prints, with an empty line for each input that
-/// has no effect.
+/// has no effect, and the counts after it.
 const PRINTED: &str = "
  draw 4
  draw 2
@@ -172,6 +182,7 @@ const PRINTED: &str = "
 
 key 1 subs 10:7 retries 0 asked 1234 4 50
 wake None timeout Some(50)
+waiting 0 asked 1 sent 1
 ";
 
 fn take<R>(engine: &mut Silent<R>, input: Taken) -> Answered {

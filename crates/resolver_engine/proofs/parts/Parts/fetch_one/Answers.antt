@@ -38,7 +38,7 @@ returns-clause-ok g c = λ m is.
     let is_new = sym c.if-not-branch.false ∙ c.in_ok-insert.ensures.is_new in
     let new = rw (c.requires.keys_clone _ _ c.in_ok-wanted.ensures.cases) at is_new in
     let wanted = rw (c.requires.keys_clone _ _ c.in_ok-wanted.ensures.cases) at c.in_ok-insert.ensures.ok in
-    let tracked = rw (c.requires.keys_clone _ _ c.in_ok-tracked.ensures.cases) at c.in_ok-insert_state.ensures.ok in
+    let tracked = rw (c.requires.keys_clone _ _ c.in_ok-tracked.ensures.cases, c.at.ensures) at c.in_ok-insert_state.ensures.ok in
     on_ok_weaker c.ready.result
     (λ readies. new-agrees a g.met.K.Ord.total m is.sound c.args.item.key c.args.self.now _ is (over a c.args.self.now m is c.requires.closed) c.args.now c.args.item.subscribers c.args.item.metadata
     (sym new) wanted tracked readies refl)

@@ -22,10 +22,10 @@ pub returns-clause-goes : goal.returns-clause-goes
 returns-clause-goes g c = λ m agrees.
     let at = is_at (nat_cmp c.args.serve) in
     let h = c.in-Some.ensures in
-    let s = c.in-Some.field-0 in
+    let s = c.in-Some.begun in
     record {
       done = sent m c.args.serve c.args.value s;
       is = ap Some (sends m c.args.serve c.args.value s (ap (lookup at) (sym agrees.serves) ∙ sym h.value));
-      told = rw (c.in_ok-push.ensures.items, c.in_ok-bytes.ensures.bytes, c.in-Some.peer-is, c.in-Some.id-is, agrees.priority) refl;
+      told = rw (c.in_ok-push.ensures.items, c.in_ok-bytes.ensures.bytes, c.into_serve-peer.ensures, agrees.priority) refl;
       agrees = with-serves (parties g.K.Ord.cmp g.S.Ord.cmp g.P.Ord.cmp) c.args.self.now m c.remove.new.self (remove_entry at m.serves) agrees (h.entries ∙ ap (remove_entry at) agrees.serves);
     }

@@ -1,0 +1,73 @@
+-- Counters, each of which stops at the last number of its type.
+use Rattle.std.specs.Prelude.{ℕ, ◌+◌, ◌-◌, ◌^◌, Bool, true, false, not, Option, None, Some, min, if◌then◌else◌, ◌==◌}
+use Rattle.resolver_base.specs.declared.root.Outcome.{Outcome}
+use Rattle.resolver_base.specs.declared.root.Outcome.TheVariants.{Invalid, Resolved, Unresolved, Ignored}
+use Rattle.resolver_engine.specs.declared.metrics.Durations.{Durations}
+use Rattle.resolver_engine.specs.declared.metrics.Metrics.{Metrics}
+use Rattle.resolver_engine.specs.declared.metrics.Tally.{Tally}
+
+abbrev pub raised : (by counter : ℕ) → ℕ
+raised by counter = min (counter + by) (2 ^ 64 - 1)
+
+-- one time more
+abbrev pub measured : (nanoseconds : ℕ) → Durations → Durations
+measured nanoseconds d = record { count = raised 1 d.count; nanoseconds = min (d.nanoseconds + nanoseconds) (2 ^ 128 - 1) }
+
+abbrev pub no_tally : Tally
+no_tally = record { success = 0; ambiguous = 0; failure = 0; dropped = 0 }
+
+abbrev pub unmeasured : Durations
+unmeasured = record { count = 0; nanoseconds = 0 }
+
+-- what an engine has counted that did nothing
+abbrev pub uncounted : Metrics
+uncounted = record {
+  fetch_pending = 0;
+  fetch_active = 0;
+  serve_processing = 0;
+  fetch = no_tally;
+  cancel = no_tally;
+  serve = no_tally;
+  serve_duration = unmeasured;
+  fetch_duration = unmeasured;
+  requests_sent = no_tally;
+  resolves = unmeasured;
+}
+
+-- one success, failure, .. more where it is so
+abbrev pub one_success : Bool → Tally → Tally
+one_success is t = if is then record t { success = raised 1 t.success } else t
+
+abbrev pub one_ambiguous : Bool → Tally → Tally
+one_ambiguous is t = if is then record t { ambiguous = raised 1 t.ambiguous } else t
+
+abbrev pub one_dropped : Bool → Tally → Tally
+one_dropped is t = if is then record t { dropped = raised 1 t.dropped } else t
+
+abbrev pub one_failure : Tally → Tally
+one_failure t = record t { failure = raised 1 t.failure }
+
+-- What a verdict is to its fetch: its delivery was called off or not, its response was accepted before or not, and is handed out again or not.
+abbrev pub tallied : (live accepted again : Bool) → Option Outcome → Tally → Tally
+tallied live accepted again (Some (Resolved resolution)) t = one_success (not accepted) t
+tallied live accepted again (Some Invalid) t = one_failure t
+tallied live accepted again (Some Unresolved) t = one_ambiguous (not accepted) t
+tallied live accepted again (Some Ignored) t = one_dropped live t
+tallied live accepted again None t = one_dropped (if live then (if accepted then false else not again) else false) t
+
+-- a retain that called off so many keys
+abbrev pub called_off : (ended : ℕ) → Tally → Tally
+called_off ended t = if ended == 0 then one_dropped true t else record t { success = raised ended t.success }
+
+-- the producer's answer to a peer's request, with bytes or without
+abbrev pub answered : Bool → Tally → Tally
+answered true t = one_success true t
+answered false t = one_failure t
+
+abbrev pub measured_if : Bool → (nanoseconds : ℕ) → Durations → Durations
+measured_if is nanoseconds d = if is then measured nanoseconds d else d
+
+-- a request that was accepted to be sent, or refused
+abbrev pub sent : Bool → Tally → Tally
+sent true t = one_success true t
+sent false t = one_dropped true t

@@ -1,0 +1,308 @@
+//! What a step counts.
+//!
+//! No part of a step counts by itself: `Noted` keeps what the parts had before the step, and what
+//! is counted is told by that and by the step's effects.
+
+ghost use Rattle.std.specs.Prelude.{◌≡◌, ℕ};
+ghost use Rattle.resolver_peer.specs.Parties.{parties};
+ghost use Rattle.resolver_peer.specs.Peer.{Machine};
+ghost use Rattle.resolver_engine.specs.Counted.{answered, called_off, measured_if, sent, tallied};
+ghost use Rattle.resolver_engine.specs.EngineSteps.{Taken};
+ghost use Rattle.resolver_engine.specs.Going.{IsTied};
+ghost use Rattle.resolver_engine.specs.Said.{codec, fed_of};
+ghost use Rattle.resolver_engine.specs.Tied.{Agrees};
+
+use crate::effects::Effect;
+use crate::inputs::{Event, Input};
+use crate::metrics::{Metrics, Tally, raise};
+use crate::parts::Parts;
+use bytes::Bytes;
+use resolver_base::base::{Fault, Predicate, Span};
+use resolver_base::root::{Outcome, Resolution};
+use resolver_fetch::fetcher::Answer;
+
+/// A verdict on an open delivery, as it is before the verdict.
+#[derive(Clone, Copy)]
+struct Judged {
+    outcome: Option<Outcome>,
+    /// Whether the delivery was not called off.
+    is_live: bool,
+    /// Whether the response was accepted when the delivery began.
+    is_accepted: bool,
+    /// From the request to the response, in nanoseconds.
+    elapsed: u128,
+    /// From the key's first fetch until now, in nanoseconds, unless that was counted.
+    since_start: Option<u128>,
+}
+
+/// What a step may count, as it is before the step.
+#[derive(Clone, Copy)]
+enum Noted {
+    Verdict(Judged),
+    /// A retain, with so many keys.
+    Retain { keys: usize },
+    /// What may end a request, of so many.
+    Requests { asked: usize },
+    /// The producer's answer to a request that came so many nanoseconds ago.
+    Served { is_answered: bool, elapsed: u128 },
+    Sent { is_accepted: bool },
+    Nothing,
+}
+
+impl<K: Span + Drop, P: Ord + Clone + Drop, S: Ord + Clone + Drop> Parts<K, P, S> {
+    /// Takes an input as `take` does, and counts what came of it, unless it is refused.
+    pub(crate) fn take_and_count<Q: Predicate<K, S> + Drop>(
+        &mut self,
+        input: Input<K, P, S, Q>,
+        metrics: &mut Metrics,
+        effects: &mut Vec<Effect<K, P, S>>,
+    ) -> Result<(), Fault>
+        requires tied { IsTied (parties K.cmp S.cmp P.cmp) self.old }
+        requires keys_clone { (x y : K) → K.is_clone x y → y ≡ x }
+        requires peers_clone { (x y : P) → P.is_clone x y → y ≡ x }
+        requires subscribers_clone { (x y : S) → S.is_clone x y → y ≡ x }
+        ensures { (m : Machine K S P) (moment : ℕ)
+            → Agrees (parties K.cmp S.cmp P.cmp) self.old m
+            → Taken (parties K.cmp S.cmp P.cmp) (codec K.SIZE K.bytes_of K.read_from) m
+            (fed_of (codec K.SIZE K.bytes_of K.read_from) Q.keeps moment input)
+            effects.old.items effects.new.items self.new result }
+    {
+        let noted = self.noted(&input);
+        self.take(input, effects)?;
+        self.count(&noted, metrics, effects.as_slice());
+        self.settle(&noted, effects.as_slice());
+        Ok(())
+    }
+}
+
+impl<K: Ord + Drop, P: Ord + Drop, S: Ord + Drop> Parts<K, P, S> {
+    /// What this input may count.
+    fn noted<Q>(&self, input: &Input<K, P, S, Q>) -> Noted {
+        match input {
+            Input::Happens(happening) => self.noted_event(happening.now, &happening.event),
+            Input::Answers(answer) => noted_answer(answer),
+        }
+    }
+
+    /// What this event may count.
+    fn noted_event<Q>(&self, now: u128, event: &Event<K, P, S, Q>) -> Noted {
+        match event {
+            Event::Verdict { number, outcome } => self.noted_verdict(now, *number, *outcome),
+            Event::Retain(_) => Noted::Retain {
+                keys: self.demand.len(),
+            },
+            Event::ActiveDue | Event::Net { .. } => Noted::Requests {
+                asked: self.fetcher.len_active(),
+            },
+            Event::Served { serve, value } => self.noted_served(now, *serve, value),
+            _ => Noted::Nothing,
+        }
+    }
+
+    /// What this verdict may count.
+    fn noted_verdict(&self, now: u128, number: u64, outcome: Option<Outcome>) -> Noted {
+        let Some(open) = self.entries.open(number) else {
+            return Noted::Nothing;
+        };
+        let key = &open.delivery.key;
+        let start = self.entries.state(key);
+        Noted::Verdict(Judged {
+            outcome,
+            is_live: self.entries.number(key) == Some(number),
+            is_accepted: open.accepted,
+            elapsed: open.context.elapsed,
+            since_start: start.and_then(|start| start.uncounted_until(now)),
+        })
+    }
+
+    /// What this answer of the producer may count.
+    fn noted_served(&self, now: u128, serve: u64, value: &Option<Bytes>) -> Noted {
+        let Some(open) = self.serves.get(&serve) else {
+            return Noted::Nothing;
+        };
+        Noted::Served {
+            is_answered: value.is_some(),
+            elapsed: open.elapsed_until(now),
+        }
+    }
+
+    /// Counts what came of a step that told these effects.
+    fn count(&self, noted: &Noted, metrics: &mut Metrics, effects: &[Effect<K, P, S>]) {
+        let again = handed_out(effects);
+        match noted {
+            Noted::Verdict(judged) => metrics.count_verdict(judged, again.is_some()),
+            Noted::Retain { keys } => {
+                metrics.count_retain(keys.saturating_sub(self.demand.len()) as u64)
+            }
+            Noted::Requests { asked } => {
+                if self.fetcher.len_active() < *asked && again.is_none() {
+                    raise(&mut metrics.fetch.failure, 1);
+                }
+            }
+            Noted::Served {
+                is_answered,
+                elapsed,
+            } => metrics.count_serve(*is_answered, *elapsed),
+            Noted::Sent { is_accepted } => metrics.count_sent(*is_accepted),
+            Noted::Nothing => {}
+        }
+    }
+
+    /// Notes that the time to a key's first `Complete` was counted, where the key has subscribers
+    /// that get the response again.
+    fn settle(&mut self, noted: &Noted, effects: &[Effect<K, P, S>])
+        ensures { (m : Machine K S P) → Agrees (parties K.cmp S.cmp P.cmp) self.old m
+            → Agrees (parties K.cmp S.cmp P.cmp) self.new m }
+    {
+        if !noted.is_complete() {
+            return;
+        }
+        let Some(key) = handed_out(effects) else {
+            return;
+        };
+        self.note_counted(key);
+    }
+
+    /// Notes that the time from a key's first fetch was counted.
+    fn note_counted(&mut self, key: &K)
+        ensures { (m : Machine K S P) → Agrees (parties K.cmp S.cmp P.cmp) self.old m
+            → Agrees (parties K.cmp S.cmp P.cmp) self.new m }
+    {
+        let Some(start) = self.entries.state(key) else {
+            return;
+        };
+        let counted = start.counted();
+        self.entries.set_state(key, counted);
+    }
+}
+
+impl Noted {
+    /// Whether it is a `Complete` on a delivery that was not called off.
+    fn is_complete(&self) -> bool {
+        match self {
+            Noted::Verdict(judged) => judged.is_complete(),
+            _ => false,
+        }
+    }
+}
+
+impl Judged {
+    /// Whether the response earns its peer a credit.
+    fn is_credited(&self) -> bool {
+        !self.is_accepted && matches!(self.outcome, Some(Outcome::Resolved(_)))
+    }
+
+    /// Whether it is a `Complete` on a delivery that was not called off.
+    fn is_complete(&self) -> bool {
+        self.is_live && self.outcome == Some(Outcome::Resolved(Resolution::Complete))
+    }
+}
+
+impl Metrics {
+    /// Counts a verdict, after which the response was handed out again or not. A key's time is
+    /// counted at its first `Complete`; an `Invalid` that conflicts comes after one.
+    fn count_verdict(&mut self, judged: &Judged, is_again: bool)
+        ensures { self.new.fetch ≡ tallied judged.now.is_live judged.now.is_accepted is_again
+            judged.now.outcome self.old.fetch }
+    {
+        self.fetch.count_outcome(judged, is_again);
+        if judged.is_credited() {
+            self.resolves.measure(judged.elapsed);
+        }
+        if !judged.is_complete() {
+            return;
+        }
+        if let Some(elapsed) = judged.since_start {
+            self.fetch_duration.measure(elapsed);
+        }
+    }
+
+    /// Counts a retain that called off so many keys.
+    fn count_retain(&mut self, ended: u64)
+        ensures { self.new ≡ record self.old { cancel = called_off ended self.old.cancel } }
+    {
+        if ended == 0 {
+            raise(&mut self.cancel.dropped, 1);
+        } else {
+            raise(&mut self.cancel.success, ended);
+        }
+    }
+
+    /// Counts a peer's request that the producer had bytes for, after this time, or dropped.
+    fn count_serve(&mut self, is_answered: bool, elapsed: u128)
+        ensures { self.new ≡ record self.old {
+          serve = answered is_answered self.old.serve;
+          serve_duration = measured_if is_answered elapsed self.old.serve_duration;
+        } }
+    {
+        if is_answered {
+            raise(&mut self.serve.success, 1);
+            self.serve_duration.measure(elapsed);
+        } else {
+            raise(&mut self.serve.failure, 1);
+        }
+    }
+
+    /// Counts a request that was accepted to be sent, or refused.
+    fn count_sent(&mut self, is_accepted: bool)
+        ensures { self.new ≡ record self.old {
+          requests_sent = sent is_accepted self.old.requests_sent;
+        } }
+    {
+        if is_accepted {
+            raise(&mut self.requests_sent.success, 1);
+        } else {
+            raise(&mut self.requests_sent.dropped, 1);
+        }
+    }
+}
+
+impl Tally {
+    /// Counts what a verdict is to its fetch.
+    fn count_outcome(&mut self, judged: &Judged, is_again: bool)
+        ensures { self.new ≡ tallied judged.now.is_live judged.now.is_accepted is_again
+            judged.now.outcome self.old }
+    {
+        match judged.outcome {
+            Some(Outcome::Resolved(_)) => {
+                if !judged.is_accepted {
+                    raise(&mut self.success, 1);
+                }
+            }
+            Some(Outcome::Invalid) => raise(&mut self.failure, 1),
+            Some(Outcome::Unresolved) => {
+                if !judged.is_accepted {
+                    raise(&mut self.ambiguous, 1);
+                }
+            }
+            Some(Outcome::Ignored) => {
+                if judged.is_live {
+                    raise(&mut self.dropped, 1);
+                }
+            }
+            None => {
+                if judged.is_live && !judged.is_accepted && !is_again {
+                    raise(&mut self.dropped, 1);
+                }
+            }
+        }
+    }
+}
+
+/// What an answer to a scan may count.
+fn noted_answer(answer: &Answer) -> Noted {
+    match answer {
+        Answer::Sent(is_accepted) => Noted::Sent {
+            is_accepted: *is_accepted,
+        },
+        _ => Noted::Nothing,
+    }
+}
+
+/// The key that was handed out, if one was: a step hands out one at most.
+fn handed_out<K, P, S>(effects: &[Effect<K, P, S>]) -> Option<&K> {
+    effects.iter().find_map(|effect| match effect {
+        Effect::Deliver { delivery, .. } => Some(&delivery.key),
+        _ => None,
+    })
+}

@@ -1,0 +1,616 @@
+//! What an engine counts.
+
+ghost use Rattle.std.proofs.Common.{rules};
+
+use bytes::Bytes;
+use resolver::base::{Check, Fault, NonEmptyVec};
+use resolver::ingress::{FetchKey, Predicate};
+use resolver::p2p::fetcher::{Answer, Config};
+use resolver::p2p::inputs::{Event, Happening, Input};
+use resolver::p2p::mocks::Key;
+use resolver::p2p::{Core, Durations, Metrics, Tally};
+use resolver::{Outcome, Resolution};
+use std::alloc::Global;
+use std::process::Abort;
+use std::test::Fail;
+
+/// Keeps every subscriber, or none.
+#[derive(Drop)]
+struct Keeps {
+    all: bool,
+}
+
+impl Predicate<Key, u16> for Keeps {
+    ghost keeps = { λ q key subscriber. q.all };
+
+    fn keep(&self, _key: &Key, _subscriber: &u16) -> bool {
+        self.all
+    }
+
+    ghost alike = { λ q k l s t same_key same_subscriber. Prim.search rules };
+}
+
+/// An engine of bytes.
+type Plain = Core<Key, u8, u16, Keeps>;
+
+/// What happens around it.
+type PlainEvent = Event<Key, u8, u16, Keeps>;
+
+/// What a test gives.
+#[derive(Clone, Copy, Debug)]
+enum Given {
+    /// These two peers, as the first set. They may be one.
+    Peers(u8, u8),
+    /// The subscriber wants the key.
+    Fetch(u8, u16),
+    /// All subscribers are kept, or none.
+    Retain(bool),
+    Wake,
+    TimeOut,
+    Verdict(u64, Option<Outcome>),
+    /// The producer has two bytes for this serve, or drops it.
+    Served(u64, bool),
+    /// This peer sends these bytes.
+    Net(u8, &'static [u8]),
+    Drawn(u128),
+    Clear,
+    Sent(bool),
+}
+
+const COMPLETE: Option<Outcome> = Some(Outcome::Resolved(Resolution::Complete));
+
+const PARTIAL: Option<Outcome> = Some(Outcome::Resolved(Resolution::Partial));
+
+const UNRESOLVED: Option<Outcome> = Some(Outcome::Unresolved);
+
+const INVALID: Option<Outcome> = Some(Outcome::Invalid);
+
+const IGNORED: Option<Outcome> = Some(Outcome::Ignored);
+
+/// The response "hi" under the ids 5 and 6.
+const FIVE: &[u8] = &[0, 0, 0, 0, 0, 0, 0, 5, 1, 2, 104, 105];
+
+const SIX: &[u8] = &[0, 0, 0, 0, 0, 0, 0, 6, 1, 2, 104, 105];
+
+/// Word that there is no data, under the id 5.
+const MISSING: &[u8] = &[0, 0, 0, 0, 0, 0, 0, 5, 2];
+
+/// A request for key 123 under the id 7.
+const REQUEST: &[u8] = &[0, 0, 0, 0, 0, 0, 0, 7, 0, 123];
+
+/// Peer 4 is asked for key 1, which subscriber 10 wants, under the id 5.
+const ASKED: &[(u128, Given)] = &[
+    (0, Given::Peers(4, 4)),
+    (0, Given::Fetch(1, 10)),
+    (0, Given::Drawn(0)),
+    (0, Given::Drawn(0)),
+    (0, Given::Clear),
+    (0, Given::Drawn(5)),
+    (0, Given::Sent(true)),
+];
+
+/// Its response waits for its verdict, under the number 0.
+const JUDGED: &[(u128, Given)] = &[(20, Given::Net(4, FIVE))];
+
+/// The same, and subscriber 11 came since.
+const JOINED: &[(u128, Given)] = &[(20, Given::Net(4, FIVE)), (20, Given::Fetch(1, 11))];
+
+/// The key is asked for again, under the id 6, and its response comes.
+const AGAIN: &[(u128, Given)] = &[
+    (30, Given::Wake),
+    (30, Given::Drawn(0)),
+    (30, Given::Drawn(0)),
+    (30, Given::Clear),
+    (30, Given::Sent(true)),
+    (45, Given::Net(4, SIX)),
+];
+
+const NONE: Tally = Tally {
+    success: 0,
+    ambiguous: 0,
+    failure: 0,
+    dropped: 0,
+};
+
+const ONE: Tally = Tally { success: 1, ..NONE };
+
+const AMBIGUOUS: Tally = Tally {
+    ambiguous: 1,
+    ..NONE
+};
+
+const FAILED: Tally = Tally { failure: 1, ..NONE };
+
+const DROPPED: Tally = Tally { dropped: 1, ..NONE };
+
+const UNMEASURED: Durations = Durations {
+    count: 0,
+    nanoseconds: 0,
+};
+
+const TWENTY: Durations = Durations {
+    count: 1,
+    nanoseconds: 20,
+};
+
+/// What an engine counts that did nothing.
+const UNCOUNTED: Metrics = Metrics {
+    fetch_pending: 0,
+    fetch_active: 0,
+    serve_processing: 0,
+    fetch: NONE,
+    cancel: NONE,
+    serve: NONE,
+    serve_duration: UNMEASURED,
+    fetch_duration: UNMEASURED,
+    requests_sent: NONE,
+    resolves: UNMEASURED,
+};
+
+/// One request was sent.
+const SENT: Metrics = Metrics {
+    requests_sent: ONE,
+    ..UNCOUNTED
+};
+
+/// And its response was credited, 20 nanoseconds after it.
+const CREDITED: Metrics = Metrics {
+    fetch: ONE,
+    resolves: TWENTY,
+    ..SENT
+};
+
+/// And it was complete.
+const COMPLETED: Metrics = Metrics {
+    fetch_duration: TWENTY,
+    ..CREDITED
+};
+
+fn peers(alloc: Global, first: u8, second: u8) -> Result<PlainEvent, Fault> {
+    let mut peers = Vec::new(alloc);
+    peers.push(first)?;
+    peers.push(second)?;
+    Ok(Event::PeerSet { index: 1, peers })
+}
+
+fn fetch(alloc: Global, key: u8, subscriber: u16) -> Result<PlainEvent, Fault> {
+    let mut items = Vec::new(alloc);
+    let Ok(subscribers) = NonEmptyVec::new(alloc, (subscriber, 7)) else {
+        return Err(Fault::OutOfMemory);
+    };
+    items.push(FetchKey {
+        key: Key(key),
+        subscribers,
+        metadata: None,
+    })?;
+    Ok(Event::Fetch(items))
+}
+
+fn served(serve: u64, is_answered: bool) -> PlainEvent {
+    let value = if is_answered {
+        Some(Bytes::from_static(&[104, 105]))
+    } else {
+        None
+    };
+    Event::Served { serve, value }
+}
+
+/// The event that is given, or the answer.
+fn event_of(alloc: Global, given: Given) -> Result<Result<PlainEvent, Answer>, Fault> {
+    Ok(Ok(match given {
+        Given::Peers(first, second) => peers(alloc, first, second)?,
+        Given::Fetch(key, subscriber) => fetch(alloc, key, subscriber)?,
+        Given::Retain(all) => Event::Retain(Keeps { all }),
+        Given::Wake => Event::PendingDue,
+        Given::TimeOut => Event::ActiveDue,
+        Given::Verdict(number, outcome) => Event::Verdict { number, outcome },
+        Given::Served(serve, is_answered) => served(serve, is_answered),
+        Given::Net(peer, bytes) => Event::Net {
+            peer,
+            bytes: Bytes::from_static(bytes),
+        },
+        Given::Drawn(number) => return Ok(Err(Answer::Drawn(number))),
+        Given::Clear => return Ok(Err(Answer::Checked(Check::Clear))),
+        Given::Sent(is_accepted) => return Ok(Err(Answer::Sent(is_accepted))),
+    }))
+}
+
+/// Gives this to the engine, which is not to refuse it.
+fn give(alloc: Global, engine: &mut Plain, now: u128, given: Given) -> Result<(), Fault> {
+    let input = match event_of(alloc, given)? {
+        Ok(event) if now < 1_000 => Input::Happens(Happening { now, event }),
+        Ok(_) => return Err(Fault::OutOfRange),
+        Err(answer) => Input::Answers(answer),
+    };
+    engine.step(input)?;
+    Ok(())
+}
+
+fn give_all(alloc: Global, engine: &mut Plain, given: &[(u128, Given)]) -> Result<(), Fault> {
+    for (now, one) in given {
+        give(alloc, engine, *now, *one)?;
+    }
+    Ok(())
+}
+
+/// What an engine that is called 9, with a timeout of 50 and a delay of 10, counts of these, one
+/// list after another.
+fn counts(alloc: Global, lists: &[&[(u128, Given)]]) -> Result<Metrics, Fault> {
+    let config = Config {
+        me: Some(9),
+        fetch_timeout: 50,
+        retry_delay: 10,
+        priority_requests: false,
+    };
+    let mut engine: Plain = Core::new(alloc, config, false);
+    for given in lists {
+        give_all(alloc, &mut engine, given)?;
+    }
+    Ok(engine.metrics())
+}
+
+fn assert_counts(
+    rt: &impl Abort,
+    alloc: Global,
+    lists: &[&[(u128, Given)]],
+    expected: Metrics,
+) -> Result<(), Fail> {
+    let counted = counts(alloc, lists)?;
+    assert_eq!(rt; counted, expected);
+    Ok(())
+}
+
+/// The same, where `rest` follows once peer 4 was asked.
+fn assert_asked(
+    rt: &impl Abort,
+    alloc: Global,
+    rest: &[(u128, Given)],
+    expected: Metrics,
+) -> Result<(), Fail> {
+    assert_counts(rt, alloc, &[ASKED, rest], expected)
+}
+
+/// The same, where this is the verdict on its response.
+fn assert_judged(
+    rt: &impl Abort,
+    alloc: Global,
+    outcome: Option<Outcome>,
+    expected: Metrics,
+) -> Result<(), Fail> {
+    let verdict = [(20, Given::Verdict(0, outcome))];
+    assert_counts(rt, alloc, &[ASKED, JUDGED, &verdict], expected)
+}
+
+/// The same, where the key was called off before.
+fn assert_called_off(
+    rt: &impl Abort,
+    alloc: Global,
+    outcome: Option<Outcome>,
+    expected: Metrics,
+) -> Result<(), Fail> {
+    let rest = [(20, Given::Retain(false)), (20, Given::Verdict(0, outcome))];
+    assert_counts(rt, alloc, &[ASKED, JUDGED, &rest], expected)
+}
+
+/// The same, where the response is complete, and this is the verdict on its second delivery.
+fn assert_judged_again(
+    rt: &impl Abort,
+    alloc: Global,
+    outcome: Option<Outcome>,
+    expected: Metrics,
+) -> Result<(), Fail> {
+    let rest = [
+        (20, Given::Verdict(0, COMPLETE)),
+        (30, Given::Verdict(1, outcome)),
+    ];
+    assert_counts(rt, alloc, &[ASKED, JOINED, &rest], expected)
+}
+
+#[test]
+fn metrics_after_verdict(rt: HostRuntime) -> Result<(), Fail> {
+    assert_judged(&rt, rt.alloc(), COMPLETE, COMPLETED)
+}
+
+/// A called off delivery still earns its credit, but the key's time isn't counted.
+#[test]
+fn a_called_off_complete_counts_no_fetch(rt: HostRuntime) -> Result<(), Fail> {
+    let expected = Metrics {
+        cancel: ONE,
+        ..CREDITED
+    };
+    assert_called_off(&rt, rt.alloc(), COMPLETE, expected)
+}
+
+/// Keys wait, requests have no answer, and serves are open.
+#[test]
+fn what_there_is_now(rt: HostRuntime) -> Result<(), Fail> {
+    let alloc = rt.alloc();
+    let waits = [(0, Given::Fetch(1, 10)), (0, Given::Fetch(2, 10))];
+    let two = Metrics {
+        fetch_pending: 2,
+        ..UNCOUNTED
+    };
+    assert_counts(&rt, alloc, &[&waits], two)?;
+    assert_asked(
+        &rt,
+        alloc,
+        &[],
+        Metrics {
+            fetch_active: 1,
+            ..SENT
+        },
+    )?;
+    assert_asked(&rt, alloc, JUDGED, SENT)?;
+    let serves = [(5, Given::Net(3, REQUEST)), (6, Given::Net(3, REQUEST))];
+    let open = Metrics {
+        serve_processing: 2,
+        ..UNCOUNTED
+    };
+    assert_counts(&rt, alloc, &[&serves], open)
+}
+
+/// `Unresolved` is ambiguous, unless the response was accepted before.
+#[test]
+fn ambiguous_fetches(rt: HostRuntime) -> Result<(), Fail> {
+    let alloc = rt.alloc();
+    let once = Metrics {
+        fetch: AMBIGUOUS,
+        ..SENT
+    };
+    assert_judged(
+        &rt,
+        alloc,
+        UNRESOLVED,
+        Metrics {
+            fetch_pending: 1,
+            ..once
+        },
+    )?;
+    assert_called_off(
+        &rt,
+        alloc,
+        UNRESOLVED,
+        Metrics {
+            cancel: ONE,
+            ..once
+        },
+    )?;
+    let accepted = Metrics {
+        fetch_pending: 1,
+        ..COMPLETED
+    };
+    assert_judged_again(&rt, alloc, UNRESOLVED, accepted)
+}
+
+/// `Invalid` is a failure, also where it was called off or conflicts.
+#[test]
+fn invalid_fetches(rt: HostRuntime) -> Result<(), Fail> {
+    let alloc = rt.alloc();
+    let once = Metrics {
+        fetch: FAILED,
+        ..SENT
+    };
+    assert_judged(
+        &rt,
+        alloc,
+        INVALID,
+        Metrics {
+            fetch_pending: 1,
+            ..once
+        },
+    )?;
+    assert_called_off(
+        &rt,
+        alloc,
+        INVALID,
+        Metrics {
+            cancel: ONE,
+            ..once
+        },
+    )?;
+    let both = Tally { failure: 1, ..ONE };
+    assert_judged_again(
+        &rt,
+        alloc,
+        INVALID,
+        Metrics {
+            fetch: both,
+            ..COMPLETED
+        },
+    )
+}
+
+/// A request fails whose time is over, and one that its peer has no data for.
+#[test]
+fn failed_requests(rt: HostRuntime) -> Result<(), Fail> {
+    let alloc = rt.alloc();
+    let active = Metrics {
+        fetch_active: 1,
+        ..SENT
+    };
+    let failed = Metrics {
+        fetch: FAILED,
+        fetch_pending: 1,
+        ..SENT
+    };
+    assert_asked(&rt, alloc, &[(49, Given::TimeOut)], active)?;
+    assert_asked(&rt, alloc, &[(50, Given::TimeOut)], failed)?;
+    assert_asked(&rt, alloc, &[(20, Given::Net(3, MISSING))], active)?;
+    assert_asked(&rt, alloc, &[(20, Given::Net(4, MISSING))], failed)
+}
+
+/// `Ignored` is dropped, accepted or not, unless it was called off.
+#[test]
+fn ignored_fetches(rt: HostRuntime) -> Result<(), Fail> {
+    let alloc = rt.alloc();
+    assert_judged(
+        &rt,
+        alloc,
+        IGNORED,
+        Metrics {
+            fetch: DROPPED,
+            ..SENT
+        },
+    )?;
+    assert_called_off(
+        &rt,
+        alloc,
+        IGNORED,
+        Metrics {
+            cancel: ONE,
+            ..SENT
+        },
+    )?;
+    let both = Tally { dropped: 1, ..ONE };
+    assert_judged_again(
+        &rt,
+        alloc,
+        IGNORED,
+        Metrics {
+            fetch: both,
+            ..COMPLETED
+        },
+    )
+}
+
+/// A key is dropped that a dropped verdict retires, unless its response was accepted.
+#[test]
+fn dropped_verdicts(rt: HostRuntime) -> Result<(), Fail> {
+    let alloc = rt.alloc();
+    let dropped = Metrics {
+        fetch: DROPPED,
+        ..SENT
+    };
+    assert_judged(&rt, alloc, None, dropped)?;
+    assert_called_off(
+        &rt,
+        alloc,
+        None,
+        Metrics {
+            cancel: ONE,
+            ..SENT
+        },
+    )?;
+    assert_judged_again(&rt, alloc, None, COMPLETED)?;
+    let first = [(20, Given::Verdict(0, None))];
+    assert_counts(&rt, alloc, &[ASKED, JOINED, &first], SENT)?;
+    let second = [(30, Given::Verdict(1, None))];
+    assert_counts(&rt, alloc, &[ASKED, JOINED, &first, &second], dropped)
+}
+
+/// A key's time is counted at its first complete response, and at no other.
+#[test]
+fn the_time_of_a_fetch(rt: HostRuntime) -> Result<(), Fail> {
+    let alloc = rt.alloc();
+    assert_judged_again(&rt, alloc, COMPLETE, COMPLETED)?;
+    let twice = Metrics {
+        fetch: Tally { success: 2, ..NONE },
+        requests_sent: Tally { success: 2, ..NONE },
+        resolves: Durations {
+            count: 2,
+            nanoseconds: 35,
+        },
+        ..UNCOUNTED
+    };
+    let first = [(20, Given::Verdict(0, PARTIAL))];
+    let last = [(50, Given::Verdict(1, COMPLETE))];
+    let expected = Metrics {
+        fetch_duration: Durations {
+            count: 1,
+            nanoseconds: 50,
+        },
+        ..twice
+    };
+    assert_counts(&rt, alloc, &[ASKED, JUDGED, &first, AGAIN, &last], expected)?;
+    let first = [
+        (20, Given::Verdict(0, COMPLETE)),
+        (20, Given::Verdict(1, PARTIAL)),
+    ];
+    let last = [(50, Given::Verdict(2, COMPLETE))];
+    let expected = Metrics {
+        fetch_duration: TWENTY,
+        ..twice
+    };
+    assert_counts(&rt, alloc, &[ASKED, JOINED, &first, AGAIN, &last], expected)
+}
+
+/// A retain counts each key that it calls off, or itself where there is none.
+#[test]
+fn retains(rt: HostRuntime) -> Result<(), Fail> {
+    let alloc = rt.alloc();
+    let keys = [
+        (0, Given::Fetch(1, 10)),
+        (0, Given::Fetch(2, 10)),
+        (0, Given::Retain(true)),
+    ];
+    let kept = Metrics {
+        fetch_pending: 2,
+        cancel: DROPPED,
+        ..UNCOUNTED
+    };
+    assert_counts(&rt, alloc, &[&keys], kept)?;
+    let none = [(0, Given::Retain(false))];
+    let both = Tally {
+        success: 2,
+        dropped: 1,
+        ..NONE
+    };
+    assert_counts(
+        &rt,
+        alloc,
+        &[&keys, &none],
+        Metrics {
+            cancel: both,
+            ..UNCOUNTED
+        },
+    )
+}
+
+/// An answered serve has its time counted, a dropped one has not, and a closed one counts nothing.
+#[test]
+fn serves(rt: HostRuntime) -> Result<(), Fail> {
+    let alloc = rt.alloc();
+    let open = [(5, Given::Net(3, REQUEST)), (6, Given::Net(3, REQUEST))];
+    let closed = [
+        (7, Given::Served(1, false)),
+        (30, Given::Served(0, true)),
+        (40, Given::Served(0, true)),
+    ];
+    let expected = Metrics {
+        serve: Tally {
+            success: 1,
+            failure: 1,
+            ..NONE
+        },
+        serve_duration: Durations {
+            count: 1,
+            nanoseconds: 25,
+        },
+        ..UNCOUNTED
+    };
+    assert_counts(&rt, alloc, &[&open, &closed], expected)
+}
+
+/// Both peers are asked, and neither request is accepted to be sent.
+#[test]
+fn refused_requests(rt: HostRuntime) -> Result<(), Fail> {
+    let given = [
+        (0, Given::Peers(3, 4)),
+        (0, Given::Fetch(1, 10)),
+        (0, Given::Drawn(0)),
+        (0, Given::Drawn(0)),
+        (0, Given::Clear),
+        (0, Given::Drawn(5)),
+        (0, Given::Sent(false)),
+        (0, Given::Drawn(0)),
+        (0, Given::Drawn(0)),
+        (0, Given::Clear),
+        (0, Given::Sent(false)),
+    ];
+    let expected = Metrics {
+        fetch_pending: 1,
+        requests_sent: Tally { dropped: 2, ..NONE },
+        ..UNCOUNTED
+    };
+    assert_counts(&rt, rt.alloc(), &[&given], expected)
+}
