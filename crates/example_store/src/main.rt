@@ -3,34 +3,143 @@
 //! a table of what arrived.
 #![tactic(auto)]
 
-mod store;
+ghost use Rattle.std.specs.Prelude.{◌==◌, not};
+ghost use Rattle.std.proofs.Common.{rules};
 
 use anyhow::Result;
-use store::Store;
+use resolver::base::{Moment, NonEmptyVec, Predicate};
+use resolver::ingress::FetchKey;
+use resolver::opaque::{Actor, Effect, Event, Input};
+use resolver::{Delivery, Outcome};
+use std::alloc::Global;
+use std::mem;
 
-fn main(rt: HostRuntime) -> Result<()> {
-    let mut store = Store::new(rt.alloc());
-    fill(&mut store)?;
-    println!(rt; "chunk  value  subscribers  at")?;
-    for one in store.arrived() {
-        println!(rt;
-            "{:>5}  {:>5}  {:>11}  {}",
-            one.key, one.value, one.subscribers, one.at
-        )?;
+/// Keeps every subscriber but one.
+#[derive(Clone, Copy, Debug)]
+struct AllBut(u16);
+
+impl Predicate<u32, u16> for AllBut {
+    ghost keeps = { λ left _ s. not (s == left.0) };
+
+    fn keep(&self, _: &u32, subscriber: &u16) -> bool {
+        *subscriber != self.0
     }
-    Ok(())
+
+    ghost alike = { λ q k l s t same_key same_subscriber. Prim.search rules };
+}
+
+#[derive(Drop)]
+struct Store {
+    actor: Actor<u32, u64, u16, AllBut>,
+    now: Moment,
+    /// Attempts that the source has not answered, with their keys.
+    asked: Vec<(u64, u32)>,
+    /// What is not judged, by number: for whom it is, and its value.
+    delivered: Vec<(u64, Delivery<u32, u16>, u64)>,
+    /// When it came, for whom, and its value.
+    arrived: Vec<(Moment, Delivery<u32, u16>, u64)>,
+    alloc: Global,
+}
+
+impl Store {
+    /// The subscribers 10, 20 and 30 want 20 chunks.
+    fn want_all(&mut self) -> Result<()> {
+        let mut items = Vec::new(self.alloc);
+        for key in 0..20 {
+            let mut subscribers = NonEmptyVec::new(self.alloc, (10, 0))?;
+            subscribers.push((20, 0))?;
+            subscribers.push((30, 0))?;
+            items.push(FetchKey {
+                key,
+                subscribers,
+                metadata: (),
+            })?;
+        }
+        self.step(Event::Fetch(items))
+    }
+
+    /// The source answers what it was asked. It lacks the multiples of 3 before round 2.
+    fn answer_all(&mut self, round: u32) -> Result<()> {
+        for (attempt, key) in mem::replace(&mut self.asked, Vec::new(self.alloc)) {
+            let lacks = key % 3 == 0 && round < 2;
+            let value = (!lacks).then(|| u64::from(key) * 1000);
+            self.step(Event::Fetched { attempt, value })?;
+        }
+        Ok(())
+    }
+
+    /// Judges what was handed out. Chunk 7 is found wrong at first.
+    fn judge_all(&mut self) -> Result<()> {
+        for (number, delivery, value) in mem::replace(&mut self.delivered, Vec::new(self.alloc)) {
+            let is_right = delivery.key != 7 || self.now.nanoseconds > 0;
+            if is_right {
+                self.arrived.push((self.now, delivery, value))?;
+            }
+            let outcome = Some(Outcome::from(is_right));
+            self.step(Event::Verdict { number, outcome })?;
+        }
+        Ok(())
+    }
+
+    /// Waits until chunks are asked for again, if some wait.
+    fn retry(&mut self) -> Result<()> {
+        if let Some(due) = self.actor.next_retry().and_then(Moment::from_nanos) {
+            self.now = due;
+            self.step(Event::RetriesDue)?;
+        }
+        Ok(())
+    }
+
+    /// Feeds the actor, and notes what it wants done.
+    fn step(&mut self, event: Event<u32, u64, u16, AllBut>) -> Result<()> {
+        let now = self.now.nanoseconds;
+        for effect in self.actor.step(Input { now, event })? {
+            match effect {
+                Effect::Start { attempt, key } => self.asked.push((attempt, key))?,
+                Effect::Abort { attempt } => self.asked.retain(|one| one.0 != attempt),
+                Effect::Cancel { number } => self.delivered.retain(|one| one.0 != number),
+                Effect::Deliver {
+                    number,
+                    delivery,
+                    value,
+                    ..
+                } => self.delivered.push((number, delivery, value))?,
+            }
+        }
+        Ok(())
+    }
 }
 
 /// Wants every chunk, and works until each has arrived. Subscriber 30 leaves after the second round.
 fn fill(store: &mut Store) -> Result<()> {
-    store.want_all(20)?;
+    store.want_all()?;
     for round in 0..10 {
         store.answer_all(round)?;
         store.judge_all()?;
         if round == 1 {
-            store.leave(30)?;
+            store.step(Event::Retain(AllBut(30)))?;
         }
         store.retry()?;
+    }
+    Ok(())
+}
+
+fn main(rt: HostRuntime) -> Result<()> {
+    let alloc = rt.alloc();
+    let mut store = Store {
+        // what the source lacks, or what was refused, waits 100 nanoseconds
+        actor: Actor::new(alloc, 100),
+        now: Moment { nanoseconds: 0 },
+        asked: Vec::new(alloc),
+        delivered: Vec::new(alloc),
+        arrived: Vec::new(alloc),
+        alloc,
+    };
+    fill(&mut store)?;
+    println!(rt; "chunk  value  subscribers  at")?;
+    for (at, delivery, value) in store.arrived {
+        let (key, subscribers, at) = (delivery.key, delivery.subscribers.len(), at.nanoseconds);
+        println!(rt; "{key:>5}  {value:>5}  {subscribers:>11}  {at}")?;
     }
     Ok(())
 }

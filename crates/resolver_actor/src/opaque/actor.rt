@@ -106,16 +106,7 @@ enum Status {
 ///                 delivery,
 ///                 value,
 ///                 ..
-///             } => {
-///                 let (key, subscribers) = (delivery.key, delivery.subscribers.len());
-///                 let chunk = Arrived {
-///                     key,
-///                     value,
-///                     subscribers,
-///                     at: now,
-///                 };
-///                 self.delivered.push((number, chunk))?;
-///             }
+///             } => self.delivered.push((number, delivery, value))?,
 ///         }
 ///     }
 ///     Ok(())
