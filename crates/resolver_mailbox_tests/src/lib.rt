@@ -11,3 +11,5 @@ mod desk;
 mod mailbox;
 #[cfg(test)]
 mod names;
+#[cfg(test)]
+mod threads;

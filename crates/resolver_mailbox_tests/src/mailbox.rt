@@ -11,10 +11,9 @@ use std::fmt::Write;
 use std::marker::Brand;
 use std::sync::Wait;
 use std::test::Fail;
-use std::thread::{self, JoinHandle, Threads};
 
 /// What the next poll of a receiver gives.
-fn next<N: Naming, R: Wait + Drop>(
+pub fn next<N: Naming, R: Wait + Drop>(
     task: &MockTask,
     receiver: &mut Receiver<u16, u16, (), All, N, R>,
 ) -> Poll<Option<Result<Told, Fault>>> {
@@ -22,7 +21,7 @@ fn next<N: Naming, R: Wait + Drop>(
 }
 
 /// How many puts a book has.
-fn puts_in(book: &[Entry<u16, u16, (), All>]) -> u64 {
+pub fn puts_in(book: &[Entry<u16, u16, (), All>]) -> u64 {
     let mut puts = 0u64;
     for entry in book {
         if let Entry::Put(_) = entry {
@@ -33,7 +32,7 @@ fn puts_in(book: &[Entry<u16, u16, (), All>]) -> u64 {
 }
 
 /// The shares of some handles.
-fn shares_of<'a, N: Naming, R>(
+pub fn shares_of<'a, N: Naming, R>(
     alloc: Global,
     handles: &'a [Sender<u16, u16, (), All, N, R>],
 ) -> Result<Vec<&'a Share<u16, u16, (), All, N>>, AllocError> {
@@ -44,76 +43,6 @@ fn shares_of<'a, N: Naming, R>(
         }
     }
     Ok(shares)
-}
-
-/// Puts 250 fetches of keys from the first one on.
-fn put_many<N: Naming, R: Wait>(
-    handle: &mut Sender<u16, u16, (), All, N, R>,
-    alloc: Global,
-    first: u16,
-) -> Result<(), Fault> {
-    for i in 0..250 {
-        handle.enqueue(fetch(alloc, first.wrapping_add(i), 1, 0)?)?;
-    }
-    Ok(())
-}
-
-/// A thread that puts, and gives its handle back.
-fn start<N, R>(
-    rt: R,
-    alloc: Global,
-    handle: Sender<u16, u16, (), All, N, R>,
-    first: u16,
-) -> Result<JoinHandle<Sender<u16, u16, (), All, N, R>>, AllocError>
-where
-    N: Naming + Send + Sync + 'static,
-    R: Threads + Wait + Copy + Drop + Send + 'static,
-{
-    let mut handle = handle;
-    let job = move || {
-        let _ = put_many(&mut handle, alloc, first);
-        handle
-    };
-    Ok(thread::spawn(&rt, job)?)
-}
-
-/// Four threads put while this one takes. Gives the puts in the book and the shares that were lent.
-fn four_threads<N, R>(
-    rt: R,
-    alloc: Global,
-    pages: Pages,
-    task: &MockTask,
-) -> Result<(u64, usize), Fault>
-where
-    N: Naming + Send + Sync + 'static,
-    R: Threads + Wait + Copy + Drop + Send + 'static,
-    requires recorded { N.is_recorded ≡ true }
-    requires puts { pages.puts.name ≡ N.puts }
-    requires takes { pages.takes.name ≡ N.takes }
-{
-    let (handle, mut receiver) = recorded::<u16, u16, (), All, N, R>(rt, alloc, pages, 8)?;
-    let mut running = Vec::new(alloc);
-    for i in 0..4u16 {
-        running.push(start(rt, alloc, handle.clone()?, i * 1000)?)?;
-    }
-    for _ in 0..500 {
-        let _ = next(task, &mut receiver);
-    }
-    let mut handles = Vec::new(alloc);
-    while let Some(thread) = running.pop() {
-        handles.push(thread.join(&rt))?;
-    }
-    let shares = shares_of(alloc, handles.as_slice())?;
-    let book = receiver.book(alloc, shares.as_slice())?;
-    Ok((puts_in(book.as_slice()), shares.len()))
-}
-
-#[test]
-fn the_book_holds_what_four_threads_put(rt: HostRuntime) -> Result<(), Fail> {
-    let task = MockTask::new(&rt)?;
-    let puts = four_threads::<Brand, _>(rt, rt.alloc(), Pages::new(), &task)?;
-    assert_eq!(rt; puts, (1000, 4));
-    Ok(())
 }
 
 /// Puts a fetch of a key for one subscriber with its mark, and writes the answer.

@@ -1,0 +1,393 @@
+//! A mailbox that several threads put into at once.
+
+ghost use Rattle.std.specs.Prelude.{◌≡◌, ◌<◌, true};
+
+use crate::calls::{All, Told, fetch};
+use crate::mailbox::{next, puts_in, shares_of};
+use futures::task::Poll;
+use futures::test::MockTask;
+use resolver_base::base::{Fault, Feedback};
+use resolver_demand::ingress::Message;
+use resolver_mailbox::mailbox::{Entry, Naming, Pages, Receiver, Sender, recorded};
+use std::alloc::{AllocError, AllocGlobal, Global};
+use std::fmt::Write;
+use std::marker::Brand;
+use std::random::RandomSource;
+use std::sync::Wait;
+use std::test::Fail;
+use std::thread::{self, JoinHandle, Threads};
+
+/// A handle of the tests.
+type Handle<N, R> = Sender<u16, u16, (), All, N, R>;
+
+/// How often a handle was answered so.
+#[derive(Clone, Copy)]
+struct Tally {
+    ok: u64,
+    backoff: u64,
+    closed: u64,
+    /// Refusals, and answers other than Closed that came after a Closed.
+    wrong: u64,
+}
+
+impl Tally {
+    fn new() -> Tally {
+        Tally {
+            ok: 0,
+            backoff: 0,
+            closed: 0,
+            wrong: 0,
+        }
+    }
+
+    fn note(&mut self, answer: Result<Feedback, Fault>) {
+        let count = match answer {
+            Ok(Feedback::Closed) => &mut self.closed,
+            Ok(Feedback::Ok) if self.closed == 0 => &mut self.ok,
+            Ok(Feedback::Backoff) if self.closed == 0 => &mut self.backoff,
+            _ => &mut self.wrong,
+        };
+        *count = count.saturating_add(1);
+    }
+
+    fn plus(self, other: Tally) -> Tally {
+        Tally {
+            ok: self.ok.saturating_add(other.ok),
+            backoff: self.backoff.saturating_add(other.backoff),
+            closed: self.closed.saturating_add(other.closed),
+            wrong: self.wrong.saturating_add(other.wrong),
+        }
+    }
+}
+
+/// Fetches that a thread puts: of keys from the first one on for one subscriber, or of one key for
+/// subscribers from the first one on.
+#[derive(Clone, Copy)]
+struct Puts {
+    count: u16,
+    key: u16,
+    subscriber: u16,
+    is_one_key: bool,
+}
+
+impl Puts {
+    fn message(self, alloc: Global, place: u16) -> Result<Told, Fault> {
+        if self.is_one_key {
+            return fetch(alloc, self.key, self.subscriber.wrapping_add(place), 0);
+        }
+        fetch(alloc, self.key.wrapping_add(place), self.subscriber, 0)
+    }
+}
+
+/// What a thread does with its handle.
+#[derive(Clone, Copy)]
+enum Job {
+    Put(Puts),
+    Close,
+}
+
+fn put_all<N: Naming, R: Wait>(handle: &mut Handle<N, R>, alloc: Global, puts: Puts) -> Tally {
+    let mut tally = Tally::new();
+    for place in 0..puts.count {
+        let answer = match puts.message(alloc, place) {
+            Ok(message) => handle.enqueue(message),
+            Err(fault) => Err(fault),
+        };
+        tally.note(answer);
+    }
+    tally
+}
+
+fn work<N: Naming, R: Wait>(handle: &mut Handle<N, R>, alloc: Global, job: Job) -> Tally {
+    match job {
+        Job::Put(puts) => put_all(handle, alloc, puts),
+        Job::Close => {
+            handle.close();
+            Tally::new()
+        }
+    }
+}
+
+/// A thread that gives its handle back with what it was answered.
+fn start<N, R>(
+    rt: R,
+    alloc: Global,
+    handle: Handle<N, R>,
+    job: Job,
+) -> Result<JoinHandle<(Handle<N, R>, Tally)>, AllocError>
+where
+    N: Naming + Send + Sync + 'static,
+    R: Threads + Wait + Copy + Drop + Send + 'static,
+{
+    let mut handle = handle;
+    let work = move || {
+        let tally = work(&mut handle, alloc, job);
+        (handle, tally)
+    };
+    Ok(thread::spawn(&rt, work)?)
+}
+
+/// A thread for each job, with a handle of its own.
+fn start_all<N, R>(
+    rt: R,
+    alloc: Global,
+    handle: &Handle<N, R>,
+    jobs: &[Job],
+) -> Result<Vec<JoinHandle<(Handle<N, R>, Tally)>>, AllocError>
+where
+    N: Naming + Send + Sync + 'static,
+    R: Threads + Wait + Copy + Drop + Send + 'static,
+{
+    let mut running = Vec::new(alloc);
+    for job in jobs {
+        running.push(start(rt, alloc, handle.clone()?, *job)?)?;
+    }
+    Ok(running)
+}
+
+/// Waits for the threads, and gives their handles, and what they were answered together.
+fn join_all<N, R>(
+    rt: R,
+    alloc: Global,
+    running: Vec<JoinHandle<(Handle<N, R>, Tally)>>,
+) -> Result<(Vec<Handle<N, R>>, Tally), AllocError>
+where
+    N: Naming + Send + Sync + 'static,
+    R: Threads + Wait + Copy + Drop + Send + 'static,
+{
+    let mut handles = Vec::new(alloc);
+    let mut all = Tally::new();
+    for thread in running {
+        let (handle, tally) = thread.join(&rt);
+        all = all.plus(tally);
+        handles.push(handle)?;
+    }
+    Ok((handles, all))
+}
+
+/// Writes how many fetches a message has, and of the first one the key and how many want it.
+fn spell_size(text: &mut String, message: &Told) -> Result<(), Fail> {
+    match message {
+        Message::Fetch(items) => {
+            write!(text, "{}", items.len())?;
+            if let Some(item) = items.first() {
+                write!(text, " of {} for {}", item.key, item.subscribers.len())?;
+            }
+        }
+        Message::Retain(_) => write!(text, "retain")?,
+    }
+    writeln!(text)?;
+    Ok(())
+}
+
+/// Polls up to the end, and writes what the receiver gives.
+fn take_all<N: Naming, R: Wait + Drop>(
+    text: &mut String,
+    task: &MockTask,
+    receiver: &mut Receiver<u16, u16, (), All, N, R>,
+) -> Result<(), Fail> {
+    for _ in 0..1000_u64 {
+        match next(task, receiver) {
+            Poll::Ready(Some(message)) => spell_size(text, &message?)?,
+            Poll::Ready(None) => return Ok(writeln!(text, "end")?),
+            Poll::Pending => return Ok(writeln!(text, "pending")?),
+        }
+    }
+    Ok(())
+}
+
+/// How many puts stand after the first close of a book, and how many closes it has.
+fn after_the_close(book: &[Entry<u16, u16, (), All>]) -> (u64, u64) {
+    let mut puts = 0u64;
+    let mut closes = 0u64;
+    for entry in book {
+        match entry {
+            Entry::Put(_) if closes > 0 => puts = puts.saturating_add(1),
+            Entry::Close => closes = closes.saturating_add(1),
+            _ => {}
+        }
+    }
+    (puts, closes)
+}
+
+/// How many puts the shares of some handles hold.
+fn held<N: Naming, R>(handles: &[Handle<N, R>]) -> u64 {
+    let mut puts = 0u64;
+    for handle in handles {
+        if let Some(share) = handle.share() {
+            puts = puts.saturating_add(share.puts().len() as u64);
+        }
+    }
+    puts
+}
+
+/// What the threads were answered, and what is left of it.
+#[derive(Clone, Copy)]
+struct Found {
+    tally: Tally,
+    /// The puts in the shares of all handles.
+    held: u64,
+    /// The puts in the book, and how many of them stand after a close.
+    booked: u64,
+    after: u64,
+    closes: u64,
+}
+
+/// What the book says, which is lent for the shares of these handles.
+fn find<N: Naming, R: Wait>(
+    alloc: Global,
+    handles: &[Handle<N, R>],
+    receiver: &Receiver<u16, u16, (), All, N, R>,
+    tally: Tally,
+) -> Result<Found, Fault> {
+    let shares = shares_of(alloc, handles)?;
+    let book = receiver.book(alloc, shares.as_slice())?;
+    let (after, closes) = after_the_close(book.as_slice());
+    Ok(Found {
+        tally,
+        held: held(handles),
+        booked: puts_in(book.as_slice()),
+        after,
+        closes,
+    })
+}
+
+/// How a mailbox is used.
+#[derive(Clone, Copy)]
+struct Use {
+    capacity: usize,
+    ghost some: { 0 < capacity },
+    /// How often it is polled while the threads run.
+    polls: u64,
+    /// Whether it is closed once they are over.
+    closes: bool,
+}
+
+/// A thread for each job over a recorded mailbox that is used so. Once the threads are over, the receiver
+/// takes what waits, which is written.
+fn run<N, R>(text: &mut String, rt: R, pages: Pages, jobs: &[Job], how: Use) -> Result<Found, Fail>
+where
+    N: Naming + Send + Sync + 'static,
+    R: Threads + Wait + RandomSource + AllocGlobal + Copy + Drop + Send + 'static,
+    requires recorded { N.is_recorded ≡ true }
+    requires puts { pages.puts.name ≡ N.puts }
+    requires takes { pages.takes.name ≡ N.takes }
+{
+    let alloc = *text.allocator();
+    let task = MockTask::new(&rt)?;
+    let (handle, mut receiver) = recorded::<u16, u16, (), All, N, R>(
+        rt,
+        alloc,
+        pages,
+        how.capacity,
+    )?;
+    let running = start_all(rt, alloc, &handle, jobs)?;
+    for _ in 0..how.polls {
+        let _ = next(&task, &mut receiver);
+    }
+    let (handles, tally) = join_all(rt, alloc, running)?;
+    if how.closes {
+        receiver.close();
+    }
+    take_all(text, &task, &mut receiver)?;
+    Ok(find(alloc, handles.as_slice(), &receiver, tally)?)
+}
+
+/// Fetches of this many keys from the first one on.
+fn keys(count: u16, key: u16) -> Job {
+    Job::Put(Puts {
+        count,
+        key,
+        subscriber: 1,
+        is_one_key: false,
+    })
+}
+
+#[test]
+fn the_book_holds_what_four_threads_put(rt: HostRuntime) -> Result<(), Fail> {
+    let mut text = String::new(rt.alloc());
+    let jobs = [
+        keys(250, 0),
+        keys(250, 1000),
+        keys(250, 2000),
+        keys(250, 3000),
+    ];
+    let how = Use {
+        capacity: 8,
+        polls: 500,
+        closes: false,
+    };
+    let found = run::<Brand, _>(&mut text, rt, Pages::new(), &jobs, how)?;
+    assert_eq!(rt;
+        (found.tally.wrong, found.held, found.booked),
+        (0, 1000, 1000)
+    );
+    Ok(())
+}
+
+/// Three threads put while a fourth closes, which is started after this many of them.
+fn closing_after(place: usize) -> [Job; 4] {
+    let mut jobs = [
+        keys(100, 0),
+        keys(100, 1000),
+        keys(100, 2000),
+        keys(100, 3000),
+    ];
+    if place < 4 {
+        jobs[place] = Job::Close;
+    }
+    jobs
+}
+
+#[test]
+fn closing(rt: HostRuntime) -> Result<(), Fail> {
+    let how = Use {
+        capacity: 1,
+        polls: 0,
+        closes: false,
+    };
+    for place in 0..4_usize {
+        let mut text = String::new(rt.alloc());
+        let jobs = closing_after(place);
+        let found = run::<Brand, _>(&mut text, rt, Pages::new(), &jobs, how)?;
+        let put = found.tally.ok.saturating_add(found.tally.backoff);
+        assert_eq!(rt; put.saturating_add(found.tally.closed), 300);
+        assert_eq!(rt;
+            (found.tally.wrong, found.held, found.booked),
+            (0, put, put)
+        );
+        assert_eq!(rt; (found.closes, found.after), (1, 0));
+        assert!(rt; text.as_str().ends_with("end\n"));
+    }
+    Ok(())
+}
+
+/// Five hundred fetches of key 7, for subscribers from this one on.
+fn five_hundred(subscriber: u16) -> Job {
+    Job::Put(Puts {
+        count: 500,
+        key: 7,
+        subscriber,
+        is_one_key: true,
+    })
+}
+
+#[test]
+fn full_desk(rt: HostRuntime) -> Result<(), Fail> {
+    let mut text = String::new(rt.alloc());
+    let jobs = [five_hundred(0), five_hundred(500)];
+    let how = Use {
+        capacity: 1,
+        polls: 0,
+        closes: true,
+    };
+    let found = run::<Brand, _>(&mut text, rt, Pages::new(), &jobs, how)?;
+    assert_eq!(rt; text.as_str(), "1 of 7 for 1\n1 of 7 for 999\nend\n");
+    assert_eq!(rt; (found.tally.ok, found.tally.backoff), (1, 999));
+    assert_eq!(rt;
+        (found.tally.wrong, found.held, found.booked),
+        (0, 1000, 1000)
+    );
+    assert_eq!(rt; (found.closes, found.after), (1, 0));
+    Ok(())
+}
