@@ -141,7 +141,7 @@ impl Twin {
         })
     }
 
-    /// What the second core was fed so far, by kind.
+    /// The checks, sends, credits and responses so far.
     pub fn counts(&self) -> Counts {
         self.counts
     }
