@@ -6,16 +6,8 @@
 //! the fault.
 #![tactic(auto)]
 
-mod endings;
-mod kept;
-mod opaque;
-mod peer;
-mod peers;
-mod print;
-mod replay;
-mod script;
-
-use endings::{Ending, Fault};
+use resolver_script::endings::{Ending, Fault};
+use resolver_script::replay;
 use std::io;
 use std::io::{BufReader, BufWriter};
 use std::process::ExitCode;

@@ -3,9 +3,9 @@ use Rattle.std.specs.Prelude.{ℕ, Bool, false, not, ◌&&◌, ◌||◌, ◌==�
 use Rattle.std.specs.Char.{is_ascii_digit}
 use Rattle.std.specs.List.{list_all, slice_split}
 use Rattle.std.specs.Str.Parse.{digits_value}
-use Rattle.resolver_replay.specs.declared.script.Unread.{Unread}
-use Rattle.resolver_replay.specs.declared.script.Unread.TheVariants.{Unreadable}
-use Rattle.resolver_replay.specs.declared.script.wrong.Why.TheVariants.{Above, Missing, NoList, NoNumber}
+use Rattle.resolver_script.specs.declared.script.Unread.{Unread}
+use Rattle.resolver_script.specs.declared.script.Unread.TheVariants.{Unreadable}
+use Rattle.resolver_script.specs.declared.script.wrong.Why.TheVariants.{Above, Missing, NoList, NoNumber}
 
 -- digits, of which 0 comes first only where it stands alone
 abbrev pub is_plain : List ℕ → Bool

@@ -4,9 +4,9 @@ ghost use Rattle.std.specs.Prelude.{◌≡◌, ◌≤◌, ◌<◌, ◌^◌, ◌�
 ghost use Rattle.std.specs.Option.{option_copied};
 ghost use Rattle.std.specs.Char.{is_ascii_digit};
 ghost use Rattle.std.specs.List.{list_all};
-ghost use Rattle.resolver_replay.specs.declared.script.Unread.TheVariants.{OutOfMemory, Unreadable};
-ghost use Rattle.resolver_replay.specs.declared.script.wrong.Why.TheVariants.{Zero};
-ghost use Rattle.resolver_replay.specs.Numbers.{is_plain, list_of, number_of, numbers_in, parts_of};
+ghost use Rattle.resolver_script.specs.declared.script.Unread.TheVariants.{OutOfMemory, Unreadable};
+ghost use Rattle.resolver_script.specs.declared.script.wrong.Why.TheVariants.{Zero};
+ghost use Rattle.resolver_script.specs.Numbers.{is_plain, list_of, number_of, numbers_in, parts_of};
 
 use crate::script::{Unread, Why};
 use bytes::Bytes;

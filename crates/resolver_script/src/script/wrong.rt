@@ -81,12 +81,12 @@ pub struct Wrong {
 
 impl Wrong {
     /// The line as a whole is wrong.
-    pub fn of_line(why: Why) -> Wrong {
+    pub(crate) fn of_line(why: Why) -> Wrong {
         Wrong { field: None, why }
     }
 
     /// This field is wrong, unless a character of the line says more.
-    pub fn found(line: &[u8], field: usize, why: Why) -> Wrong {
+    pub(crate) fn found(line: &[u8], field: usize, why: Why) -> Wrong {
         match wrong_byte(line) {
             Some(why) => Wrong::of_line(why),
             None => Wrong {

@@ -1,7 +1,7 @@
 //! The lines of a script.
 
 ghost use Rattle.std.specs.Prelude.{◌≡◌, ◌<◌, ◌^◌};
-ghost use Rattle.resolver_replay.specs.declared.script.Unread.TheVariants.{OutOfMemory};
+ghost use Rattle.resolver_script.specs.declared.script.Unread.TheVariants.{OutOfMemory};
 
 mod fields;
 mod inputs;

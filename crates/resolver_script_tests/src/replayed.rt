@@ -1,4 +1,9 @@
-use super::*;
+//! Scripts, and what they print.
+
+use resolver_script::endings::{Ending, Fault};
+use resolver_script::replay::run;
+use std::alloc::Global;
+use std::io::{BufReader, ErrorKind, Read, Write};
 use std::test::Fail;
 use std::{io, str};
 

@@ -192,6 +192,3 @@ impl Machine {
         }
     }
 }
-
-#[cfg(test)]
-mod tests;

@@ -1,8 +1,8 @@
 -- Which subscribers a line of a script keeps.
 use Rattle.std.specs.Prelude.{ℕ, Bool, not, ◌==◌}
 use Rattle.resolver.specs.declared.p2p.mocks.Key.{Key}
-use Rattle.resolver_replay.specs.declared.kept.Kept.{Kept}
-use Rattle.resolver_replay.specs.declared.kept.Kept.TheVariants.{Subscriber, AllBut}
+use Rattle.resolver_script.specs.declared.kept.Kept.{Kept}
+use Rattle.resolver_script.specs.declared.kept.Kept.TheVariants.{Subscriber, AllBut}
 
 abbrev pub is_kept : Kept → Key → ℕ → Bool
 is_kept (Subscriber kept) key subscriber = subscriber == kept

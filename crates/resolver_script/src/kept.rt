@@ -1,7 +1,7 @@
 //! Which subscribers a line of a script keeps.
 
 ghost use Rattle.std.proofs.Common.{rules};
-ghost use Rattle.resolver_replay.specs.Kept.{is_kept};
+ghost use Rattle.resolver_script.specs.Kept.{is_kept};
 
 use resolver::base::{Faithful, Predicate};
 use resolver::p2p::mocks::Key;

@@ -1,7 +1,7 @@
 //! How a script ends.
 
 ghost use Rattle.std.specs.Prelude.{◌≡◌};
-ghost use Rattle.resolver_replay.specs.declared.endings.Fault.TheVariants.{Memory};
+ghost use Rattle.resolver_script.specs.declared.endings.Fault.TheVariants.{Memory};
 
 use crate::script::Wrong;
 use std::alloc::{AllocError, AllocFailed};
@@ -45,10 +45,13 @@ impl Ending {
 /// Why a script could not be read to its end.
 #[derive(Clone, Copy, Debug, PartialEq, Eq, Error)]
 pub enum Fault {
+    /// A read failed.
     #[error("input")]
     Input,
+    /// A write failed.
     #[error("output")]
     Output,
+    /// Memory was wanting outside the machine.
     #[error("memory")]
     Memory,
 }
@@ -70,7 +73,7 @@ impl<T: Drop> From<AllocFailed<T>> for Fault {
 }
 
 /// What an error of the output is.
-pub fn written(done: io::Result<()>) -> Result<(), Fault> {
+pub(crate) fn written(done: io::Result<()>) -> Result<(), Fault> {
     done.map_err(|error| match error.kind() {
         ErrorKind::OutOfMemory => Fault::Memory,
         _ => Fault::Output,

@@ -7,8 +7,8 @@ use Rattle.std.specs.List.{list_all}
 use Rattle.std.specs.Option.{option_copied}
 use Rattle.std.specs.Str.{all_ascii_digits}
 use Rattle.std.specs.Str.Parse.{digits_value}
-use Rattle.resolver_replay.specs.Numbers.{is_plain}
-use Rattle.resolver_replay.proofs.script.fields.number.Goals as goal
+use Rattle.resolver_script.specs.Numbers.{is_plain}
+use Rattle.resolver_script.proofs.script.fields.number.Goals as goal
 
 all-digits : (ds : List ℕ) → list_all is_ascii_digit ds ≡ all_ascii_digits ds
 all-digits [] = refl

@@ -4,11 +4,11 @@ use Rattle.std.proofs.lemmas.List.Folds.{list_all-map, list_all_at}
 use Rattle.std.proofs.lemmas.Simd.{map-map}
 use Rattle.std.specs.List.{list_all}
 use Rattle.std.specs.Str.Parse.{digits_value}
-use Rattle.resolver_replay.specs.Numbers.{is_number, number_in, numbers_in}
-use Rattle.resolver_replay.specs.declared.script.Unread.{Unread}
-use Rattle.resolver_replay.specs.declared.script.Unread.TheVariants.{Unreadable}
-use Rattle.resolver_replay.specs.declared.script.wrong.Why.TheVariants.{NoList}
-use Rattle.resolver_replay.proofs.script.fields.numbers.Goals as goal
+use Rattle.resolver_script.specs.Numbers.{is_number, number_in, numbers_in}
+use Rattle.resolver_script.specs.declared.script.Unread.{Unread}
+use Rattle.resolver_script.specs.declared.script.Unread.TheVariants.{Unreadable}
+use Rattle.resolver_script.specs.declared.script.wrong.Why.TheVariants.{NoList}
+use Rattle.resolver_script.proofs.script.fields.numbers.Goals as goal
 
 -- what all parts write
 all_read : (parts : List (Bor (List ℕ))) (read : List ℕ) → list_all (λ part. is_number part.now 255) parts ≡ true → read ≡ map (λ part. digits_value 10 part.now) parts → numbers_in (map (λ part. part.now) parts) 255 ≡ Ok read

@@ -1,8 +1,8 @@
 use Rattle.std.proofs.Common.{◌≡◌, map, take, true}
 use Rattle.std.specs.List.{list_all}
 use Rattle.std.specs.Str.Parse.{digits_value}
-use Rattle.resolver_replay.specs.Numbers.{is_number}
-use Rattle.resolver_replay.proofs.script.fields.numbers.Given as goal
+use Rattle.resolver_script.specs.Numbers.{is_number}
+use Rattle.resolver_script.proofs.script.fields.numbers.Given as goal
 
 abbrev pub invariant-loop-part : goal.invariant-loop-part
 invariant-loop-part l = record {

@@ -1,0 +1,14 @@
+//! Scripts of inputs for a resolver's machine: what their lines say, what is fed for each, and what is
+//! printed for each effect.
+#![tactic(auto)]
+
+pub mod endings;
+mod kept;
+mod opaque;
+mod peer;
+mod peers;
+mod print;
+pub mod replay;
+mod script;
+
+pub use script::{Why, Wrong};
