@@ -1,6 +1,5 @@
-use crate::fakes::{Judge, Standing, Watch, Wrong};
+use crate::fakes::{Standing, Watch};
 use crate::names::{Below, Peer};
-use crate::world::spell_polled;
 use bytes::Bytes;
 use futures::Future;
 use futures::channel::{mpsc, oneshot};
@@ -9,13 +8,11 @@ use futures::test::MockTask;
 use resolver::base::Fault;
 use resolver::mailbox::Unrecorded;
 use resolver::opaque::{Fetcher, Loop, open};
-use resolver::p2p::mocks;
-use resolver::p2p::mocks::Key;
-use resolver::{Consumer, Ending, Fetch, Resolver, opaque};
-use std::alloc::{AllocGlobal, Global};
+use resolver::p2p::mocks::{Consumer, Key};
+use resolver::{Ending, Fetch, Resolver, opaque};
+use std::alloc::Global;
 use std::fmt::Write;
 use std::num::NonZeroUsize;
-use std::random::RandomSource;
 use std::sync::{Arc, Wait};
 use std::test::Fail;
 
@@ -67,28 +64,28 @@ impl Fetcher for Source {
     ghost pollable = { λ look. tt };
 }
 
+/// A consumer that takes everything.
+type Taker = Consumer<Key, Bytes, u16>;
+
 /// The loop of an actor over a source.
-type Looped<R, C> = Loop<Key, Bytes, u16, Below, R, Standing, Source, C>;
+type Looped<R> = Loop<Key, Bytes, u16, Below, R, Standing, Source, Taker>;
 
 /// What a test holds.
 #[derive(Drop)]
 struct Held<R> {
     resolver: opaque::Resolver<Key, u16, Peer, Below, Unrecorded, R>,
     looks: mpsc::UnboundedReceiver<(Key, oneshot::Sender<Option<Bytes>>)>,
+    taken: mpsc::UnboundedReceiver<(Key, Bytes)>,
     watch: Arc<Watch>,
 }
 
 /// An actor over a source, with a delay of 100.
-fn opened<R, C>(rt: R, alloc: Global, consumer: C) -> Result<(Held<R>, Looped<R, C>), Fault>
-where
-    R: Copy,
-    C: Consumer<Key = Key, Value = Bytes, Subscriber = u16> + Drop,
-    C::Outcome: Drop,
-{
+fn opened<R: Copy>(rt: R, alloc: Global) -> Result<(Held<R>, Looped<R>), Fault> {
     let Some(mailbox_size) = NonZeroUsize::new(4) else {
         return Err(Fault::OutOfRange);
     };
     let (sender, looks) = mpsc::unbounded(alloc)?;
+    let (consumer, taken) = Consumer::new(alloc)?;
     let watch = Arc::new(alloc, Watch::new())?;
     let clock = Standing {
         watch: Arc::try_clone(&watch)?,
@@ -101,6 +98,7 @@ where
     let held = Held {
         resolver,
         looks,
+        taken,
         watch,
     };
     Ok((held, looped))
@@ -108,12 +106,7 @@ where
 
 /// Polls the loop, and once more where it was woken in that poll: what is new in a set of futures wakes
 /// the task that polls it.
-fn settle<R, C>(task: &MockTask, looped: &mut Looped<R, C>) -> Poll<Ending>
-where
-    R: Wait + Copy + Drop,
-    C: Consumer<Key = Key, Value = Bytes, Subscriber = u16> + Drop,
-    C::Outcome: Drop,
-{
+fn settle<R: Wait + Copy + Drop>(task: &MockTask, looped: &mut Looped<R>) -> Poll<Ending> {
     let polled = task.enter(|cx| looped.poll(cx));
     if polled.is_pending() && task.is_woken() {
         return task.enter(|cx| looped.poll(cx));
@@ -122,20 +115,23 @@ where
 }
 
 /// Polls the loop, writes what became of it, and answers the looks that it began.
-fn turn<R, C>(
+fn turn<R: Wait + Copy + Drop>(
     text: &mut String,
     task: &MockTask,
-    looped: &mut Looped<R, C>,
+    looped: &mut Looped<R>,
     held: &mut Held<R>,
     answer: Option<Bytes>,
-) -> Result<(), Fail>
-where
-    R: Wait + Copy + Drop,
-    C: Consumer<Key = Key, Value = Bytes, Subscriber = u16> + Drop,
-    C::Outcome: Drop,
-{
+) -> Result<(), Fail> {
     let polled = settle(task, looped);
-    spell_polled(text, polled, task.is_woken())?;
+    if let Ok((key, value)) = held.taken.try_recv() {
+        writeln!(text, "took {} of {} bytes", key.0, value.len())?;
+    }
+    match polled {
+        Poll::Ready(Ending::Complete) => writeln!(text, "complete")?,
+        Poll::Ready(_) => writeln!(text, "refused")?,
+        Poll::Pending if task.is_woken() => writeln!(text, "busy")?,
+        Poll::Pending => writeln!(text, "-")?,
+    }
     if let Ok((key, look)) = held.looks.try_recv() {
         writeln!(text, "look {}", key.0)?;
         let _ = look.send(answer);
@@ -143,28 +139,20 @@ where
     Ok(())
 }
 
-/// A fetch of key 1.
-fn wanted() -> Fetch<Key, u16> {
-    Fetch {
-        key: Key(1),
-        subscriber: 10,
-        mark: 7,
-    }
-}
-
-/// A consumer that takes everything, and tells its test.
-type Taker = mocks::Consumer<Key, Bytes, u16>;
-
 /// The source has nothing at first, and a value after the retry delay.
 fn retried<R: Wait + Copy + Drop + Send + 'static>(
     text: &mut String,
     task: &MockTask,
-    looped: &mut Looped<R, Taker>,
+    looped: &mut Looped<R>,
     held: &mut Held<R>,
-    taken: &mut mpsc::UnboundedReceiver<(Key, Bytes)>,
 ) -> Result<(), Fail> {
     let value = Bytes::from_static(b"hi");
-    held.resolver.fetch(wanted())?;
+    let wanted = Fetch {
+        key: Key(1),
+        subscriber: 10,
+        mark: 7,
+    };
+    held.resolver.fetch(wanted)?;
     turn(text, task, looped, held, None)?;
     turn(text, task, looped, held, None)?;
     held.watch.put(99);
@@ -172,9 +160,6 @@ fn retried<R: Wait + Copy + Drop + Send + 'static>(
     held.watch.put(100);
     turn(text, task, looped, held, Some(value))?;
     turn(text, task, looped, held, None)?;
-    if let Ok((key, value)) = taken.try_recv() {
-        writeln!(text, "took {} of {} bytes", key.0, value.len())?;
-    }
     held.resolver.close();
     turn(text, task, looped, held, None)
 }
@@ -183,9 +168,8 @@ fn retried<R: Wait + Copy + Drop + Send + 'static>(
 fn a_source_is_asked_again_after_the_delay(rt: HostRuntime) -> Result<(), Fail> {
     let task = MockTask::new(&rt)?;
     let mut text = String::new(rt.alloc());
-    let (consumer, mut taken) = Taker::new(rt.alloc())?;
-    let (mut held, mut looped) = opened(rt, rt.alloc(), consumer)?;
-    retried(&mut text, &task, &mut looped, &mut held, &mut taken)?;
+    let (mut held, mut looped) = opened(rt, rt.alloc())?;
+    retried(&mut text, &task, &mut looped, &mut held)?;
     assert_eq!(rt;
         text.as_str(),
         "-
@@ -194,67 +178,10 @@ look 1
 -
 -
 look 1
--
 took 1 of 2 bytes
+-
 complete
 "
     );
-    Ok(())
-}
-
-/// A key is asked for, and its mailbox closed if it is to be. The source has a value. Writes what becomes
-/// of that, and what one more fetch is answered.
-fn looked<R: Wait + Copy + Drop + Send + 'static>(
-    text: &mut String,
-    task: &MockTask,
-    looped: &mut Looped<R, Judge>,
-    held: &mut Held<R>,
-    closes: bool,
-) -> Result<(), Fail> {
-    let value = Bytes::from_static(b"hi");
-    held.resolver.fetch(wanted())?;
-    if closes {
-        held.resolver.close();
-    }
-    turn(text, task, looped, held, Some(value))?;
-    if !closes {
-        turn(text, task, looped, held, None)?;
-    }
-    writeln!(text, "{:?}", held.resolver.fetch(wanted())?)?;
-    Ok(())
-}
-
-/// The same in an actor of its own, with a consumer that has no memory.
-fn look_without_memory<R>(rt: R, closes: bool) -> Result<String, Fail>
-where
-    R: Wait + RandomSource + AllocGlobal + Copy + Drop + Send + 'static,
-{
-    let task = MockTask::new(&rt)?;
-    let mut text = String::new(rt.alloc());
-    let (told, _seen) = mpsc::unbounded(rt.alloc())?;
-    let (verdicts, _senders) = mpsc::unbounded(rt.alloc())?;
-    let consumer = Judge {
-        alloc: rt.alloc(),
-        told,
-        wrong: Wrong::Consumer,
-        verdicts,
-    };
-    let (mut held, mut looped) = opened(rt, rt.alloc(), consumer)?;
-    looked(&mut text, &task, &mut looped, &mut held, closes)?;
-    Ok(text)
-}
-
-/// What was put before the close is still taken, and looked for.
-#[test]
-fn the_mailbox_is_closed_and_nothing_waits(rt: HostRuntime) -> Result<(), Fail> {
-    let text = look_without_memory(rt, true)?;
-    assert_eq!(rt; text.as_str(), "complete\nlook 1\nClosed\n");
-    Ok(())
-}
-
-#[test]
-fn the_consumer_answers_1(rt: HostRuntime) -> Result<(), Fail> {
-    let text = look_without_memory(rt, false)?;
-    assert_eq!(rt; text.as_str(), "-\nlook 1\nOutOfMemory\nClosed\n");
     Ok(())
 }
