@@ -1,4 +1,5 @@
-use crate::world::{Looped, World, into_loop, make_world, turn};
+use crate::fakes::Wrong;
+use crate::world::{Looped, Setting, World, into_loop, make_world, turn};
 use futures::test::MockTask;
 use resolver::{Outcome, Resolution};
 use std::fmt::Write;
@@ -93,7 +94,7 @@ complete
 fn every_input_every_effect(rt: HostRuntime) -> Result<(), Fail> {
     let task = MockTask::new(&rt)?;
     let mut text = String::new(rt.alloc());
-    let (mut world, engine, lent) = make_world(rt, rt.alloc())?;
+    let (mut world, engine, lent) = make_world(rt, rt.alloc(), Setting::with(Wrong::Nothing))?;
     let mut looped = into_loop(engine, lent)?;
     every_input(&mut text, &task, &mut looped, &mut world)?;
     assert_eq!(rt; text.as_str(), SEEN);
@@ -124,7 +125,7 @@ fn join_late<R: Wait + Copy + Drop + Send + 'static>(
 fn a_late_subscriber_gets_the_same_response(rt: HostRuntime) -> Result<(), Fail> {
     let task = MockTask::new(&rt)?;
     let mut text = String::new(rt.alloc());
-    let (mut world, engine, lent) = make_world(rt, rt.alloc())?;
+    let (mut world, engine, lent) = make_world(rt, rt.alloc(), Setting::with(Wrong::Nothing))?;
     let mut looped = into_loop(engine, lent)?;
     join_late(&mut text, &task, &mut looped, &mut world)?;
     assert_eq!(rt;

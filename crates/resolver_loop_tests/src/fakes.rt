@@ -12,7 +12,7 @@ use futures::channel::{mpsc, oneshot};
 use futures::spin::lock;
 use futures::task::{Context, Poll, Source, Waker};
 use resolver::base::{
-    Blocker, Check, Clock, Draws, Fault, Feedback, Provider, Receiver, Sender, Unreliable,
+    Blocker, Check, Clock, Draws, Fault, Feedback, Provider, Receiver, Seeded, Sender, Unreliable,
 };
 use resolver::p2p::Producer;
 use resolver::p2p::mocks::Key;
@@ -20,12 +20,60 @@ use resolver::{Consumer, Delivery, Outcome};
 use std::alloc::Global;
 use std::sync::{Arc, Mutex};
 
+/// What goes wrong around an engine. Checks and sends are counted from 1.
+#[derive(Clone, Copy, Debug, PartialEq, Eq)]
+pub enum Wrong {
+    Nothing,
+    /// The consumer has no memory.
+    Consumer,
+    /// The producer has no memory.
+    Producer,
+    /// So many checks, from the first of these on, say that the peer is to wait for this moment.
+    Checks { first: u64, count: u64, until: u64 },
+    /// So many sends, from the first of these on, are refused.
+    Sends { first: u64, count: u64 },
+    /// Every send is refused whose number is a multiple of seven.
+    Sevenths,
+}
+
+impl Wrong {
+    /// What the check of this number says.
+    fn check(self, number: u64) -> Check {
+        match self {
+            Wrong::Checks {
+                first,
+                count,
+                until,
+            } if is_in(number, first, count) => Check::Until(until as u128),
+            _ => Check::Clear,
+        }
+    }
+
+    /// Whether the send of this number is refused.
+    fn is_refused(self, number: u64) -> bool {
+        match self {
+            Wrong::Sends { first, count } => is_in(number, first, count),
+            Wrong::Sevenths => number % 7 == 0,
+            _ => false,
+        }
+    }
+}
+
+/// Whether a number is one of so many from the first one on.
+fn is_in(number: u64, first: u64, count: u64) -> bool {
+    number >= first && number - first < count
+}
+
 /// What the fakes are asked.
 #[derive(Drop)]
 pub enum Seen {
     Drew(u128),
     Checked(Peer),
+    /// A check that was answered by a moment.
+    Limited(Peer),
     Sent(Peer, Bytes),
+    /// A send that was refused.
+    Refused(Peer, Bytes),
     Delivered(Delivery<Key, u16>, Bytes),
     Produced(Key),
     Blocked(Peer),
@@ -69,36 +117,66 @@ impl Receiver for Given<(Peer, Bytes)> {
     }
 }
 
-/// A way to the peers that takes everything.
+/// A way to the peers that takes everything but what goes wrong.
 #[derive(Drop)]
 pub struct Wire {
-    pub told: Told,
+    told: Told,
+    wrong: Wrong,
+    checks: u64,
+    sends: u64,
+}
+
+impl Wire {
+    /// Returns a wire on which nothing was checked or sent yet.
+    pub fn new(told: Told, wrong: Wrong) -> Wire {
+        Wire {
+            told,
+            wrong,
+            checks: 0,
+            sends: 0,
+        }
+    }
 }
 
 impl Sender for Wire {
     type PublicKey = Peer;
 
     fn check(&mut self, peer: &Peer) -> Check {
-        let _ = self.told.unbounded_send(Seen::Checked(*peer));
-        Check::Clear
+        self.checks = self.checks.saturating_add(1);
+        let check = self.wrong.check(self.checks);
+        let seen = match check {
+            Check::Clear => Seen::Checked(*peer),
+            Check::Until(_) => Seen::Limited(*peer),
+        };
+        let _ = self.told.unbounded_send(seen);
+        check
     }
 
     fn send(&mut self, peer: &Peer, message: Bytes, _priority: bool) -> Unreliable {
+        self.sends = self.sends.saturating_add(1);
+        if self.wrong.is_refused(self.sends) {
+            let _ = self.told.unbounded_send(Seen::Refused(*peer, message));
+            return Unreliable::Rejected;
+        }
         let _ = self.told.unbounded_send(Seen::Sent(*peer, message));
         Unreliable::Outcome(Feedback::Ok)
     }
 }
 
-/// Draws that are all 0.
+/// Draws that follow from a seed, or are all 0 where there is none.
 #[derive(Drop)]
-pub struct Zeros {
+pub struct Dice {
     pub told: Told,
+    pub seeded: Option<Seeded>,
 }
 
-impl Draws for Zeros {
+impl Draws for Dice {
     fn below(&mut self, n: u128) -> u128 {
         let _ = self.told.unbounded_send(Seen::Drew(n));
-        0
+        match &mut self.seeded {
+            Some(seeded) => seeded.below(n),
+            None => 0,
+        }
     }
 }
 
@@ -107,6 +185,7 @@ impl Draws for Zeros {
 pub struct Judge {
     pub alloc: Global,
     pub told: Told,
+    pub wrong: Wrong,
     pub verdicts: mpsc::UnboundedSender<oneshot::Sender<Outcome>>,
 }
 
@@ -126,6 +205,9 @@ impl Consumer for Judge {
     ) -> Result<oneshot::Receiver<Outcome>, Fault>
         ensures only { IfErr result (λ fault. fault ≡ OutOfMemory) }
     {
+        if self.wrong == Wrong::Consumer {
+            return Err(Fault::OutOfMemory);
+        }
         let (verdict, receiver) = oneshot::channel(self.alloc)?;
         let _ = self.told.unbounded_send(Seen::Delivered(delivery, value));
         let _ = self.verdicts.unbounded_send(verdict);
@@ -138,6 +220,7 @@ impl Consumer for Judge {
 pub struct Store {
     pub alloc: Global,
     pub told: Told,
+    pub wrong: Wrong,
     pub serves: mpsc::UnboundedSender<oneshot::Sender<Bytes>>,
 }
 
@@ -147,6 +230,9 @@ impl Producer for Store {
     fn produce(&mut self, key: Key) -> Result<oneshot::Receiver<Bytes>, Fault>
         ensures only { IfErr result (λ fault. fault ≡ OutOfMemory) }
     {
+        if self.wrong == Wrong::Producer {
+            return Err(Fault::OutOfMemory);
+        }
         let (serve, receiver) = oneshot::channel(self.alloc)?;
         let _ = self.told.unbounded_send(Seen::Produced(key));
         let _ = self.serves.unbounded_send(serve);
@@ -157,6 +243,8 @@ impl Producer for Store {
 #[derive(Drop)]
 struct Time {
     now: u64,
+    /// The last moment that was waited for.
+    awaited: Option<u128>,
     waker: Option<Waker>,
 }
 
@@ -168,11 +256,13 @@ pub struct Watch {
 }
 
 impl Watch {
+    /// Returns a watch that stands at 0.
     pub fn new() -> Watch {
         Watch {
             changed: Source::new(),
             time: Mutex::new(Time {
                 now: 0,
+                awaited: None,
                 waker: None,
             }),
         }
@@ -189,6 +279,17 @@ impl Watch {
             None => None,
         };
         drop(woken);
+    }
+
+    /// The last moment that was waited for since this was asked, if there was any.
+    pub fn awaited(&self) -> Option<u128> {
+        match lock(&self.time) {
+            Some(mut guard) => {
+                let time = &mut *guard;
+                time.awaited.take()
+            }
+            None => None,
+        }
     }
 }
 
@@ -214,6 +315,7 @@ impl Clock for Standing {
         if time.now as u128 >= moment {
             return Poll::Ready(());
         }
+        time.awaited = Some(moment);
         cx.register(&self.watch.changed, &mut time.waker)
     }
 }

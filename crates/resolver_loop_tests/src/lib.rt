@@ -3,12 +3,26 @@
 #![tactic(auto)]
 
 #[cfg(test)]
+mod acts;
+#[cfg(test)]
+mod closing;
+#[cfg(test)]
 mod every;
+#[cfg(test)]
+mod failing;
 #[cfg(test)]
 mod fakes;
 #[cfg(test)]
 mod names;
 #[cfg(test)]
+mod pair;
+#[cfg(test)]
+mod scan;
+#[cfg(test)]
 mod source;
+#[cfg(test)]
+mod twin;
+#[cfg(test)]
+mod two_engines;
 #[cfg(test)]
 mod world;

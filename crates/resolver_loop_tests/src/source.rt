@@ -1,5 +1,6 @@
-use crate::fakes::{Standing, Watch};
+use crate::fakes::{Judge, Seen, Standing, Watch, Wrong};
 use crate::names::{Below, Peer};
+use crate::world::{judge, spell_polled, spell_told, wanted};
 use bytes::Bytes;
 use futures::Future;
 use futures::channel::{mpsc, oneshot};
@@ -8,11 +9,12 @@ use futures::test::MockTask;
 use resolver::base::Fault;
 use resolver::mailbox::Unrecorded;
 use resolver::opaque::{Fetcher, Loop, open};
-use resolver::p2p::mocks::{Consumer, Key};
-use resolver::{Ending, Fetch, Resolver, opaque};
-use std::alloc::Global;
+use resolver::p2p::mocks::Key;
+use resolver::{Ending, Outcome, Resolution, Resolver, opaque};
+use std::alloc::{AllocGlobal, Global};
 use std::fmt::Write;
 use std::num::NonZeroUsize;
+use std::random::RandomSource;
 use std::sync::{Arc, Wait};
 use std::test::Fail;
 
@@ -64,28 +66,36 @@ impl Fetcher for Source {
     ghost pollable = { λ look. tt };
 }
 
-/// A consumer that takes everything.
-type Taker = Consumer<Key, Bytes, u16>;
-
 /// The loop of an actor over a source.
-type Looped<R> = Loop<Key, Bytes, u16, Below, R, Standing, Source, Taker>;
+type Looped<R> = Loop<Key, Bytes, u16, Below, R, Standing, Source, Judge>;
 
-/// What a test holds.
+/// A handle of its mailbox.
+type Asked<R> = opaque::Resolver<Key, u16, Peer, Below, Unrecorded, R>;
+
+/// Where a look is answered.
+type Looked = oneshot::Sender<Option<Bytes>>;
+
+/// What a test holds of what an actor is lent.
 #[derive(Drop)]
-struct Held<R> {
-    resolver: opaque::Resolver<Key, u16, Peer, Below, Unrecorded, R>,
-    looks: mpsc::UnboundedReceiver<(Key, oneshot::Sender<Option<Bytes>>)>,
-    taken: mpsc::UnboundedReceiver<(Key, Bytes)>,
+struct Held {
+    looks: mpsc::UnboundedReceiver<(Key, Looked)>,
+    verdicts: mpsc::UnboundedReceiver<oneshot::Sender<Outcome>>,
+    told: mpsc::UnboundedReceiver<Seen>,
     watch: Arc<Watch>,
 }
 
+/// What a test holds.
+#[derive(Drop)]
+struct Ends<R> {
+    resolver: Asked<R>,
+    held: Held,
+}
+
 /// An actor over a source, with a delay of 100.
-fn opened<R: Copy>(rt: R, alloc: Global) -> Result<(Held<R>, Looped<R>), Fault> {
-    let Some(mailbox_size) = NonZeroUsize::new(4) else {
-        return Err(Fault::OutOfRange);
-    };
+fn opened<R: Copy>(rt: R, alloc: Global, wrong: Wrong) -> Result<(Ends<R>, Looped<R>), Fault> {
     let (sender, looks) = mpsc::unbounded(alloc)?;
-    let (consumer, taken) = Consumer::new(alloc)?;
+    let (teller, told) = mpsc::unbounded(alloc)?;
+    let (verdicts, consumer) = judge(alloc, &teller, wrong)?;
     let watch = Arc::new(alloc, Watch::new())?;
     let clock = Standing {
         watch: Arc::try_clone(&watch)?,
@@ -94,14 +104,60 @@ fn opened<R: Copy>(rt: R, alloc: Global) -> Result<(Held<R>, Looped<R>), Fault> 
         alloc,
         looks: sender,
     };
-    let (resolver, looped) = open(rt, alloc, clock, source, consumer, mailbox_size, 100)?;
+    let size = NonZeroUsize::MIN;
+    let (resolver, looped) = open(rt, alloc, clock, source, consumer, size, 100)?;
     let held = Held {
-        resolver,
         looks,
-        taken,
+        verdicts,
+        told,
         watch,
     };
-    Ok((held, looped))
+    Ok((Ends { resolver, held }, looped))
+}
+
+impl<R: Wait + Copy + Send + 'static> Ends<R> {
+    /// Subscriber wants key 1.
+    fn fetch(&mut self, subscriber: u16) -> Result<(), Fault> {
+        self.resolver.fetch(wanted(subscriber))?;
+        Ok(())
+    }
+
+    /// Subscribers from this one on are let go.
+    fn retain_below(&mut self, subscriber: u16) -> Result<(), Fault> {
+        self.resolver.retain(Below(subscriber))?;
+        Ok(())
+    }
+}
+
+impl Held {
+    /// The look that has begun, which is written.
+    fn look(&mut self, text: &mut String) -> Result<Option<Looked>, Fail> {
+        let Ok((key, look)) = self.looks.try_recv() else {
+            return Ok(None);
+        };
+        writeln!(text, "look {}", key.0)?;
+        Ok(Some(look))
+    }
+
+    /// Answers the look that has begun.
+    fn answer(&mut self, text: &mut String, value: Option<Bytes>) -> Result<(), Fail> {
+        if let Some(look) = self.look(text)? {
+            let _ = look.send(value);
+        }
+        Ok(())
+    }
+
+    /// The consumer says that what was delivered last is what was wanted.
+    fn complete(&mut self) {
+        if let Ok(verdict) = self.verdicts.try_recv() {
+            let _ = verdict.send(Outcome::Resolved(Resolution::Complete));
+        }
+    }
+
+    /// Writes what the consumer was asked since the last time.
+    fn spell(&mut self, text: &mut String) -> Result<(), Fail> {
+        spell_told(text, &mut self.told)
+    }
 }
 
 /// Polls the loop, and once more where it was woken in that poll: what is new in a set of futures wakes
@@ -114,29 +170,16 @@ fn settle<R: Wait + Copy + Drop>(task: &MockTask, looped: &mut Looped<R>) -> Pol
     polled
 }
 
-/// Polls the loop, writes what became of it, and answers the looks that it began.
+/// Polls the loop, and writes what the consumer was asked, and whether the loop waits, is busy or over.
 fn turn<R: Wait + Copy + Drop>(
     text: &mut String,
     task: &MockTask,
     looped: &mut Looped<R>,
-    held: &mut Held<R>,
-    answer: Option<Bytes>,
+    held: &mut Held,
 ) -> Result<(), Fail> {
     let polled = settle(task, looped);
-    if let Ok((key, value)) = held.taken.try_recv() {
-        writeln!(text, "took {} of {} bytes", key.0, value.len())?;
-    }
-    match polled {
-        Poll::Ready(Ending::Complete) => writeln!(text, "complete")?,
-        Poll::Ready(_) => writeln!(text, "refused")?,
-        Poll::Pending if task.is_woken() => writeln!(text, "busy")?,
-        Poll::Pending => writeln!(text, "-")?,
-    }
-    if let Ok((key, look)) = held.looks.try_recv() {
-        writeln!(text, "look {}", key.0)?;
-        let _ = look.send(answer);
-    }
-    Ok(())
+    held.spell(text)?;
+    spell_polled(text, polled, task.is_woken())
 }
 
 /// The source has nothing at first, and a value after the retry delay.
@@ -144,44 +187,138 @@ fn retried<R: Wait + Copy + Drop + Send + 'static>(
     text: &mut String,
     task: &MockTask,
     looped: &mut Looped<R>,
-    held: &mut Held<R>,
+    ends: &mut Ends<R>,
 ) -> Result<(), Fail> {
-    let value = Bytes::from_static(b"hi");
-    let wanted = Fetch {
-        key: Key(1),
-        subscriber: 10,
-        mark: 7,
-    };
-    held.resolver.fetch(wanted)?;
-    turn(text, task, looped, held, None)?;
-    turn(text, task, looped, held, None)?;
-    held.watch.put(99);
-    turn(text, task, looped, held, None)?;
-    held.watch.put(100);
-    turn(text, task, looped, held, Some(value))?;
-    turn(text, task, looped, held, None)?;
-    held.resolver.close();
-    turn(text, task, looped, held, None)
+    ends.fetch(10)?;
+    turn(text, task, looped, &mut ends.held)?;
+    ends.held.answer(text, None)?;
+    turn(text, task, looped, &mut ends.held)?;
+    ends.held.watch.put(99);
+    turn(text, task, looped, &mut ends.held)?;
+    ends.held.watch.put(100);
+    turn(text, task, looped, &mut ends.held)?;
+    ends.held.answer(text, Some(Bytes::from_static(b"hi")))?;
+    turn(text, task, looped, &mut ends.held)?;
+    ends.held.complete();
+    turn(text, task, looped, &mut ends.held)
+}
+
+/// Two keys are let go: one that is asked, and one that is judged. Then the mailbox is closed.
+fn let_go<R: Wait + Copy + Drop + Send + 'static>(
+    text: &mut String,
+    task: &MockTask,
+    looped: &mut Looped<R>,
+    ends: &mut Ends<R>,
+) -> Result<(), Fail> {
+    ends.fetch(11)?;
+    turn(text, task, looped, &mut ends.held)?;
+    let look = ends.held.look(text)?;
+    ends.retain_below(11)?;
+    turn(text, task, looped, &mut ends.held)?;
+    writeln!(text, "given up {}", is_given_up(look))?;
+    ends.fetch(12)?;
+    turn(text, task, looped, &mut ends.held)?;
+    ends.held.answer(text, Some(Bytes::from_static(b"ok")))?;
+    turn(text, task, looped, &mut ends.held)?;
+    ends.retain_below(11)?;
+    turn(text, task, looped, &mut ends.held)?;
+    writeln!(
+        text,
+        "canceled {}",
+        is_given_up(ends.held.verdicts.try_recv().ok())
+    )?;
+    ends.resolver.close();
+    turn(text, task, looped, &mut ends.held)
+}
+
+/// Whether nobody waits for this answer any more.
+fn is_given_up<T: Drop>(answer: Option<oneshot::Sender<T>>) -> bool {
+    match answer {
+        Some(sender) => sender.is_canceled(),
+        None => false,
+    }
+}
+
+/// What the source and the consumer see, by the rules of the opaque machine: a line for each thing that
+/// they are asked, and one for each poll.
+const SEEN: &str = "-
+look 1
+-
+-
+-
+look 1
+deliver 1 to 10 x6869
+-
+-
+-
+look 1
+-
+given up true
+-
+look 1
+deliver 1 to 12 x6f6b
+-
+-
+canceled true
+complete
+";
+
+#[test]
+fn every_input_every_effect_of_the_actor(rt: HostRuntime) -> Result<(), Fail> {
+    let task = MockTask::new(&rt)?;
+    let mut text = String::new(rt.alloc());
+    let (mut ends, mut looped) = opened(rt, rt.alloc(), Wrong::Nothing)?;
+    retried(&mut text, &task, &mut looped, &mut ends)?;
+    let_go(&mut text, &task, &mut looped, &mut ends)?;
+    assert_eq!(rt; text.as_str(), SEEN);
+    Ok(())
+}
+
+/// A key is asked for, and its mailbox closed if it is to be. The source has a value. Writes what becomes
+/// of that, and what one more fetch is answered.
+fn looked<R: Wait + Copy + Drop + Send + 'static>(
+    text: &mut String,
+    task: &MockTask,
+    looped: &mut Looped<R>,
+    ends: &mut Ends<R>,
+    closes: bool,
+) -> Result<(), Fail> {
+    ends.fetch(10)?;
+    if closes {
+        ends.resolver.close();
+    }
+    turn(text, task, looped, &mut ends.held)?;
+    ends.held.answer(text, Some(Bytes::from_static(b"hi")))?;
+    if !closes {
+        turn(text, task, looped, &mut ends.held)?;
+    }
+    writeln!(text, "{:?}", ends.resolver.fetch(wanted(10))?)?;
+    Ok(())
+}
+
+/// The same in an actor of its own, with a consumer that has no memory.
+fn look_without_memory<R>(rt: R, closes: bool) -> Result<String, Fail>
+where
+    R: Wait + RandomSource + AllocGlobal + Copy + Drop + Send + 'static,
+{
+    let task = MockTask::new(&rt)?;
+    let mut text = String::new(rt.alloc());
+    let (mut ends, mut looped) = opened(rt, rt.alloc(), Wrong::Consumer)?;
+    looked(&mut text, &task, &mut looped, &mut ends, closes)?;
+    Ok(text)
+}
+
+/// What was put before the close is still taken, and looked for.
+#[test]
+fn the_mailbox_is_closed_and_nothing_waits(rt: HostRuntime) -> Result<(), Fail> {
+    let text = look_without_memory(rt, true)?;
+    assert_eq!(rt; text.as_str(), "complete\nlook 1\nClosed\n");
+    Ok(())
 }
 
 #[test]
-fn a_source_is_asked_again_after_the_delay(rt: HostRuntime) -> Result<(), Fail> {
-    let task = MockTask::new(&rt)?;
-    let mut text = String::new(rt.alloc());
-    let (mut held, mut looped) = opened(rt, rt.alloc())?;
-    retried(&mut text, &task, &mut looped, &mut held)?;
-    assert_eq!(rt;
-        text.as_str(),
-        "-
-look 1
--
--
--
-look 1
-took 1 of 2 bytes
--
-complete
-"
-    );
+fn the_consumer_answers_1(rt: HostRuntime) -> Result<(), Fail> {
+    let text = look_without_memory(rt, false)?;
+    assert_eq!(rt; text.as_str(), "-\nlook 1\nOutOfMemory\nClosed\n");
     Ok(())
 }

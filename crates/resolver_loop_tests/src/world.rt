@@ -1,12 +1,12 @@
 //! An engine's loop in memory, and what its test holds of it.
 
-use crate::fakes::{Given, Judge, Seen, Standing, Store, Told, Watch, Wire, Zeros};
+use crate::fakes::{Dice, Given, Judge, Seen, Standing, Store, Told, Watch, Wire, Wrong};
 use crate::names::{Below, Peer};
 use bytes::Bytes;
 use futures::channel::{mpsc, oneshot};
 use futures::task::Poll;
 use futures::test::MockTask;
-use resolver::base::{Fault, NonEmptyVec};
+use resolver::base::{Fault, Feedback, NonEmptyVec, Seeded};
 use resolver::mailbox::Unrecorded;
 use resolver::p2p::mocks::Key;
 use resolver::p2p::{Config, Engine, Loop, Mailbox};
@@ -17,7 +17,37 @@ use std::num::NonZeroUsize;
 use std::sync::{Arc, Wait};
 use std::test::Fail;
 
-/// The engine of a world, called 9, with a timeout of 50 and a delay of 10.
+/// What differs between worlds.
+#[derive(Clone, Copy, Debug)]
+pub struct Setting {
+    /// How the engine is called.
+    pub me: u8,
+    pub wrong: Wrong,
+    /// What its draws follow from: all are 0 where there is none.
+    pub seed: Option<u64>,
+}
+
+impl Setting {
+    /// An engine that is called 9, and draws 0.
+    pub fn with(wrong: Wrong) -> Setting {
+        Setting {
+            me: 9,
+            wrong,
+            seed: None,
+        }
+    }
+
+    /// Its draws.
+    pub fn dice(self, told: Told) -> Dice {
+        let seeded = match self.seed {
+            Some(seed) => Some(Seeded::new(seed)),
+            None => None,
+        };
+        Dice { told, seeded }
+    }
+}
+
+/// The engine of a world, with a timeout of 50 and a delay of 10.
 pub type Made<R> = Engine<
     Peer,
     Given<(u64, Vec<Peer>)>,
@@ -44,7 +74,7 @@ pub type Looped<R> = Loop<
     Wire,
     Given<(Peer, Bytes)>,
     Standing,
-    Zeros,
+    Dice,
 >;
 
 /// A handle of its mailbox.
@@ -67,6 +97,7 @@ pub struct World<R> {
 /// What a world's engine is lent besides.
 #[derive(Drop)]
 pub struct Lent {
+    pub setting: Setting,
     pub told: Told,
     pub incoming: mpsc::UnboundedReceiver<(Peer, Bytes)>,
     pub watch: Arc<Watch>,
@@ -111,15 +142,18 @@ fn make_sources(alloc: Global, told: &Told) -> Result<Sources, Fault> {
     })
 }
 
-fn judge(
+/// A consumer for a test, which gets the senders of the outcomes.
+pub fn judge(
     alloc: Global,
     told: &Told,
+    wrong: Wrong,
 ) -> Result<(mpsc::UnboundedReceiver<oneshot::Sender<Outcome>>, Judge), Fault> {
     let told = told.clone()?;
     let (verdicts, senders) = mpsc::unbounded(alloc)?;
     let judge = Judge {
         alloc,
         told,
+        wrong,
         verdicts,
     };
     Ok((senders, judge))
@@ -128,20 +162,22 @@ fn judge(
 fn store(
     alloc: Global,
     told: &Told,
+    wrong: Wrong,
 ) -> Result<(mpsc::UnboundedReceiver<oneshot::Sender<Bytes>>, Store), Fault> {
     let told = told.clone()?;
     let (serves, senders) = mpsc::unbounded(alloc)?;
     let store = Store {
         alloc,
         told,
+        wrong,
         serves,
     };
     Ok((senders, store))
 }
 
-fn make_hands(alloc: Global, told: &Told) -> Result<Hands, Fault> {
-    let (verdicts, consumer) = judge(alloc, told)?;
-    let (serves, producer) = store(alloc, told)?;
+fn make_hands(alloc: Global, told: &Told, wrong: Wrong) -> Result<Hands, Fault> {
+    let (verdicts, consumer) = judge(alloc, told, wrong)?;
+    let (serves, producer) = store(alloc, told, wrong)?;
     Ok(Hands {
         verdicts,
         serves,
@@ -154,10 +190,12 @@ fn make_hands(alloc: Global, told: &Told) -> Result<Hands, Fault> {
 fn make_lent(
     alloc: Global,
     told: Told,
+    setting: Setting,
 ) -> Result<(mpsc::UnboundedSender<(Peer, Bytes)>, Arc<Watch>, Lent), Fault> {
     let (network, incoming) = mpsc::unbounded(alloc)?;
     let watch = Arc::new(alloc, Watch::new())?;
     let lent = Lent {
+        setting,
         told,
         incoming,
         watch: Arc::try_clone(&watch)?,
@@ -165,10 +203,11 @@ fn make_lent(
     Ok((network, watch, lent))
 }
 
-/// An engine that is called 9, with a timeout of 50 and a delay of 10, and its mailbox.
+/// An engine with a timeout of 50 and a delay of 10, and its mailbox.
 fn made<R: Copy>(
     rt: R,
     alloc: Global,
+    me: u8,
     peers: (Given<(u64, Vec<Peer>)>, Given<Vec<Peer>>),
     hands: (Judge, Store),
 ) -> Result<(Made<R>, Asked<R>), Fault> {
@@ -178,7 +217,7 @@ fn made<R: Copy>(
         consumer: hands.0,
         producer: hands.1,
         mailbox_size: NonZeroUsize::MIN,
-        me: Some(Peer(9)),
+        me: Some(Peer(me)),
         fetch_timeout: 50,
         fetch_retry_delay: 10,
         priority_requests: false,
@@ -188,13 +227,23 @@ fn made<R: Copy>(
 }
 
 /// A world with its engine.
-pub fn make_world<R: Copy>(rt: R, alloc: Global) -> Result<(World<R>, Made<R>, Lent), Fault> {
+pub fn make_world<R: Copy>(
+    rt: R,
+    alloc: Global,
+    setting: Setting,
+) -> Result<(World<R>, Made<R>, Lent), Fault> {
     let (told, seen) = mpsc::unbounded(alloc)?;
     let sources = make_sources(alloc, &told)?;
-    let hands = make_hands(alloc, &told)?;
-    let (network, watch, lent) = make_lent(alloc, told)?;
+    let hands = make_hands(alloc, &told, setting.wrong)?;
+    let (network, watch, lent) = make_lent(alloc, told, setting)?;
     let peers = (sources.provider, sources.blocker);
-    let (engine, mailbox) = made(rt, alloc, peers, (hands.consumer, hands.producer))?;
+    let (engine, mailbox) = made(
+        rt,
+        alloc,
+        setting.me,
+        peers,
+        (hands.consumer, hands.producer),
+    )?;
     let world = World {
         alloc,
         mailbox,
@@ -212,18 +261,17 @@ pub fn make_world<R: Copy>(rt: R, alloc: Global) -> Result<(World<R>, Made<R>, L
 /// The loop of a world's engine.
 pub fn into_loop<R: Copy>(engine: Made<R>, lent: Lent) -> Result<Looped<R>, Fault> {
     let Lent {
+        setting,
         told,
         incoming,
         watch,
     } = lent;
-    let sender = Wire {
-        told: told.clone()?,
-    };
+    let sender = Wire::new(told.clone()?, setting.wrong);
     let receiver = Given {
         told: told.clone()?,
         given: incoming,
     };
-    engine.into_loop((sender, receiver), Standing { watch }, Zeros { told })
+    engine.into_loop((sender, receiver), Standing { watch }, setting.dice(told))
 }
 
 /// Peers by their numbers.
@@ -246,9 +294,8 @@ pub fn wanted(subscriber: u16) -> Fetch<Key, u16> {
 
 impl<R: Wait + Copy + Send + 'static> World<R> {
     /// Subscriber wants key 1.
-    pub fn fetch(&mut self, subscriber: u16) -> Result<(), Fault> {
-        self.mailbox.fetch(wanted(subscriber))?;
-        Ok(())
+    pub fn fetch(&mut self, subscriber: u16) -> Result<Feedback, Fault> {
+        self.mailbox.fetch(wanted(subscriber))
     }
 
     /// Subscriber wants key 1 of this peer.
@@ -305,14 +352,19 @@ impl<R> World<R> {
 
     /// Writes what the fakes were asked since the last time.
     pub fn spell(&mut self, text: &mut String) -> Result<(), Fail> {
-        for _ in 0..1000 {
-            let Ok(seen) = self.told.try_recv() else {
-                return Ok(());
-            };
-            spell_seen(text, &seen)?;
-        }
-        Ok(())
+        spell_told(text, &mut self.told)
     }
+}
+
+/// Writes what some fakes were asked since the last time.
+pub fn spell_told(text: &mut String, told: &mut mpsc::UnboundedReceiver<Seen>) -> Result<(), Fail> {
+    for _ in 0..100_000_u64 {
+        let Ok(seen) = told.try_recv() else {
+            return Ok(());
+        };
+        spell_seen(text, &seen)?;
+    }
+    Ok(())
 }
 
 fn spell_bytes(text: &mut String, bytes: &[u8]) -> Result<(), Fail> {
@@ -327,8 +379,13 @@ fn spell_seen(text: &mut String, seen: &Seen) -> Result<(), Fail> {
     match seen {
         Seen::Drew(below) => writeln!(text, "draw {below}")?,
         Seen::Checked(peer) => writeln!(text, "check {}", peer.0)?,
+        Seen::Limited(peer) => writeln!(text, "limit {}", peer.0)?,
         Seen::Sent(peer, bytes) => {
             write!(text, "send {} x", peer.0)?;
+            spell_bytes(text, bytes)?;
+        }
+        Seen::Refused(peer, bytes) => {
+            write!(text, "refuse {} x", peer.0)?;
             spell_bytes(text, bytes)?;
         }
         Seen::Delivered(delivery, value) => {
@@ -345,14 +402,30 @@ fn spell_seen(text: &mut String, seen: &Seen) -> Result<(), Fail> {
     Ok(())
 }
 
-/// Polls the loop, and once more where it was woken in that poll: what is new in a set of futures wakes
-/// the task that polls it.
-fn settle<R: Wait + Copy + Drop>(task: &MockTask, looped: &mut Looped<R>) -> Poll<Ending> {
-    let polled = task.enter(|cx| looped.poll(cx));
-    if polled.is_pending() && task.is_woken() {
-        return task.enter(|cx| looped.poll(cx));
+/// Polls the loop until it is over, or nothing is left for it: what is new in a set of futures wakes the
+/// task that polls it, and so does a loop that took many turns.
+pub fn settle<R: Wait + Copy + Drop>(task: &MockTask, looped: &mut Looped<R>) -> Poll<Ending> {
+    for _ in 0..1000_u64 {
+        let polled = task.enter(|cx| looped.poll(cx));
+        if polled.is_ready() || !task.is_woken() {
+            return polled;
+        }
     }
-    polled
+    Poll::Pending
+}
+
+/// Writes whether a loop waits, is busy or over, and then what its owner is told.
+pub fn spell_polled(text: &mut String, polled: Poll<Ending>, is_busy: bool) -> Result<(), Fail> {
+    let said = match polled {
+        Poll::Ready(ending) => match ending.into_result() {
+            Ok(()) => "complete",
+            Err(fault) => fault.name(),
+        },
+        Poll::Pending if is_busy => "busy",
+        Poll::Pending => "-",
+    };
+    writeln!(text, "{said}")?;
+    Ok(())
 }
 
 /// Polls the loop, and writes what the fakes were asked, and whether it waits, is busy or over.
@@ -364,11 +437,5 @@ pub fn turn<R: Wait + Copy + Drop>(
 ) -> Result<(), Fail> {
     let polled = settle(task, looped);
     world.spell(text)?;
-    match polled {
-        Poll::Ready(Ending::Complete) => writeln!(text, "complete")?,
-        Poll::Ready(_) => writeln!(text, "refused")?,
-        Poll::Pending if task.is_woken() => writeln!(text, "busy")?,
-        Poll::Pending => writeln!(text, "-")?,
-    }
-    Ok(())
+    spell_polled(text, polled, task.is_woken())
 }

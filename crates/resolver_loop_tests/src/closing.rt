@@ -1,0 +1,182 @@
+//! Sources that close, and parts that fail: what becomes of the engine's loop.
+
+use crate::acts::{Act, play};
+use crate::fakes::Wrong;
+use crate::world::Setting;
+use resolver::{Outcome, Resolution};
+use std::test::Fail;
+
+/// There is peer 3, and it is asked for key 1.
+const ASKED: [Act<'static>; 2] = [Act::Peers(1, &[3]), Act::Fetch(&[(1, 10)])];
+
+#[test]
+fn the_peer_set_source_closes(rt: HostRuntime) -> Result<(), Fail> {
+    let acts = [ASKED[0], ASKED[1], Act::ClosePeers];
+    let text = play(rt, Setting::with(Wrong::Nothing), &acts)?;
+    assert_eq!(rt;
+        text.as_str(),
+        "-
+draw 4
+draw 1
+check 3
+draw 18446744073709551616
+send 3 x00000000000000000001
+-
+complete
+Closed
+"
+    );
+    Ok(())
+}
+
+/// The last blocked set stays, and the loop goes on.
+#[test]
+fn the_blocked_source_closes(rt: HostRuntime) -> Result<(), Fail> {
+    let acts = [
+        Act::Peers(1, &[3, 4]),
+        Act::Block(&[3]),
+        Act::CloseBlocked,
+        Act::Fetch(&[(1, 10)]),
+        Act::Net(4, b"\0\0\0\0\0\0\0\0\x01\x02hi"),
+    ];
+    let text = play(rt, Setting::with(Wrong::Nothing), &acts)?;
+    assert_eq!(rt;
+        text.as_str(),
+        "-
+-
+-
+draw 4
+draw 1
+check 4
+draw 18446744073709551616
+send 4 x00000000000000000001
+-
+deliver 1 to 10 x6869
+-
+Ok
+"
+    );
+    Ok(())
+}
+
+#[test]
+fn the_receiver_closes(rt: HostRuntime) -> Result<(), Fail> {
+    let acts = [ASKED[0], ASKED[1], Act::CloseNetwork];
+    let text = play(rt, Setting::with(Wrong::Nothing), &acts)?;
+    assert_eq!(rt;
+        text.as_str(),
+        "-
+draw 4
+draw 1
+check 3
+draw 18446744073709551616
+send 3 x00000000000000000001
+-
+complete
+Closed
+"
+    );
+    Ok(())
+}
+
+/// What was put before the close is still taken, and asked for.
+#[test]
+fn the_mailbox_is_closed_and_nothing_waits(rt: HostRuntime) -> Result<(), Fail> {
+    let acts = [Act::Peers(1, &[3]), Act::LastFetch(&[(1, 10)])];
+    let text = play(rt, Setting::with(Wrong::Nothing), &acts)?;
+    assert_eq!(rt;
+        text.as_str(),
+        "-
+draw 4
+draw 1
+check 3
+draw 18446744073709551616
+send 3 x00000000000000000001
+complete
+Closed
+"
+    );
+    Ok(())
+}
+
+#[test]
+fn the_consumer_answers_1(rt: HostRuntime) -> Result<(), Fail> {
+    let response = Act::Net(3, b"\0\0\0\0\0\0\0\0\x01\x02hi");
+    let text = play(
+        rt,
+        Setting::with(Wrong::Consumer),
+        &[ASKED[0], ASKED[1], response],
+    )?;
+    assert_eq!(rt;
+        text.as_str(),
+        "-
+draw 4
+draw 1
+check 3
+draw 18446744073709551616
+send 3 x00000000000000000001
+-
+OutOfMemory
+Closed
+"
+    );
+    Ok(())
+}
+
+#[test]
+fn the_producer_answers_1(rt: HostRuntime) -> Result<(), Fail> {
+    let request = Act::Net(3, b"\0\0\0\0\0\0\0\x07\0\x05");
+    let text = play(rt, Setting::with(Wrong::Producer), &[ASKED[0], request])?;
+    assert_eq!(rt;
+        text.as_str(),
+        "-
+OutOfMemory
+Closed
+"
+    );
+    Ok(())
+}
+
+/// It isn't sent again; the next request under the same id has a reply of its own, and the loop goes on.
+#[test]
+fn the_send_of_a_reply_is_refused(rt: HostRuntime) -> Result<(), Fail> {
+    let request = Act::Net(3, b"\0\0\0\0\0\0\0\x07\0\x05");
+    let acts = [
+        ASKED[0],
+        request,
+        Act::Serve(b"ok"),
+        Act::At(1000),
+        request,
+        Act::Serve(b"no"),
+        ASKED[1],
+        Act::Net(3, b"\0\0\0\0\0\0\0\0\x01\x02hi"),
+        Act::Judge(Outcome::Resolved(Resolution::Complete)),
+    ];
+    let refused = Wrong::Sends { first: 1, count: 1 };
+    let text = play(rt, Setting::with(refused), &acts)?;
+    assert_eq!(rt;
+        text.as_str(),
+        "-
+produce 5
+-
+refuse 3 x000000000000000701026f6b
+-
+-
+produce 5
+-
+send 3 x000000000000000701026e6f
+-
+draw 4
+draw 1
+check 3
+draw 18446744073709551616
+send 3 x00000000000000000001
+-
+deliver 1 to 10 x6869
+-
+-
+Ok
+"
+    );
+    Ok(())
+}
