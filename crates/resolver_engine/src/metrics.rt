@@ -3,6 +3,9 @@
 ghost use Rattle.std.specs.Prelude.{◌≡◌};
 ghost use Rattle.resolver_engine.specs.Counted.{measured, no_tally, raised, uncounted, unmeasured};
 
+use std::fmt;
+use std::fmt::{Formatter, Write};
+
 /// How often each of four ends came. Each count stops at `u64::MAX`.
 #[derive(Clone, Copy, Debug, PartialEq, Eq)]
 pub struct Tally {
@@ -23,6 +26,15 @@ impl Tally {
             failure: 0,
             dropped: 0,
         }
+    }
+
+    /// A line for each count, under the name of what was counted.
+    fn expose<W: Write>(&self, f: &mut Formatter<W>, name: &str) -> fmt::Result {
+        writeln!(f, "# TYPE {name}_total counter")?;
+        writeln!(f, "{name}_total{{status=\"success\"}} {}", self.success)?;
+        writeln!(f, "{name}_total{{status=\"ambiguous\"}} {}", self.ambiguous)?;
+        writeln!(f, "{name}_total{{status=\"failure\"}} {}", self.failure)?;
+        writeln!(f, "{name}_total{{status=\"dropped\"}} {}", self.dropped)
     }
 }
 
@@ -50,6 +62,15 @@ impl Durations {
     {
         raise(&mut self.count, 1);
         self.nanoseconds = self.nanoseconds.saturating_add(nanoseconds);
+    }
+
+    /// Their sum in seconds, and how many there are.
+    fn expose<W: Write>(&self, f: &mut Formatter<W>, name: &str) -> fmt::Result {
+        let seconds = self.nanoseconds / 1_000_000_000;
+        let rest = self.nanoseconds % 1_000_000_000;
+        writeln!(f, "# TYPE {name}_seconds summary")?;
+        writeln!(f, "{name}_seconds_sum {seconds}.{rest:09}")?;
+        writeln!(f, "{name}_seconds_count {}", self.count)
     }
 }
 
@@ -100,6 +121,28 @@ impl Metrics {
             resolves: Durations::init(),
         }
     }
+}
+
+/// A line for each number, in Prometheus's text format: what a node hands to its scraper.
+impl fmt::Display for Metrics {
+    fn fmt<W: Write>(&self, f: &mut Formatter<W>) -> fmt::Result {
+        expose_gauge(f, "fetch_pending", self.fetch_pending)?;
+        expose_gauge(f, "fetch_active", self.fetch_active)?;
+        expose_gauge(f, "serve_processing", self.serve_processing)?;
+        self.fetch.expose(f, "fetch")?;
+        self.cancel.expose(f, "cancel")?;
+        self.serve.expose(f, "serve")?;
+        self.serve_duration.expose(f, "serve_duration")?;
+        self.fetch_duration.expose(f, "fetch_duration")?;
+        self.requests_sent.expose(f, "requests_sent")?;
+        self.resolves.expose(f, "resolves")
+    }
+}
+
+/// A number that goes up and down, under its name.
+fn expose_gauge<W: Write>(f: &mut Formatter<W>, name: &str, value: u64) -> fmt::Result {
+    writeln!(f, "# TYPE {name} gauge")?;
+    writeln!(f, "{name} {value}")
 }
 
 /// Counts some more.

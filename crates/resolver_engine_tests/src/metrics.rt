@@ -11,6 +11,7 @@ use resolver::p2p::mocks::Key;
 use resolver::p2p::{Core, Durations, Metrics, Tally};
 use resolver::{Outcome, Resolution};
 use std::alloc::Global;
+use std::fmt::Write;
 use std::process::Abort;
 use std::test::Fail;
 
@@ -613,4 +614,93 @@ fn refused_requests(rt: HostRuntime) -> Result<(), Fail> {
         ..UNCOUNTED
     };
     assert_counts(&rt, rt.alloc(), &[&given], expected)
+}
+
+/// Numbers that all differ.
+const COUNTED: Metrics = Metrics {
+    fetch_pending: 1,
+    fetch_active: 2,
+    serve_processing: 3,
+    fetch: Tally {
+        success: 4,
+        ambiguous: 5,
+        failure: 6,
+        dropped: 7,
+    },
+    cancel: Tally {
+        success: 8,
+        ambiguous: 0,
+        failure: 0,
+        dropped: 9,
+    },
+    serve: Tally {
+        success: 10,
+        ambiguous: 0,
+        failure: 11,
+        dropped: 0,
+    },
+    serve_duration: Durations {
+        count: 12,
+        nanoseconds: 1_000_000_005,
+    },
+    fetch_duration: Durations {
+        count: 0,
+        nanoseconds: 0,
+    },
+    requests_sent: Tally {
+        success: 13,
+        ambiguous: 0,
+        failure: 0,
+        dropped: 14,
+    },
+    resolves: Durations {
+        count: 15,
+        nanoseconds: u128::MAX,
+    },
+};
+
+/// The same in Prometheus's text format.
+const SCRAPED: &str = "# TYPE fetch_pending gauge
+fetch_pending 1
+# TYPE fetch_active gauge
+fetch_active 2
+# TYPE serve_processing gauge
+serve_processing 3
+# TYPE fetch_total counter
+fetch_total{status=\"success\"} 4
+fetch_total{status=\"ambiguous\"} 5
+fetch_total{status=\"failure\"} 6
+fetch_total{status=\"dropped\"} 7
+# TYPE cancel_total counter
+cancel_total{status=\"success\"} 8
+cancel_total{status=\"ambiguous\"} 0
+cancel_total{status=\"failure\"} 0
+cancel_total{status=\"dropped\"} 9
+# TYPE serve_total counter
+serve_total{status=\"success\"} 10
+serve_total{status=\"ambiguous\"} 0
+serve_total{status=\"failure\"} 11
+serve_total{status=\"dropped\"} 0
+# TYPE serve_duration_seconds summary
+serve_duration_seconds_sum 1.000000005
+serve_duration_seconds_count 12
+# TYPE fetch_duration_seconds summary
+fetch_duration_seconds_sum 0.000000000
+fetch_duration_seconds_count 0
+# TYPE requests_sent_total counter
+requests_sent_total{status=\"success\"} 13
+requests_sent_total{status=\"ambiguous\"} 0
+requests_sent_total{status=\"failure\"} 0
+requests_sent_total{status=\"dropped\"} 14
+# TYPE resolves_seconds summary
+resolves_seconds_sum 340282366920938463463374607431.768211455
+resolves_seconds_count 15
+";
+
+#[test]
+fn a_scraper_gets_a_line_for_each_number(rt: HostRuntime) -> Result<(), Fail> {
+    let mut text = String::new(rt.alloc());
+    write!(text, "{COUNTED}")?;
+    assert_eq!(rt; text.as_str(), SCRAPED);
+    Ok(())
 }
