@@ -1,7 +1,8 @@
 //! Fetching from one opaque source, which gives a value for a key or none.
 //!
 //! `Actor` is the machine: it takes inputs with their moments and answers with effects. `Resolver` is
-//! a handle of the mailbox of its loop, which `open` makes over a `Fetcher`.
+//! a handle of the mailbox of its loop, which `init` runs over a `Fetcher` in a thread; `open` gives the loop
+//! itself.
 
 pub use resolver_actor::opaque::{Actor, Effect, Event, Input, Phase, Row};
-pub use resolver_opaque::{Fetcher, Loop, Resolver, open};
+pub use resolver_opaque::{Fetcher, Loop, Resolver, init, open};

@@ -112,8 +112,8 @@ impl<
 
 impl<K, P, S, Q, N, R> Resolver for Mailbox<K, P, S, Q, N, R>
 where
-    K: Span + Faithful + Drop + 'static,
-    P: PublicKey + Faithful + Drop + 'static,
+    K: Span + Faithful + Drop + Send + 'static,
+    P: PublicKey + Faithful + Drop + Send + 'static,
     S: Ord + Faithful + Drop + Send + 'static,
     Q: Predicate<K, S> + Faithful + Drop + Send + 'static,
     N: Naming + Send + Sync + 'static,
@@ -150,8 +150,8 @@ where
 
 impl<K, P, S, Q, N, R> TargetedResolver for Mailbox<K, P, S, Q, N, R>
 where
-    K: Span + Faithful + Drop + 'static,
-    P: PublicKey + Faithful + Drop + 'static,
+    K: Span + Faithful + Drop + Send + 'static,
+    P: PublicKey + Faithful + Drop + Send + 'static,
     S: Ord + Faithful + Drop + Send + 'static,
     Q: Predicate<K, S> + Faithful + Drop + Send + 'static,
     N: Naming + Send + Sync + 'static,

@@ -97,7 +97,7 @@ impl<
 
 impl<K, S, P, Q, N, R> Asks for Resolver<K, S, P, Q, N, R>
 where
-    K: Span + Faithful + Drop + 'static,
+    K: Span + Faithful + Drop + Send + 'static,
     S: Ord + Faithful + Drop + Send + 'static,
     P: Send + 'static,
     Q: Predicate<K, S> + Faithful + Drop + Send + 'static,
@@ -133,9 +133,9 @@ where
 
 impl<K, S, P, Q, N, R> TargetedResolver for Resolver<K, S, P, Q, N, R>
 where
-    K: Span + Faithful + Drop + 'static,
+    K: Span + Faithful + Drop + Send + 'static,
     S: Ord + Faithful + Drop + Send + 'static,
-    P: PublicKey + Drop + 'static,
+    P: PublicKey + Drop + Send + 'static,
     Q: Predicate<K, S> + Faithful + Drop + Send + 'static,
     N: Naming + Send + Sync + 'static,
     R: Wait + Copy + Send + 'static,

@@ -1,9 +1,10 @@
 -- What is taken from what waits, in order.
-use Rattle.std.proofs.Common.{◌≡◌, ◌∙◌, sym, ap, refl, List, [], ◌∷◌, ◌++◌, Option, None, Some, map, append_assoc, length, ◌<◌, arith, subst}
+use Rattle.std.proofs.Common.{◌≡◌, ◌∙◌, sym, ap, refl, ℕ, List, [], ◌∷◌, ◌++◌, Option, None, Some, map, append_assoc, length, ◌<◌, arith, subst}
 use Rattle.std.specs.List.{FoldsTo}
 use Rattle.resolver_demand.specs.declared.ingress.Message.{Message}
 use Rattle.resolver_base.specs.Names.{Names}
 use Rattle.resolver_demand.specs.declared.ingress.FetchKey.{FetchKey}
+use Rattle.resolver_demand.proofs.Places.{placed-none}
 use Rattle.resolver_demand.specs.Backlog.{Backlog, Drains, Fetches, IsFiled, Item, Retains, Takes, Told, batch_told, item_of, keys_of_items, told_of, waiting}
 
 map-append : {A B : Type 0} (f : A → B) (xs ys : List A) → map f (xs ++ ys) ≡ map f xs ++ map f ys
@@ -75,8 +76,14 @@ keys-items [] = refl
 keys-items (fetch ∷ fetches) = ap (λ keys. fetch.key ∷ keys) (keys-items fetches)
 
 -- fetches that are the same are filed alike
-pub filed-again : {K S M : Type 0} (n : Names K S) (keys : List K) (fetches others : List (FetchKey K S M)) → map item_of fetches ≡ map item_of others → IsFiled n keys others → IsFiled n keys fetches
-filed-again n keys fetches others same filed = record {
-  keys_are = filed.keys_are ∙ keys-items others ∙ ap (map (λ item. item.key)) (sym same) ∙ sym (keys-items fetches);
-  apart = rw same filed.apart;
-}
+pub filed-again : {K S M : Type 0} (n : Names K S) (places : List (K × ℕ)) (fetches others : List (FetchKey K S M)) → map item_of fetches ≡ map item_of others → IsFiled n places others → IsFiled n places fetches
+filed-again n places fetches others same filed =
+    let keys : keys_of_items fetches ≡ keys_of_items others = keys-items fetches ∙ ap (map (λ item. item.key)) same ∙ sym (keys-items others) in
+    record {
+      placed = rw keys filed.placed;
+      apart = rw same filed.apart;
+    }
+
+-- and none
+pub filed-none : {K S M : Type 0} (n : Names K S) (places : List (K × ℕ)) (fetches : List (FetchKey K S M)) → places ≡ [] → fetches ≡ [] → IsFiled n places fetches
+filed-none n places fetches none empty = rw (none, empty) (record { placed = placed-none n.key; apart = tt })

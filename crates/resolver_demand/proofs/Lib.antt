@@ -7,3 +7,4 @@ pub mod Pruned
 pub mod Drained
 pub mod Fetched
 pub mod Placed
+pub mod Places

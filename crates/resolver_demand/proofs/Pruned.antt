@@ -1,8 +1,10 @@
 -- What is kept of a batch, one fetch after another.
-use Rattle.std.proofs.Common.{◌≡◌, ◌∙◌, sym, ap, refl, ◌<◌, Bool, true, false, ℕ, List, [], ◌∷◌, ◌++◌, append-nil, append_assoc, cond, length, map, filter, nat_lt, rules}
+use Rattle.std.proofs.Common.{◌≡◌, ◌∙◌, sym, ap, refl, ◌<◌, Bool, true, false, ℕ, List, [], ◌∷◌, ◌++◌, cond, length, map, filter, nat_lt, rules, subst}
 use Rattle.std.specs.Prelude.{◌||◌}
 use Rattle.std.specs.List.{list_any}
-use Rattle.indexmap.specs.IndexSet.{insert_all}
+use Rattle.std.specs.BTreeMap.{is_at}
+use Rattle.std.specs.Ordering.{is_eq}
+use Rattle.std.specs.declared.cmp.Ordering.{Ordering}
 use Rattle.resolver_base.specs.Names.{Names, same_key}
 use Rattle.resolver_demand.specs.declared.ingress.FetchKey.{FetchKey}
 use Rattle.resolver_demand.specs.Backlog.{IsApart, Item, has_subscribers, item_of, kept, keys_kept, keys_of_items, pruned}
@@ -50,40 +52,42 @@ module _ {K S M : Type 0} (n : Names K S) (keep : K → S → Bool) where
     cases absent after true = (absent, after)
     cases absent after false = after
 
-module _ {K S M : Type 0} (n : Names K S) (eq : K → K → Bool) (agree : (a b : K) → eq a b ≡ same_key n a b) (flips : (a b : K) → same_key n a b ≡ same_key n b a) where
-  -- none of the fetches has one of these keys
-  abbrev NoneIn : List K → List (Item K S M) → Type 0
-  NoneIn done [] = Unit {0}
-  NoneIn done (item ∷ items) = (list_any (eq item.key) done ≡ false) × NoneIn done items
+module _ {K : Type 0} where
+  -- where none passes, that one doesn't
+  fails-at : (t : K → Bool) (done : List K) (k : K) (rest : List K) → list_any t (done ++ k ∷ rest) ≡ false → t k ≡ false
+  fails-at t [] k rest h = split (t k) h where
+    split : (b : Bool) → (b || list_any t rest) ≡ false → b ≡ false
+    split true h = absurd (let wrong = h in cc)
+    split false h = refl
+  fails-at t (d ∷ done) k rest h = split (fails-at t done k rest) (t d) h where
+    split : (list_any t (done ++ k ∷ rest) ≡ false → t k ≡ false) → (b : Bool) → (b || list_any t (done ++ k ∷ rest)) ≡ false → t k ≡ false
+    split more true h = absurd (let wrong = h in cc)
+    split more false h = more h
 
-  none-push : (done : List K) (key : K) (items : List (Item K S M)) → NoneIn done items → list_any (λ (other : Item K S M). same_key n key other.key) items ≡ false → NoneIn (done ++ key ∷ []) items
-  none-push done key [] none absent = none
-  none-push done key (item ∷ items) none absent = cases (none-push done key items none.1) (same_key n key item.key) refl absent where
-    one-more : (ks : List K) → list_any (eq item.key) ks ≡ false → eq item.key key ≡ false → list_any (eq item.key) (ks ++ key ∷ []) ≡ false
-    one-more [] h g = rw g refl
-    one-more (k ∷ ks) h g = split (one-more ks) (eq item.key k) h where
-      split : (list_any (eq item.key) ks ≡ false → eq item.key key ≡ false → list_any (eq item.key) (ks ++ key ∷ []) ≡ false) → (b : Bool) → (b || list_any (eq item.key) ks) ≡ false → (b || list_any (eq item.key) (ks ++ key ∷ [])) ≡ false
-      split after true f = f
-      split after false f = after f g
+module _ {K : Type 0} (cmp : K → K → Ordering) where
+  -- no key stands twice
+  abbrev AreApart : List K → Type 0
+  AreApart [] = Unit {0}
+  AreApart (key ∷ keys) = (list_any (is_at (cmp key)) keys ≡ false) × AreApart keys
 
-    cases : (list_any (λ (other : Item K S M). same_key n key other.key) items ≡ false → NoneIn (done ++ key ∷ []) items) → (b : Bool) → same_key n key item.key ≡ b → (b || list_any (λ (other : Item K S M). same_key n key other.key) items) ≡ false → NoneIn (done ++ key ∷ []) (item ∷ items)
-    cases after true is f = absurd (let wrong = f in cc)
-    cases after false is f = (one-more done none.0 (agree item.key key ∙ flips item.key key ∙ is), after f)
+  absent-before : ((a b : K) → is_eq (cmp a b) ≡ is_eq (cmp b a)) → (done : List K) (key : K) (rest : List K) → AreApart (done ++ key ∷ rest) → list_any (is_at (cmp key)) done ≡ false
+  absent-before flips [] key rest apart = refl
+  absent-before flips (d ∷ done) key rest apart =
+      let other : is_eq (cmp key d) ≡ false = flips key d ∙ fails-at (is_at (cmp d)) done key rest apart.0 in
+      rw other (absent-before flips done key rest apart.1)
 
-  -- keys that stand once are put one behind another
-  insert_all-behind : (done : List K) (items : List (Item K S M)) → IsApart n items → NoneIn done items → insert_all eq done (map (λ (item : Item K S M). item.key) items) ≡ done ++ map (λ (item : Item K S M). item.key) items
-  insert_all-behind done [] apart none = sym (append-nil done)
-  insert_all-behind done (item ∷ items) apart none =
-      ap (λ (b : Bool). insert_all eq (cond b done (done ++ item.key ∷ [])) (map (λ (item : Item K S M). item.key) items)) none.0
-      ∙ insert_all-behind (done ++ item.key ∷ []) items apart.1 (none-push done item.key items none.1 apart.0)
-      ∙ append_assoc done (item.key ∷ []) (map (λ (item : Item K S M). item.key) items)
+module _ {K S M : Type 0} (n : Names K S) where
+  among-keys : (a : K) (items : List (Item K S M)) → list_any (is_at (n.key a)) (map (λ (item : Item K S M). item.key) items) ≡ list_any (λ (other : Item K S M). same_key n a other.key) items
+  among-keys a [] = refl
+  among-keys a (item ∷ items) = ap (λ (b : Bool). same_key n a item.key || b) (among-keys a items)
 
-  none-nil : (items : List (Item K S M)) → NoneIn [] items
-  none-nil [] = tt
-  none-nil (item ∷ items) = (refl, none-nil items)
+  apart-keys : (items : List (Item K S M)) → IsApart n items → AreApart n.key (map (λ (item : Item K S M). item.key) items)
+  apart-keys [] apart = tt
+  apart-keys (item ∷ items) apart = (among-keys item.key items ∙ apart.0, apart-keys items apart.1)
 
-  pub insert_all-apart : (items : List (Item K S M)) → IsApart n items → insert_all eq [] (map (λ (item : Item K S M). item.key) items) ≡ map (λ (item : Item K S M). item.key) items
-  insert_all-apart items apart = insert_all-behind [] items apart (none-nil items)
+  -- of keys that stand once, none of those before is the next one
+  pub absent-next : ((a b : K) → same_key n a b ≡ same_key n b a) → (items : List (Item K S M)) (done : List K) (key : K) (rest : List K) → IsApart n items → done ++ key ∷ rest ≡ map (λ (item : Item K S M). item.key) items → list_any (is_at (n.key key)) done ≡ false
+  absent-next flips items done key rest apart is = absent-before n.key flips done key rest (subst (λ (keys : List K). AreApart n.key keys) (sym is) (apart-keys items apart))
 
 pub keys-of-items : {K S M : Type 0} (fetches : List (FetchKey K S M)) → keys_of_items fetches ≡ map (λ (item : Item K S M). item.key) (map item_of fetches)
 keys-of-items [] = refl

@@ -8,6 +8,7 @@ use Rattle.resolver_demand.specs.declared.ingress.Message.TheVariants as message
 use Rattle.resolver_base.specs.Names.{Names, same_key}
 use Rattle.resolver_base.specs.Subscribers.{joined_subscribers}
 use Rattle.resolver_base.specs.Demand.{Act, Adds, Keeps, Pair, acts, pairs_of, IsSameDemand}
+use Rattle.resolver_demand.specs.Places.{IsPlaced}
 
 -- a fetch of one key
 pub record Item (K S M : Type 0) : Type 0 where
@@ -148,7 +149,7 @@ module _ {K S M : Type 0} (n : Names K S) where
   abbrev pub IsRight : {Q : Type 0} → (Q → K → S → Bool) → List (Told K S M Q) → List (Told K S M Q) → Type 0
   IsRight keeps was left = (d : List (Pair K S)) → IsSameDemand n (acts n (map (act_of keeps) left) d) (acts n (map (act_of keeps) was) d)
 
-  -- each key stands once, and these are the keys in their order
-  pub record IsFiled (keys : List K) (fetches : List (FetchKey K S M)) : Type 0 where
-    pub keys_are : keys ≡ keys_of_items fetches
+  -- each key stands once, and is found at its place
+  pub record IsFiled (places : List (K × ℕ)) (fetches : List (FetchKey K S M)) : Type 0 where
+    pub placed : IsPlaced n.key places (keys_of_items fetches)
     pub apart : IsApart (map item_of fetches)

@@ -4,3 +4,4 @@ pub mod Backlog
 pub mod Fetched
 pub mod Listed
 pub mod Undone
+pub mod Places

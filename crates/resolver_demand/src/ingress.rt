@@ -7,6 +7,7 @@ mod kept;
 pub mod laws;
 mod metadata;
 mod pending;
+mod places;
 
 ghost use Rattle.std.specs.Prelude.{◌≡◌, ◌<◌, [], ◌∷◌, length, IfOk, IfErr, OnOk, OnErr};
 

@@ -23,3 +23,6 @@ pub mod Progress
 pub mod Fetching
 pub mod Phases
 pub mod Kept
+pub mod Searched
+pub mod Pools
+pub mod Weighing

@@ -56,7 +56,7 @@ module _ {K P : Type 0} (o : Orders K P) (f : Fetcher K P) (moment : ℕ) (trail
   map-map (Some p) = refl
 
   -- what is tried of some waiting keys is the first that is due and has a peer left
-  seeks-in : (ps : List (Place × K)) → option_map (trying_for o (snapshot o f) trail) (find (can_be_tried o (snapshot o f) (scan_at moment trail)) (map (waiting_of o f) ps))
+  pub seeks-in : (ps : List (Place × K)) → option_map (trying_for o (snapshot o f) trail) (find (can_be_tried o (snapshot o f) (scan_at moment trail)) (map (waiting_of o f) ps))
       ≡ first_until o f trail moment ps
   seeks-in ps =
       let has_left : Place × K → Bool = λ p. nat_lt 0 (length (trying_key o f trail p).left) in

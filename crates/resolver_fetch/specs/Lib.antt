@@ -16,3 +16,5 @@ pub mod Fetching
 pub mod FetcherRows
 pub mod FetcherLaws
 pub mod Cursor
+pub mod Pools
+pub mod Left

@@ -35,6 +35,7 @@ module _ {K P : Type 0} (o : Orders K P) where
     place = place;
     key = key;
     retries = retries_of o f key;
+    all = weighed (eligible o (snapshot o f) (targets_of o f key));
     left = weighed (filter (λ p. not (was_tried o trail key p.0)) (eligible o (snapshot o f) (targets_of o f key)));
   }
 

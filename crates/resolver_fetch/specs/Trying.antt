@@ -10,14 +10,16 @@ use Rattle.resolver_request.specs.Choice.{chosen}
 use Rattle.resolver_fetch.specs.Orders.{Orders}
 use Rattle.resolver_request.specs.Scores.{weight_of}
 use Rattle.resolver_fetch.specs.Waiting.{Waiting}
-use Rattle.resolver_fetch.specs.Snapshot.{Snapshot}
+use Rattle.resolver_fetch.specs.Snapshot.{Snapshot, eligible}
 use Rattle.resolver_fetch.specs.Scan.{Scan, left, next}
 
 pub record Trying (K P : Type 0) : Type 0 where
   pub place : Place
   pub key : K
   pub retries : ℕ
-  -- the peers that were not tried for it, in their order, with what they weigh
+  -- the peers that may be asked for it, in their order, with what they weigh
+  pub all : List (P × ℕ)
+  -- those of them that were not tried for it
   pub left : List (P × ℕ)
 
 module _ {P : Type 0} where
@@ -42,7 +44,13 @@ module _ {P : Type 0} where
 
 module _ {K P : Type 0} (o : Orders K P) where
   abbrev pub trying_for : Snapshot K P → List (Try K P) → K × Waiting P → Trying K P
-  trying_for s trail w = record { place = w.1.place; key = w.0; retries = w.1.retries; left = weighed (left o s trail w) }
+  trying_for s trail w = record {
+    place = w.1.place;
+    key = w.0;
+    retries = w.1.retries;
+    all = weighed (eligible o s w.1.targets);
+    left = weighed (left o s trail w);
+  }
 
   -- what a scan tries next
   abbrev pub trying : Snapshot K P → Scan K P → Option (Trying K P)

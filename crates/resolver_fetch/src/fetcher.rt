@@ -11,6 +11,7 @@ pub mod laws;
 mod peers;
 mod pending;
 pub mod place;
+mod pool;
 mod queues;
 pub mod scan;
 mod scanning;

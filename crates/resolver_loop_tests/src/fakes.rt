@@ -18,6 +18,8 @@ use resolver::p2p::Producer;
 use resolver::p2p::mocks::Key;
 use resolver::{Consumer, Delivery, Outcome};
 use std::alloc::Global;
+use std::fmt;
+use std::fmt::{Formatter, Write};
 use std::sync::{Arc, Mutex};
 
 /// What goes wrong around an engine. Checks and sends are counted from 1.
@@ -77,6 +79,34 @@ pub enum Seen {
     Delivered(Delivery<Key, u16>, Bytes),
     Produced(Key),
     Blocked(Peer),
+}
+
+/// A line for each, with bytes in hexadecimal.
+impl fmt::Display for Seen {
+    fn fmt<W: Write>(&self, f: &mut Formatter<W>) -> fmt::Result {
+        match self {
+            Seen::Drew(below) => write!(f, "draw {below}"),
+            Seen::Checked(peer) => write!(f, "check {}", peer.0),
+            Seen::Limited(peer) => write!(f, "limit {}", peer.0),
+            Seen::Sent(peer, bytes) => write!(f, "send {} x{bytes:x}", peer.0),
+            Seen::Refused(peer, bytes) => write!(f, "refuse {} x{bytes:x}", peer.0),
+            Seen::Delivered(delivery, value) => write_delivery(f, delivery, value),
+            Seen::Produced(key) => write!(f, "produce {}", key.0),
+            Seen::Blocked(peer) => write!(f, "block {}", peer.0),
+        }
+    }
+}
+
+fn write_delivery<W: Write>(
+    f: &mut Formatter<W>,
+    delivery: &Delivery<Key, u16>,
+    value: &Bytes,
+) -> fmt::Result {
+    write!(f, "deliver {} to", delivery.key.0)?;
+    for (subscriber, _) in delivery.subscribers.iter() {
+        write!(f, " {subscriber}")?;
+    }
+    write!(f, " x{value:x}")
 }
 
 /// Where a test is told of it.
@@ -317,5 +347,23 @@ impl Clock for Standing {
         }
         time.awaited = Some(moment);
         cx.register(&self.watch.changed, &mut time.waker)
+    }
+}
+
+/// A clock that stands, and tells its test each moment that it is to wait for.
+#[derive(Drop)]
+pub struct Telling {
+    pub clock: Standing,
+    pub moments: mpsc::UnboundedSender<u128>,
+}
+
+impl Clock for Telling {
+    fn now(&self) -> u128 {
+        self.clock.now()
+    }
+
+    fn poll_until(&mut self, cx: &mut Context<'_>, moment: u128) -> Poll<()> {
+        let _ = self.moments.unbounded_send(moment);
+        self.clock.poll_until(cx, moment)
     }
 }

@@ -17,6 +17,8 @@ mod names;
 #[cfg(test)]
 mod pair;
 #[cfg(test)]
+mod running;
+#[cfg(test)]
 mod scan;
 #[cfg(test)]
 mod source;

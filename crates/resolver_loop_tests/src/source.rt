@@ -1,4 +1,4 @@
-use crate::fakes::{Judge, Seen, Standing, Watch, Wrong};
+use crate::fakes::{Judge, Seen, Standing, Telling, Watch, Wrong};
 use crate::names::{Below, Peer};
 use crate::world::{judge, spell_polled, spell_told, wanted};
 use bytes::Bytes;
@@ -8,15 +8,16 @@ use futures::task::{Context, Poll};
 use futures::test::MockTask;
 use resolver::base::Fault;
 use resolver::mailbox::Unrecorded;
-use resolver::opaque::{Fetcher, Loop, open};
+use resolver::opaque::{Fetcher, Loop, init, open};
 use resolver::p2p::mocks::Key;
-use resolver::{Ending, Outcome, Resolution, Resolver, opaque};
+use resolver::{Ending, Handle, Outcome, Resolution, Resolver, opaque};
 use std::alloc::{AllocGlobal, Global};
 use std::fmt::Write;
 use std::num::NonZeroUsize;
 use std::random::RandomSource;
 use std::sync::{Arc, Wait};
 use std::test::Fail;
+use std::thread::Threads;
 
 /// A look that a test answers.
 #[derive(Drop)]
@@ -67,63 +68,115 @@ impl Fetcher for Source {
 }
 
 /// The loop of an actor over a source.
-type Looped<R> = Loop<Key, Bytes, u16, Below, R, Standing, Source, Judge>;
+type Looped<R> = Loop<Key, Bytes, u16, Below, R, Telling, Source, Judge>;
 
 /// A handle of its mailbox.
 type Asked<R> = opaque::Resolver<Key, u16, Peer, Below, Unrecorded, R>;
 
 /// Where a look is answered.
-type Looked = oneshot::Sender<Option<Bytes>>;
+pub type Looked = oneshot::Sender<Option<Bytes>>;
 
 /// What a test holds of what an actor is lent.
 #[derive(Drop)]
-struct Held {
-    looks: mpsc::UnboundedReceiver<(Key, Looked)>,
-    verdicts: mpsc::UnboundedReceiver<oneshot::Sender<Outcome>>,
-    told: mpsc::UnboundedReceiver<Seen>,
-    watch: Arc<Watch>,
+pub struct Held {
+    pub looks: mpsc::UnboundedReceiver<(Key, Looked)>,
+    pub verdicts: mpsc::UnboundedReceiver<oneshot::Sender<Outcome>>,
+    pub told: mpsc::UnboundedReceiver<Seen>,
+    pub moments: mpsc::UnboundedReceiver<u128>,
+    pub watch: Arc<Watch>,
+}
+
+/// What an actor is lent.
+#[derive(Drop)]
+struct Lent {
+    clock: Telling,
+    source: Source,
+    consumer: Judge,
 }
 
 /// What a test holds.
 #[derive(Drop)]
-struct Ends<R> {
-    resolver: Asked<R>,
-    held: Held,
+pub struct Ends<R> {
+    pub resolver: Asked<R>,
+    pub held: Held,
 }
 
-/// An actor over a source, with a delay of 100.
-fn opened<R: Copy>(rt: R, alloc: Global, wrong: Wrong) -> Result<(Ends<R>, Looped<R>), Fault> {
+/// A clock that stands at 0, with the moments that it is to wait for, and the watch that puts it forward.
+fn clock(alloc: Global) -> Result<(mpsc::UnboundedReceiver<u128>, Arc<Watch>, Telling), Fault> {
+    let (asked, moments) = mpsc::unbounded(alloc)?;
+    let watch = Arc::new(alloc, Watch::new())?;
+    let clock = Telling {
+        clock: Standing {
+            watch: Arc::try_clone(&watch)?,
+        },
+        moments: asked,
+    };
+    Ok((moments, watch, clock))
+}
+
+/// What an actor is lent, and the ends of it that its test holds.
+fn lend(alloc: Global, wrong: Wrong) -> Result<(Held, Lent), Fault> {
+    let (moments, watch, clock) = clock(alloc)?;
     let (sender, looks) = mpsc::unbounded(alloc)?;
     let (teller, told) = mpsc::unbounded(alloc)?;
     let (verdicts, consumer) = judge(alloc, &teller, wrong)?;
-    let watch = Arc::new(alloc, Watch::new())?;
-    let clock = Standing {
-        watch: Arc::try_clone(&watch)?,
-    };
     let source = Source {
         alloc,
         looks: sender,
     };
-    let size = NonZeroUsize::MIN;
-    let (resolver, looped) = open(rt, alloc, clock, source, consumer, size, 100)?;
     let held = Held {
         looks,
         verdicts,
         told,
+        moments,
         watch,
     };
+    let lent = Lent {
+        clock,
+        source,
+        consumer,
+    };
+    Ok((held, lent))
+}
+
+/// An actor over a source, with a delay of 100.
+fn opened<R: Copy>(rt: R, alloc: Global, wrong: Wrong) -> Result<(Ends<R>, Looped<R>), Fault> {
+    let (held, lent) = lend(alloc, wrong)?;
+    let Lent {
+        clock,
+        source,
+        consumer,
+    } = lent;
+    let size = NonZeroUsize::MIN;
+    let (resolver, looped) = open(rt, alloc, clock, source, consumer, size, 100)?;
     Ok((Ends { resolver, held }, looped))
+}
+
+/// The same in a thread.
+pub fn run<R>(rt: R, alloc: Global) -> Result<(Ends<R>, Handle), Fault>
+where
+    R: Threads + Wait + RandomSource + AllocGlobal + Copy + Drop + Send + 'static,
+{
+    let (held, lent) = lend(alloc, Wrong::Nothing)?;
+    let Lent {
+        clock,
+        source,
+        consumer,
+    } = lent;
+    let size = NonZeroUsize::MIN;
+    let (resolver, handle) = init(rt, alloc, clock, source, consumer, size, 100)?;
+    Ok((Ends { resolver, held }, handle))
 }
 
 impl<R: Wait + Copy + Send + 'static> Ends<R> {
     /// Subscriber wants key 1.
-    fn fetch(&mut self, subscriber: u16) -> Result<(), Fault> {
+    pub fn fetch(&mut self, subscriber: u16) -> Result<(), Fault> {
         self.resolver.fetch(wanted(subscriber))?;
         Ok(())
     }
 
     /// Subscribers from this one on are let go.
-    fn retain_below(&mut self, subscriber: u16) -> Result<(), Fault> {
+    pub fn retain_below(&mut self, subscriber: u16) -> Result<(), Fault> {
         self.resolver.retain(Below(subscriber))?;
         Ok(())
     }
@@ -131,7 +184,7 @@ impl<R: Wait + Copy + Send + 'static> Ends<R> {
 
 impl Held {
     /// The look that has begun, which is written.
-    fn look(&mut self, text: &mut String) -> Result<Option<Looked>, Fail> {
+    pub fn look(&mut self, text: &mut String) -> Result<Option<Looked>, Fail> {
         let Ok((key, look)) = self.looks.try_recv() else {
             return Ok(None);
         };
@@ -140,7 +193,7 @@ impl Held {
     }
 
     /// Answers the look that has begun.
-    fn answer(&mut self, text: &mut String, value: Option<Bytes>) -> Result<(), Fail> {
+    pub fn answer(&mut self, text: &mut String, value: Option<Bytes>) -> Result<(), Fail> {
         if let Some(look) = self.look(text)? {
             let _ = look.send(value);
         }

@@ -3,19 +3,24 @@
 use crate::fakes::{Dice, Given, Judge, Seen, Standing, Store, Told, Watch, Wire, Wrong};
 use crate::names::{Below, Peer};
 use bytes::Bytes;
+use futures::StreamExt;
 use futures::channel::{mpsc, oneshot};
+use futures::executor::block_on;
 use futures::task::Poll;
 use futures::test::MockTask;
+use log::{Log, trace};
 use resolver::base::{Fault, Feedback, NonEmptyVec, Seeded};
 use resolver::mailbox::Unrecorded;
 use resolver::p2p::mocks::Key;
 use resolver::p2p::{Config, Engine, Loop, Mailbox};
-use resolver::{Ending, Fetch, Outcome, Resolver, TargetedResolver};
-use std::alloc::Global;
+use resolver::{Ending, Fetch, Handle, Outcome, Resolver, TargetedResolver};
+use std::alloc::{AllocGlobal, Global};
 use std::fmt::Write;
 use std::num::NonZeroUsize;
+use std::random::RandomSource;
 use std::sync::{Arc, Wait};
 use std::test::Fail;
+use std::thread::Threads;
 
 /// What differs between worlds.
 #[derive(Clone, Copy, Debug)]
@@ -258,8 +263,8 @@ pub fn make_world<R: Copy>(
     Ok((world, engine, lent))
 }
 
-/// The loop of a world's engine.
-pub fn into_loop<R: Copy>(engine: Made<R>, lent: Lent) -> Result<Looped<R>, Fault> {
+/// The network, the clock and the draws that an engine is lent.
+fn parts_of(lent: Lent) -> Result<((Wire, Given<(Peer, Bytes)>), Standing, Dice), Fault> {
     let Lent {
         setting,
         told,
@@ -271,7 +276,22 @@ pub fn into_loop<R: Copy>(engine: Made<R>, lent: Lent) -> Result<Looped<R>, Faul
         told: told.clone()?,
         given: incoming,
     };
-    engine.into_loop((sender, receiver), Standing { watch }, setting.dice(told))
+    Ok(((sender, receiver), Standing { watch }, setting.dice(told)))
+}
+
+/// The loop of a world's engine.
+pub fn into_loop<R: Copy>(engine: Made<R>, lent: Lent) -> Result<Looped<R>, Fault> {
+    let (network, clock, draws) = parts_of(lent)?;
+    engine.into_loop(network, clock, draws)
+}
+
+/// A world's engine in a thread.
+pub fn start<R>(engine: Made<R>, lent: Lent) -> Result<Handle, Fault>
+where
+    R: Threads + Wait + RandomSource + AllocGlobal + Copy + Drop + Send + 'static,
+{
+    let (network, clock, draws) = parts_of(lent)?;
+    engine.start(network, clock, draws)
 }
 
 /// Peers by their numbers.
@@ -362,44 +382,22 @@ pub fn spell_told(text: &mut String, told: &mut mpsc::UnboundedReceiver<Seen>) -
         let Ok(seen) = told.try_recv() else {
             return Ok(());
         };
-        spell_seen(text, &seen)?;
+        writeln!(text, "{seen}")?;
     }
     Ok(())
 }
 
-fn spell_bytes(text: &mut String, bytes: &[u8]) -> Result<(), Fail> {
-    for byte in bytes {
-        write!(text, "{byte:02x}")?;
-    }
-    writeln!(text)?;
-    Ok(())
-}
-
-fn spell_seen(text: &mut String, seen: &Seen) -> Result<(), Fail> {
-    match seen {
-        Seen::Drew(below) => writeln!(text, "draw {below}")?,
-        Seen::Checked(peer) => writeln!(text, "check {}", peer.0)?,
-        Seen::Limited(peer) => writeln!(text, "limit {}", peer.0)?,
-        Seen::Sent(peer, bytes) => {
-            write!(text, "send {} x", peer.0)?;
-            spell_bytes(text, bytes)?;
-        }
-        Seen::Refused(peer, bytes) => {
-            write!(text, "refuse {} x", peer.0)?;
-            spell_bytes(text, bytes)?;
-        }
-        Seen::Delivered(delivery, value) => {
-            write!(text, "deliver {} to", delivery.key.0)?;
-            for (subscriber, _) in delivery.subscribers.iter() {
-                write!(text, " {subscriber}")?;
+impl<R: Wait + RandomSource + AllocGlobal + Log> World<R> {
+    /// Waits until the fakes were asked so many things, and writes them.
+    pub fn wait(&mut self, rt: &R, text: &mut String, count: u32) -> Result<(), Fail> {
+        for _ in 0..count {
+            if let Some(seen) = block_on(rt, self.told.next())? {
+                trace!(rt; "{seen}");
+                writeln!(text, "{seen}")?;
             }
-            write!(text, " x")?;
-            spell_bytes(text, value)?;
         }
-        Seen::Produced(key) => writeln!(text, "produce {}", key.0)?,
-        Seen::Blocked(peer) => writeln!(text, "block {}", peer.0)?,
+        Ok(())
     }
-    Ok(())
 }
 
 /// Polls the loop until it is over, or nothing is left for it: what is new in a set of futures wakes the

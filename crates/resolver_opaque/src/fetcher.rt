@@ -4,7 +4,7 @@ use futures::Future;
 use resolver_base::base::Span;
 
 /// The one source of an actor over an opaque source.
-pub trait Fetcher: Send + 'static {
+pub trait Fetcher: 'static {
     /// How data is named.
     type Key: Span;
 
@@ -13,7 +13,7 @@ pub trait Fetcher: Send + 'static {
 
     /// A look for the value under a key: none where the source has none so far. Dropping it gives
     /// the look up.
-    type Future: Future<Output = Option<Self::Value>> + Send;
+    type Future: Future<Output = Option<Self::Value>>;
 
     /// Looks for the value under a key.
     fn fetch(&self, key: Self::Key) -> Self::Future;

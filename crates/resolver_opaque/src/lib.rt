@@ -1,8 +1,8 @@
 //! What fetches from one opaque source, as its users see it: the handle through which it is asked,
 //! and the loop that asks the source.
 //!
-//! `open` answers with a `Resolver`, a handle of a mailbox, and a `Loop` that takes what is put there: an
-//! actor over a `Fetcher`, which its caller polls in a thread.
+//! `init` answers with a `Resolver`, a handle of a mailbox, and runs a loop that takes what is put there,
+//! an actor over a `Fetcher`, in a thread. `open` gives the `Loop` itself, for a caller that polls it.
 #![tactic(auto)]
 
 mod attempts;
@@ -12,5 +12,5 @@ mod opening;
 
 pub use fetcher::Fetcher;
 pub use looping::Loop;
-pub use opening::open;
+pub use opening::{init, open};
 pub use resolver_asking::resolver::{Message, Resolver};

@@ -5,8 +5,8 @@ ghost use Rattle.futures.specs.Task.{IsArmed, Keeps};
 
 use crate::attempts::Attempts;
 use crate::fetcher::Fetcher;
-use futures::Stream;
 use futures::task::{Context, Poll};
+use futures::{Future, Stream};
 use resolver_actor::opaque::{Actor, Effect, Event, Input};
 use resolver_base::base::{Faithful, Predicate, Span};
 use resolver_base::root::Delivery;
@@ -184,5 +184,24 @@ where
             }
         }
         cx.yield_now()
+    }
+}
+
+impl<K, V, S, Q, R, W, F, C> Future for Loop<K, V, S, Q, R, W, F, C>
+where
+    K: Span + Faithful + Drop,
+    V: Faithful + Drop,
+    S: Ord + Faithful + Drop,
+    Q: Predicate<K, S> + Faithful + Drop,
+    R: Wait + Drop,
+    W: Clock + Drop,
+    F: Fetcher<Key = K, Value = V> + Drop,
+    C: Consumer<Key = K, Value = V, Subscriber = S> + Drop,
+    C::Outcome: Drop,
+{
+    type Output = Ending;
+
+    fn poll(&mut self, cx: &mut Context<'_>) -> Poll<Ending> {
+        Loop::poll(self, cx)
     }
 }

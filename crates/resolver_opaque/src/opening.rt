@@ -1,4 +1,4 @@
-//! An actor over an opaque source that is opened.
+//! An actor over an opaque source that is opened, and one that runs.
 
 ghost use Rattle.std.specs.Prelude.{◌≡◌, ◌<◌, ◌^◌, IfErr};
 ghost use Rattle.resolver_base.specs.declared.base.fault.Fault.TheVariants.{OutOfMemory};
@@ -12,9 +12,12 @@ use resolver_base::base::{Faithful, Fault, Predicate, Span};
 use resolver_mailbox::mailbox;
 use resolver_mailbox::mailbox::Unrecorded;
 use resolver_surface::{Clock, Consumer};
-use resolver_worker::Judging;
-use std::alloc::Global;
+use resolver_worker::{Handle, Judging, start};
+use std::alloc::{AllocGlobal, Global};
 use std::num::NonZeroUsize;
+use std::random::RandomSource;
+use std::sync::Wait;
+use std::thread::Threads;
 
 /// An actor over a source, as a handle and a loop, for a caller that polls it in a thread of its
 /// own. A key that the source has no value for is asked for again after `fetch_retry_delay`
@@ -58,4 +61,44 @@ where
         is_starved: false,
     };
     Ok((Resolver::over(alloc, sender), looped))
+}
+
+/// An actor over a source, as a handle and the thread in which its loop runs until the mailbox is
+/// closed. A key that the source has no value for is asked for again after `fetch_retry_delay`
+/// nanoseconds.
+///
+/// Where memory is wanting or no thread can be made, all that was lent is dropped.
+pub fn init<K, V, S, P, Q, R, W, F, C>(
+    rt: R,
+    alloc: Global,
+    clock: W,
+    fetcher: F,
+    consumer: C,
+    mailbox_size: NonZeroUsize,
+    fetch_retry_delay: u128,
+) -> Result<(Resolver<K, S, P, Q, Unrecorded, R>, Handle), Fault>
+where
+    K: Span + Faithful + Drop + Send + 'static,
+    V: Faithful + Drop + Send + 'static,
+    S: Ord + Faithful + Drop + Send + 'static,
+    Q: Predicate<K, S> + Faithful + Drop + Send + 'static,
+    R: Threads + Wait + RandomSource + AllocGlobal + Copy + Drop + Send + 'static,
+    W: Clock + Drop + Send + 'static,
+    F: Fetcher<Key = K, Value = V> + Drop + Send,
+    F::Future: Send + 'static,
+    C: Consumer<Key = K, Value = V, Subscriber = S> + Drop + Send,
+    C::Outcome: Drop + Send + 'static,
+    requires { fetch_retry_delay < 2 ^ 94 }
+    ensures only { IfErr result (λ fault. fault ≡ OutOfMemory) }
+{
+    let (resolver, looped) = open(
+        rt,
+        alloc,
+        clock,
+        fetcher,
+        consumer,
+        mailbox_size,
+        fetch_retry_delay,
+    )?;
+    Ok((resolver, start(rt, looped)?))
 }

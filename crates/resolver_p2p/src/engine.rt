@@ -56,7 +56,7 @@ pub struct Engine<
     Q: Predicate<K, S>,
     R,
 > {
-    rt: R,
+    pub(crate) rt: R,
     alloc: Global,
     core: Core<K, P, S, Q>,
     mail: Mail<K, P, S, Q, R>,

@@ -10,6 +10,7 @@ mod config;
 mod engine;
 mod looping;
 mod mail;
+mod starting;
 
 pub use config::Config;
 pub use engine::Engine;

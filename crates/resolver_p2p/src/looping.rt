@@ -6,6 +6,7 @@ ghost use Rattle.futures.specs.Task.{IsArmed, Keeps};
 use crate::asking::Asking;
 use crate::mail::{Mail, poll_mail};
 use bytes::Bytes;
+use futures::Future;
 use futures::task::{Context, Poll};
 use resolver_base::base::{Draws, Faithful, Predicate, PublicKey, Sender, Span};
 use resolver_base::root::Delivery;
@@ -258,5 +259,29 @@ where
             }
         }
         cx.yield_now()
+    }
+}
+
+impl<P, D, B, K, S, C, O, Q, R, X, Y, W, G> Future for Loop<P, D, B, K, S, C, O, Q, R, X, Y, W, G>
+where
+    P: PublicKey + Faithful + Drop,
+    D: Provider<PublicKey = P> + Drop,
+    B: Blocker<PublicKey = P> + Drop,
+    K: Span + Faithful + Drop,
+    S: Ord + Faithful + Drop,
+    C: Consumer<Key = K, Value = Bytes, Subscriber = S> + Drop,
+    C::Outcome: Drop,
+    O: Producer<Key = K> + Drop,
+    Q: Predicate<K, S> + Faithful + Drop,
+    R: Wait + Drop,
+    X: Sender<PublicKey = P> + Drop,
+    Y: Receiver<PublicKey = P> + Drop,
+    W: Clock + Drop,
+    G: Draws + Drop,
+{
+    type Output = Ending;
+
+    fn poll(&mut self, cx: &mut Context<'_>) -> Poll<Ending> {
+        Loop::poll(self, cx)
     }
 }

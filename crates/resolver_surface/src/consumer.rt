@@ -8,7 +8,7 @@ use resolver_base::base::{Fault, Span};
 use resolver_base::root::{Delivery, Outcome};
 
 /// What judges the values that were fetched.
-pub trait Consumer: Send + 'static {
+pub trait Consumer: 'static {
     /// How data is named.
     type Key: Span;
 
@@ -16,10 +16,10 @@ pub trait Consumer: Send + 'static {
     type Value;
 
     /// Who wants it.
-    type Subscriber: Clone + Eq + Send;
+    type Subscriber: Clone + Eq;
 
     /// What is said of a delivery.
-    type Outcome: Into<Outcome> + Send;
+    type Outcome: Into<Outcome>;
 
     /// Takes a value for the subscribers of its key, and answers where the outcome will be said. A
     /// sender that is dropped has dropped the delivery.

@@ -8,7 +8,7 @@ use futures::channel::oneshot;
 use resolver_base::base::{Fault, Span};
 
 /// What has the data that peers ask for.
-pub trait Producer: Send + 'static {
+pub trait Producer: 'static {
     /// How data is named.
     type Key: Span;
 

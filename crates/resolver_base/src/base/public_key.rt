@@ -2,5 +2,5 @@
 
 use std::hash::Hash;
 
-/// A name of a peer: ordered, hashed, cloned and sent between threads.
-pub trait PublicKey: Ord + Hash + Clone + Send {}
+/// A name of a peer: ordered, hashed and cloned. What goes to another thread asks for `Send` besides.
+pub trait PublicKey: Ord + Hash + Clone {}

@@ -7,9 +7,9 @@ use bytes::BytesMut;
 use std::alloc::AllocError;
 use std::hash::Hash;
 
-/// A name of data, as a key is: ordered, hashed, cloned and sent between threads, with a fixed
-/// number of bytes.
-pub trait Span: Ord + Hash + Clone + Send {
+/// A name of data, as a key is: ordered, hashed and cloned, with a fixed number of bytes. What goes to
+/// another thread asks for `Send` besides.
+pub trait Span: Ord + Hash + Clone {
     ghost SIZE: { ℕ };
 
     /// How many bytes every name has, at most `u32::MAX`.

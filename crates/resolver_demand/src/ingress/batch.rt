@@ -4,16 +4,16 @@ ghost use Rattle.std.specs.Prelude.{◌≡◌, ◌≤◌, [], ◌∷◌, length,
 ghost use Rattle.std.specs.List.{list_any};
 ghost use Rattle.std.specs.Vec.{vec_capacity};
 ghost use Rattle.std.specs.Option.{option_to_list};
-ghost use Rattle.indexmap.specs.IndexSet.{insert_all, insert_key};
 ghost use Rattle.resolver_base.specs.Names.{names};
-ghost use Rattle.resolver_demand.specs.Backlog.{item_of, kept, keys_kept, keys_of_items, merged_item, queued, queued_all, undone, undone_all};
+ghost use Rattle.resolver_demand.specs.Backlog.{IsApart, item_of, kept, keys_kept, keys_of_items, merged_item, queued, queued_all, undone, undone_all};
+ghost use Rattle.resolver_demand.specs.Places.{Grows, IsPlaced};
+ghost use Rattle.resolver_demand.specs.Undone.{without_each};
 
 use crate::ingress::FetchKey;
 use crate::ingress::metadata::Metadata;
-use indexmap::IndexSet;
+use crate::ingress::places::Places;
 use resolver_base::base::{NonEmptyVec, Predicate};
 use std::alloc::{AllocError, Global};
-use std::hash::Hash;
 use std::mem;
 
 /// A fetch of what both ask for, the earlier one first.
@@ -42,24 +42,25 @@ pub(super) fn merged<K: Clone + Drop, S: Ord + Clone + Drop, M: Metadata + Drop>
 /// Puts a fetch into the batch: into the one of its key, or last. What was there before is
 /// answered with its place, or nothing where the key is new. Where memory is wanting, nothing
 /// changes.
-pub(super) fn put<K: Ord + Hash + Clone + Drop, S: Ord + Clone + Drop, M: Metadata + Drop>(
+pub(super) fn put<K: Ord + Clone + Drop, S: Ord + Clone + Drop, M: Metadata + Drop>(
     alloc: Global,
     batch: &mut Vec<FetchKey<K, S, M>>,
-    places: &mut IndexSet<K>,
+    places: &mut Places<K>,
     item: FetchKey<K, S, M>,
 ) -> Result<Option<(usize, FetchKey<K, S, M>)>, AllocError>
     requires keys_clone { (x y : K) → K.is_clone x y → y ≡ x }
     requires subscribers_clone { (x y : S) → S.is_clone x y → y ≡ x }
-    requires listed { places.old.keys ≡ keys_of_items batch.old.items }
+    requires placed { IsPlaced K.cmp places.old (keys_of_items batch.old.items) }
     ensures ok { OnOk result (map item_of batch.new.items
         ≡ queued (names K.cmp S.cmp) M.merged (map item_of batch.old.items) (item_of item)) }
     ensures undone { IfOk result (λ was. undone was batch.new.items ≡ batch.old.items) }
-    ensures keys { OnOk result (places.new.keys ≡ insert_key K.eq places.old.keys item.key) }
-    ensures listed { places.new.keys ≡ keys_of_items batch.new.items }
+    ensures placed { OnOk result (IsPlaced K.cmp places.new (keys_of_items batch.new.items)) }
+    ensures grows { OnOk result (Grows K.cmp (keys_of_items batch.old.items) places.old
+        (keys_of_items batch.new.items) places.new) }
     ensures err { OnErr result (batch.new.items ≡ batch.old.items) }
-    ensures err_keys { OnErr result (places.new.keys ≡ places.old.keys) }
+    ensures err_places { OnErr result (places.new ≡ places.old) }
 {
-    let Some(place) = places.get_index_of(&item.key) else {
+    let Some(place) = places.get(&item.key) else {
         batch.reserve(1)?;
         places.insert(item.key.clone()?)?;
         batch.push_reserved(item);
@@ -72,34 +73,47 @@ pub(super) fn put<K: Ord + Hash + Clone + Drop, S: Ord + Clone + Drop, M: Metada
 
 /// Puts some fetches into the batch, one after another. Where memory is wanting, what was put is
 /// taken back.
-pub(super) fn put_all<K: Ord + Hash + Clone + Drop, S: Ord + Clone + Drop, M: Metadata + Drop>(
+pub(super) fn put_all<K: Ord + Clone + Drop, S: Ord + Clone + Drop, M: Metadata + Drop>(
     alloc: Global,
     batch: &mut Vec<FetchKey<K, S, M>>,
-    places: &mut IndexSet<K>,
+    places: &mut Places<K>,
     items: Vec<FetchKey<K, S, M>>,
 ) -> Result<(), AllocError>
     requires keys_clone { (x y : K) → K.is_clone x y → y ≡ x }
     requires subscribers_clone { (x y : S) → S.is_clone x y → y ≡ x }
-    requires listed { places.old.keys ≡ keys_of_items batch.old.items }
+    requires placed { IsPlaced K.cmp places.old (keys_of_items batch.old.items) }
     ensures ok { OnOk result (map item_of batch.new.items
         ≡ queued_all (names K.cmp S.cmp) M.merged (map item_of batch.old.items)
         (map item_of items.items)) }
-    ensures listed { places.new.keys ≡ keys_of_items batch.new.items }
+    ensures placed { OnOk result (IsPlaced K.cmp places.new (keys_of_items batch.new.items)) }
     ensures err { OnErr result (batch.new.items ≡ batch.old.items) }
+    ensures err_places { OnErr result (places.new ≡ places.old) }
 {
-    let count = places.len();
+    let count = batch.len();
     let mut changes = Vec::with_capacity(alloc, items.len())?;
     for item in items {
         match put(alloc, batch, places, item) {
             Ok(change) => changes.push_reserved(change),
             Err(error) => {
+                let (_, added) = batch.as_slice().split_at(count);
+                forget(places, added);
                 take_back(batch, changes);
-                places.truncate(count);
                 return Err(error);
             }
         }
     }
     Ok(())
+}
+
+/// Takes the keys of these fetches back, the last one first.
+fn forget<K: Ord + Drop, S, M>(places: &mut Places<K>, added: &[FetchKey<K, S, M>])
+    ensures { places.new ≡ without_each K.cmp (keys_of_items added.now) places.old }
+{
+    let mut left = added;
+    while let Some((last, rest)) = left.split_last() {
+        places.remove(&last.key);
+        left = rest;
+    }
 }
 
 /// Takes changes back, the last one first.
@@ -131,17 +145,18 @@ fn take_back_one<K: Drop, S: Drop, M: Drop>(
     }
 }
 
-/// The keys of the fetches that have a subscriber that is kept.
-pub(super) fn kept_places<K: Ord + Hash + Clone + Drop, S: Ord, M, Q: Predicate<K, S>>(
+/// The places of the keys once only the fetches are there that have a subscriber that is kept.
+pub(super) fn kept_places<K: Ord + Clone + Drop, S: Ord, M, Q: Predicate<K, S>>(
     alloc: Global,
     batch: &[FetchKey<K, S, M>],
     keep: &Q,
-) -> Result<IndexSet<K>, AllocError>
+) -> Result<Places<K>, AllocError>
     requires keys_clone { (x y : K) → K.is_clone x y → y ≡ x }
-    ensures { IfOk result (λ places. places.keys
-        ≡ insert_all K.eq [] (keys_kept (Q.keeps keep.now) batch.now)) }
+    requires apart { IsApart (names K.cmp S.cmp) (map item_of batch.now) }
+    ensures { IfOk result
+        (λ places. IsPlaced K.cmp places (keys_kept (Q.keeps keep.now) batch.now)) }
 {
-    let mut places = IndexSet::new(alloc);
+    let mut places = Places::new(alloc);
     for item in batch {
         if keeps_any(item, keep) {
             places.insert(item.key.clone()?)?;

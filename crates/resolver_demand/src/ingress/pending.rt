@@ -9,8 +9,8 @@ ghost use Rattle.resolver_demand.specs.Backlog.{IsApart, Drains, Fetches, HandsB
 use crate::ingress::batch::{kept_places, prune_all, put_all};
 use crate::ingress::drain::{drain_retains, offer_batch};
 use crate::ingress::metadata::Metadata;
+use crate::ingress::places::Places;
 use crate::ingress::{FetchKey, Message};
-use indexmap::IndexSet;
 use resolver_base::base::{Fault, Predicate};
 use std::alloc::Global;
 use std::collections::VecDeque;
@@ -25,7 +25,7 @@ use std::mem;
 pub struct Pending<K: Ord + Hash, S: Ord, M, Q> {
     retains: VecDeque<Q>,
     batch: Vec<FetchKey<K, S, M>>,
-    places: IndexSet<K>,
+    places: Places<K>,
     alloc: Global,
 }
 
@@ -37,7 +37,7 @@ impl<K: Ord + Hash, S: Ord, M, Q> Model for Pending<K, S, M, Q> {
 
     ghost view = { λ a. backlog_of a.retains.items a.batch.items };
 
-    ghost invariant = { λ a. IsFiled (names K.cmp S.cmp) a.places.keys a.batch.items };
+    ghost invariant = { λ a. IsFiled (names K.cmp S.cmp) a.places a.batch.items };
 }
 
 impl<
@@ -53,7 +53,7 @@ impl<
         Pending {
             retains: VecDeque::new(alloc),
             batch: Vec::new(alloc),
-            places: IndexSet::new(alloc),
+            places: Places::new(alloc),
             alloc,
         }
     }
@@ -78,8 +78,10 @@ impl<
     /// keep their mark, and what else is said of both merges. A new key goes last. A test prunes
     /// the fetches that wait at once, and is then queued.
     ///
-    /// Keys are compared by hash. To join a fetch takes time and memory for the subscribers and the
-    /// targets of both, and where it has many, times their logarithm; a test takes linear time.
+    /// Keys are compared in their order, and never hashed: a fetch finds its key in time logarithmic
+    /// in the keys that wait, whichever they are. To join a fetch takes time and memory for the
+    /// subscribers and the targets of both, and where it has many, times their logarithm; a test
+    /// takes linear time, and a logarithm for each key that stays.
     pub fn handle(&mut self, message: Message<K, S, M, Q>) -> Result<(), Fault>
         requires keys_clone { (x y : K) → K.is_clone x y → y ≡ x }
         requires subscribers_clone { (x y : S) → S.is_clone x y → y ≡ x }

@@ -2,6 +2,7 @@
 
 ghost use Rattle.std.specs.Prelude.{◌≡◌, [], ◌∷◌, ◌++◌, IfErr, OnErr, OnOk};
 ghost use Rattle.resolver_base.specs.declared.base.fault.Fault.TheVariants.{OutOfMemory};
+ghost use Rattle.resolver_fetch.specs.Trying.{apart_from};
 
 use crate::fetcher::trail::{Expected, Reason, Trail};
 use crate::fetcher::trying::Trying;
@@ -9,7 +10,7 @@ use resolver_base::base::Fault;
 
 /// Where an open scan stands.
 #[derive(Debug, Drop)]
-pub(super) struct Cursor<K: Ord, P> {
+pub(super) struct Cursor<K: Ord, P: Ord> {
     /// When it was begun.
     pub(super) moment: u128,
     /// What it tried in vain.
@@ -19,7 +20,7 @@ pub(super) struct Cursor<K: Ord, P> {
     pub(super) expects: Expected<P>,
 }
 
-impl<K: Ord + Clone + Drop, P: Clone + Drop> Cursor<K, P> {
+impl<K: Ord + Clone + Drop, P: Ord + Clone + Drop> Cursor<K, P> {
     /// Notes that a peer was tried for the key in vain. Where memory is wanting, nothing changes.
     pub(super) fn note(&mut self, peer: &P, reason: Reason) -> Result<(), Fault>
     where
@@ -34,5 +35,27 @@ impl<K: Ord + Clone + Drop, P: Clone + Drop> Cursor<K, P> {
     {
         let key = self.trying.pair.1.clone()?;
         self.trail.push(key, peer.clone()?, reason)
+    }
+
+    /// Notes that a peer was tried for the key in vain, and has it left no more. Where memory is
+    /// wanting, nothing changes.
+    pub(super) fn fail(&mut self, peer: &P, reason: Reason) -> Result<(), Fault>
+    where
+        requires keys_clone { (x y : K) → K.is_clone x y → y ≡ x }
+        requires peers_clone { (x y : P) → P.is_clone x y → y ≡ x }
+        ensures ok { OnOk result (self.new ≡ record self.old {
+          trail = self.old.trail
+              ++ record { key = self.old.trying.key; peer = peer.now; reason = reason } ∷ [];
+          trying = record self.old.trying { left = apart_from P.cmp peer.now self.old.trying.left };
+        }) }
+        ensures err { OnErr result (self.new ≡ self.old) }
+        ensures only { IfErr result (λ fault. fault ≡ OutOfMemory) }
+    {
+        self.note(peer, reason)?;
+        if let Err(fault) = self.trying.forget(peer) {
+            self.trail.pop();
+            return Err(fault);
+        }
+        Ok(())
     }
 }

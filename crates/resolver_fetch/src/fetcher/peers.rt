@@ -1,6 +1,6 @@
 //! The peers that may be asked.
 
-ghost use Rattle.std.specs.Prelude.{◌≡◌, ◌↔◌, None, Some, [], option_map, option_to_list, IsTrue, IfOk, IfErr, OnErr, OnOk};
+ghost use Rattle.std.specs.Prelude.{◌≡◌, ◌↔◌, ◌<◌, None, Some, [], option_map, option_to_list, IsTrue, IfOk, IfErr, IfSome, OnErr, OnOk};
 ghost use Rattle.std.specs.List.{IsDistinct};
 ghost use Rattle.std.specs.List.Sorted.{IsStrictlySortedBy};
 ghost use Rattle.std.specs.Map.{keys_of};
@@ -9,8 +9,10 @@ ghost use Rattle.std.specs.Ordering.{eq_by_cmp};
 ghost use Rattle.resolver_base.specs.declared.base.fault.Fault.TheVariants.{OutOfMemory};
 ghost use Rattle.resolver_fetch.specs.Known.{askable, askable_at, eligible, is_eligible, is_local, is_target, may_be_asked, weight_in};
 ghost use Rattle.resolver_fetch.specs.Peers.{observed, replaced, set_of};
+ghost use Rattle.resolver_fetch.specs.Pools.{IsWhole, reweighed, weight_then, whole};
 ghost use Rattle.resolver_fetch.specs.Trying.{weighed};
 
+use crate::fetcher::pool::Pool;
 use crate::fetcher::targets::Targets;
 use resolver_base::base::Fault;
 use resolver_request::score::Score;
@@ -28,19 +30,24 @@ pub(super) struct Peers<P: Ord> {
     blocked: BTreeSet<P>,
     /// How many peers may be asked at all.
     allowed: usize,
+    /// Those peers with what they weigh, unless a scan has them or they are to be made anew.
+    pool: Option<Pool<P>>,
     alloc: Global,
 }
 
 impl<P: Ord> Model for Peers<P> {
     ghost use Rattle.std.specs.Prelude.{◌≡◌};
     ghost use Rattle.resolver_fetch.specs.Known.{Known, askable};
+    ghost use Rattle.resolver_fetch.specs.Pools.{IsWhole};
 
     ghost Value = { Known P };
 
     ghost view = { λ a. record { local = a.local; set = a.set.entries; blocked = a.blocked.keys } };
 
-    ghost invariant = { λ a. a.allowed ≡ askable P.cmp
-        (record { local = a.local; set = a.set.entries; blocked = a.blocked.keys }) };
+    ghost invariant = { λ a. (a.allowed ≡ askable P.cmp
+        (record { local = a.local; set = a.set.entries; blocked = a.blocked.keys }))
+        × IsWhole P.cmp
+        (record { local = a.local; set = a.set.entries; blocked = a.blocked.keys }) a.pool };
 }
 
 impl<P: Ord + Drop> Peers<P> {
@@ -53,6 +60,7 @@ impl<P: Ord + Drop> Peers<P> {
             set: BTreeMap::new(alloc),
             blocked: BTreeSet::new(alloc),
             allowed: 0,
+            pool: None,
             alloc,
         }
     }
@@ -60,6 +68,13 @@ impl<P: Ord + Drop> Peers<P> {
     /// No peer stands twice in the set. This does nothing.
     pub(super) fn law(&self)
         ensures { IsDistinct (eq_by_cmp P.cmp) (keys_of self.now.set) }
+    {
+        let _count = self.set.len();
+    }
+
+    /// The set is in the order of the peers. This does nothing.
+    pub(super) fn order(&self)
+        ensures { IsStrictlySortedBy P.cmp (keys_of self.now.set) }
     {
         let _count = self.set.len();
     }
@@ -168,6 +183,63 @@ impl<P: Ord + Drop> Peers<P> {
         may_be_asked(&self.local, &self.blocked, peer)
     }
 
+    /// Hands out all that may be asked, where they are at hand.
+    pub(super) fn take_pool(&mut self) -> Option<Pool<P>>
+        ensures whole { IsWhole P.cmp self.old result }
+        ensures same { self.new ≡ self.old }
+    {
+        self.pool.take()
+    }
+
+    /// Takes back all that may be asked.
+    pub(super) fn put_pool(&mut self, pool: Option<Pool<P>>)
+        requires whole { IsWhole P.cmp self.old pool }
+        ensures same { self.new ≡ self.old }
+    {
+        self.pool = pool;
+    }
+
+    /// Those that may be asked for a key with these targets: where it has none those at hand, if
+    /// they are, else a pool that is made anew.
+    ///
+    /// The names are cloned; clones are to equal their sources.
+    pub(super) fn pool_for(
+        &self,
+        targets: Option<&Targets<P>>,
+        at_hand: &mut Option<Pool<P>>,
+    ) -> Result<Pool<P>, Fault>
+    where
+        P: Clone,
+        requires peers_clone { (x y : P) → P.is_clone x y → y ≡ x }
+        requires whole { IsWhole P.cmp self.now at_hand.old }
+        ensures ok { IfOk result (λ pool. pool
+            ≡ whole (weighed (eligible P.cmp self.now (option_copied targets.entry)))) }
+        ensures whole { IsWhole P.cmp self.now at_hand.new }
+        ensures only { IfErr result (λ fault. fault ≡ OutOfMemory) }
+    {
+        match targets {
+            Some(_) => self.new_pool(targets),
+            None => match at_hand.take() {
+                Some(all) => Ok(all),
+                None => self.new_pool(targets),
+            },
+        }
+    }
+
+    /// The same in a pool that is made anew.
+    fn new_pool(&self, targets: Option<&Targets<P>>) -> Result<Pool<P>, Fault>
+    where
+        P: Clone,
+        requires peers_clone { (x y : P) → P.is_clone x y → y ≡ x }
+        ensures ok { IfOk result (λ pool. pool
+            ≡ whole (weighed (eligible P.cmp self.now (option_copied targets.entry)))) }
+        ensures only { IfErr result (λ fault. fault ≡ OutOfMemory) }
+    {
+        self.order();
+        let peers = self.eligible(targets)?;
+        Pool::new(self.alloc, peers)
+    }
+
     /// Takes these peers in place of the last ones. Those that stay keep their scores. Where
     /// memory is wanting, nothing changes.
     pub(super) fn reconcile(&mut self, peers: Vec<P>) -> Result<(), Fault>
@@ -179,6 +251,7 @@ impl<P: Ord + Drop> Peers<P> {
         let set = rated(self.alloc, &self.set, peers)?;
         self.allowed = count_askable(&self.local, &set, &self.blocked);
         self.set = set;
+        self.pool = None;
         Ok(())
     }
 
@@ -192,6 +265,7 @@ impl<P: Ord + Drop> Peers<P> {
         let blocked = distinct(self.alloc, peers)?;
         self.allowed = count_askable(&self.local, &self.set, &blocked);
         self.blocked = blocked;
+        self.pool = None;
         Ok(())
     }
 
@@ -203,7 +277,9 @@ impl<P: Ord + Drop> Peers<P> {
               (record { elapsed = elapsed; bytes = bytes });
         } }
     {
-        observe(&mut self.set, peer, elapsed, bytes);
+        self.order();
+        let weight = observe(&mut self.set, peer, elapsed, bytes);
+        reweigh(&mut self.pool, peer, weight);
     }
 }
 
@@ -233,13 +309,33 @@ fn may_be_asked<P: Ord + Drop>(local: &Option<P>, blocked: &BTreeSet<P>, peer: &
     !is_local(local, peer) && !blocked.contains(peer)
 }
 
-/// Takes in what a request to a peer took and gave.
-fn observe<P: Ord>(set: &mut BTreeMap<P, Score>, peer: &P, elapsed: u128, bytes: u64)
-    ensures { set.new.entries ≡ observed P.cmp set.old.entries peer.now
+/// Takes in what a request to a peer took and gave, and says what the peer weighs then, if it is
+/// in the set.
+fn observe<P: Ord>(set: &mut BTreeMap<P, Score>, peer: &P, elapsed: u128, bytes: u64) -> Option<u64>
+    ensures observed { set.new.entries ≡ observed P.cmp set.old.entries peer.now
         (record { elapsed = elapsed; bytes = bytes }) }
+    ensures weight { result ≡ weight_then P.cmp set.old.entries peer.now
+        (record { elapsed = elapsed; bytes = bytes }) }
+    ensures positive { IfSome result (λ weight. 0 < weight) }
 {
-    if let Some(score) = set.get_mut(peer) {
-        score.record(elapsed, bytes);
+    match set.get_mut(peer) {
+        Some(score) => {
+            score.record(elapsed, bytes);
+            Some(score.weight())
+        }
+        None => None,
+    }
+}
+
+/// The peer weighs this, if it is one of those at hand.
+fn reweigh<P: Ord + Drop>(pool: &mut Option<Pool<P>>, peer: &P, weight: Option<u64>)
+    requires positive { IfSome weight (λ weight. 0 < weight) }
+    ensures { pool.new ≡ option_map (reweighed P.cmp peer.now weight) pool.old }
+{
+    if let Some(weight) = weight {
+        if let Some(pool) = pool {
+            pool.set(peer, weight);
+        }
     }
 }
 

@@ -1,9 +1,12 @@
 //! The scans of a fetcher.
 
-ghost use Rattle.std.specs.Prelude.{◌≡◌, ◌≢◌, ◌+◌, ◌<◌, ◌^◌, ℕ, true, false, Ok, Err, Some, None, [], is_some, IfErr, IfOk, OnErr, OnOk};
-ghost use Rattle.std.specs.BTreeMap.{insert_entry};
+ghost use Rattle.std.specs.Prelude.{◌≡◌, ◌≢◌, ◌+◌, ◌<◌, ◌^◌, ℕ, true, false, Ok, Err, Some, None, [], is_some, length, IfErr, IfOk, OnErr, OnOk};
+ghost use Rattle.std.specs.BTreeMap.{insert_entry, is_at};
 ghost use Rattle.std.specs.List.Sorted.{IsStrictlySortedBy};
+ghost use Rattle.std.specs.Map.{lookup};
 ghost use Rattle.std.specs.Map.Iter.{ShowsInOrder, deref};
+ghost use Rattle.resolver_fetch.specs.Known.{eligible};
+ghost use Rattle.resolver_fetch.specs.Trying.{apart_from, weighed};
 ghost use Rattle.resolver_base.specs.Priorities.{pair_order};
 ghost use Rattle.resolver_base.specs.declared.base.fault.Fault.TheVariants.{OutOfMemory};
 ghost use Rattle.resolver_fetch.specs.declared.fetcher.step.Step.TheVariants.{Accept, Clear, Fail};
@@ -13,6 +16,7 @@ ghost use Rattle.resolver_request.specs.Ids.{is_held};
 ghost use Rattle.resolver_request.specs.Requests.{is_asked};
 ghost use Rattle.resolver_fetch.specs.Cursor.{ExpectsNewId, IsRight, TakesNewId, opened, scan_of};
 ghost use Rattle.resolver_fetch.specs.Fetcher.{AsksNewId, question};
+ghost use Rattle.resolver_fetch.specs.Left.{IsAtHand, pool_for, whole_for};
 ghost use Rattle.resolver_fetch.specs.Orders.{orders};
 ghost use Rattle.resolver_fetch.specs.Queues.{placed, retry_queue};
 ghost use Rattle.resolver_fetch.specs.Seeking.{first_until, next_behind, next_of, scan_at, tried_behind, tried_next, trying_key};
@@ -20,12 +24,16 @@ ghost use Rattle.resolver_fetch.specs.Waiting.{place_order};
 ghost use Rattle.resolver_fetch.specs.Stepping.{after_all, after_step, ask_for, expecting};
 
 use crate::fetcher::cursor::Cursor;
+use crate::fetcher::peers::Peers;
+use crate::fetcher::pool::Pool;
 use crate::fetcher::step::{Step, step_of};
+use crate::fetcher::targets::Targets;
 use crate::fetcher::trail::{Expected, Reason, Trail};
 use crate::fetcher::trying::{Next, Trying};
 use crate::fetcher::{Answer, Ask, Fetcher, ID, Request};
 use resolver_base::base::Fault;
 use resolver_request::requests::Requests;
+use std::collections::BTreeMap;
 use std::collections::btree_set::Range;
 
 impl<K: Ord + Clone + Drop, P: Ord + Clone + Drop> Fetcher<K, P> {
@@ -33,8 +41,9 @@ impl<K: Ord + Clone + Drop, P: Ord + Clone + Drop> Fetcher<K, P> {
     /// over at once. Where memory is wanting, nothing changes.
     ///
     /// The waiting keys that are due are gone over in their order, up to the first with a peer that
-    /// may be asked, with one pass over the peers for each. Where no peer may be asked at all it
-    /// takes constant time. Keys and names are cloned; clones are to equal their sources.
+    /// may be asked. Where no peer may be asked at all it takes constant time; else time logarithmic
+    /// in keys, and linear in the targets of the keys that it passes, but for a pass over the peers
+    /// where they are new. Keys and names are cloned; clones are to equal their sources.
     pub fn scan_begin(&mut self, now: u128) -> Result<Option<Ask<K, P>>, Fault>
     where
         requires moment { now < 2 ^ 94 }
@@ -48,7 +57,7 @@ impl<K: Ord + Clone + Drop, P: Ord + Clone + Drop> Fetcher<K, P> {
         ensures only { IfErr result (λ fault. fault ≡ OutOfMemory) }
     {
         let trail = Trail::new(self.alloc);
-        let next = self.next_of(now, &trail)?;
+        let next = self.find(now, &trail)?;
         Ok(self.go_on(now, trail, next))
     }
 
@@ -58,9 +67,9 @@ impl<K: Ord + Clone + Drop, P: Ord + Clone + Drop> Fetcher<K, P> {
     /// wanting only where the answer is taken. The id of a request that it asks for is held by no
     /// other.
     ///
-    /// It takes time linear in the peers, unless the key that was tried has no peer left: then the
-    /// due keys behind it are gone over, as in `scan_begin`. Keys and names are cloned; clones are
-    /// to equal their sources.
+    /// It takes time logarithmic in the peers, where a request is accepted for each that was tried
+    /// for its key, unless that key has no peer left: then the due keys behind it are gone over, as
+    /// in `scan_begin`. Keys and names are cloned; clones are to equal their sources.
     pub fn scan_answer(&mut self, answer: Answer) -> Result<Option<Ask<K, P>>, Fault>
     where
         requires keys_clone { (x y : K) → K.is_clone x y → y ≡ x }
@@ -193,16 +202,44 @@ impl<K: Ord + Clone + Drop, P: Ord + Clone + Drop> Fetcher<K, P> {
         ensures err { OnErr result (self.new ≡ opened cursor self.old) }
         ensures only { IfErr result (λ fault. fault ≡ OutOfMemory) }
     {
+        if cursor.trying.is_last(&peer) {
+            return self.pass(cursor, peer, reason);
+        }
+        if let Err(fault) = cursor.fail(&peer, reason) {
+            self.cursor = Some(cursor);
+            return Err(fault);
+        }
+        let rest = Next::Try(cursor.trying);
+        Ok(self.go_on(cursor.moment, cursor.trail, rest))
+    }
+
+    /// The last peer that was left was tried in vain: the scan goes on behind the key. Where memory
+    /// is wanting, it stays as it was.
+    fn pass(
+        &mut self,
+        mut cursor: Cursor<K, P>,
+        peer: P,
+        reason: Reason,
+    ) -> Result<Option<Ask<K, P>>, Fault>
+    where
+        requires keys_clone { (x y : K) → K.is_clone x y → y ≡ x }
+        requires peers_clone { (x y : P) → P.is_clone x y → y ≡ x }
+        requires closed { is_some self.old.scan ≡ false }
+        requires right { IsRight (orders K.cmp P.cmp) self.old self.old.asked self.old.last_id
+            cursor }
+        requires last { length (apart_from P.cmp peer cursor.trying.left) ≡ 0 }
+        ensures ok { OnOk result (self.new ≡ after_step (orders K.cmp P.cmp) (scan_of cursor)
+            cursor.trying.key (Fail peer reason) self.old) }
+        ensures asked { IfOk result (λ ask. ask ≡ question (orders K.cmp P.cmp) self.new) }
+        ensures new_id { IfOk result (λ ask. AsksNewId (orders K.cmp P.cmp) self.new ask) }
+        ensures err { OnErr result (self.new ≡ opened cursor self.old) }
+        ensures only { IfErr result (λ fault. fault ≡ OutOfMemory) }
+    {
         if let Err(fault) = cursor.note(&peer, reason) {
             self.cursor = Some(cursor);
             return Err(fault);
         }
-        if !cursor.trying.is_last(&peer) {
-            cursor.trying.forget(&peer);
-            let rest = Next::Try(cursor.trying);
-            return Ok(self.go_on(cursor.moment, cursor.trail, rest));
-        }
-        match self.next_behind(&cursor) {
+        match self.find_behind(&cursor) {
             Ok(next) => Ok(self.go_on(cursor.moment, cursor.trail, next)),
             Err(fault) => {
                 cursor.trail.pop();
@@ -212,19 +249,44 @@ impl<K: Ord + Clone + Drop, P: Ord + Clone + Drop> Fetcher<K, P> {
         }
     }
 
-    /// What a scan does next where its key has no peer left.
-    fn next_behind(&self, cursor: &Cursor<K, P>) -> Result<Next<K, P>, Fault>
+    /// What a scan does next where its key has no peer left. Nothing else changes.
+    fn find_behind(&mut self, cursor: &Cursor<K, P>) -> Result<Next<K, P>, Fault>
     where
         requires moment { cursor.now.moment < 2 ^ 94 }
         requires keys_clone { (x y : K) → K.is_clone x y → y ≡ x }
         requires peers_clone { (x y : P) → P.is_clone x y → y ≡ x }
+        ensures ok { IfOk result (λ next. next ≡ next_behind (orders K.cmp P.cmp) self.old
+            cursor.now.moment cursor.now.trail
+            (cursor.now.trying.place, cursor.now.trying.key)) }
+        ensures ordered { IsStrictlySortedBy (pair_order place_order K.cmp) self.old.waiting }
+        ensures same { self.new ≡ self.old }
+        ensures only { IfErr result (λ fault. fault ≡ OutOfMemory) }
+    {
+        let mut at_hand = self.peers.take_pool();
+        let found = self.next_behind(cursor, &mut at_hand);
+        self.peers.put_pool(at_hand);
+        found
+    }
+
+    /// The same, with the peers at hand.
+    fn next_behind(
+        &self,
+        cursor: &Cursor<K, P>,
+        at_hand: &mut Option<Pool<P>>,
+    ) -> Result<Next<K, P>, Fault>
+    where
+        requires moment { cursor.now.moment < 2 ^ 94 }
+        requires keys_clone { (x y : K) → K.is_clone x y → y ≡ x }
+        requires peers_clone { (x y : P) → P.is_clone x y → y ≡ x }
+        requires at_hand { IsAtHand (orders K.cmp P.cmp) self.now at_hand.old }
         ensures ok { IfOk result (λ next. next ≡ next_behind (orders K.cmp P.cmp) self.now
             cursor.now.moment cursor.now.trail
             (cursor.now.trying.place, cursor.now.trying.key)) }
         ensures ordered { IsStrictlySortedBy (pair_order place_order K.cmp) self.now.waiting }
+        ensures at_hand { IsAtHand (orders K.cmp P.cmp) self.now at_hand.new }
         ensures only { IfErr result (λ fault. fault ≡ OutOfMemory) }
     {
-        match self.seek_behind(&cursor.trying, cursor.moment, &cursor.trail)? {
+        match self.seek_behind(&cursor.trying, cursor.moment, &cursor.trail, at_hand)? {
             Some(trying) => Ok(Next::Try(trying)),
             None => Ok(Next::Wait(cursor.trail.moment(cursor.moment, self.retry_delay))),
         }
@@ -250,6 +312,7 @@ impl<K: Ord + Clone + Drop, P: Ord + Clone + Drop> Fetcher<K, P> {
             Ok(()) => {
                 self.pending
                     .remove(&cursor.trying.pair.1, cursor.trying.is_retry);
+                keep_pool(&self.targets, &mut self.peers, cursor.trying);
                 Ok(None)
             }
             Err(fault) => {
@@ -288,17 +351,41 @@ impl<K: Ord + Clone + Drop, P: Ord + Clone + Drop> Fetcher<K, P> {
         }
     }
 
-    /// What a scan of this moment does next after this trail.
-    fn next_of(&self, moment: u128, trail: &Trail<K, P>) -> Result<Next<K, P>, Fault>
+    /// What a scan of this moment does next after this trail. Nothing else changes.
+    fn find(&mut self, moment: u128, trail: &Trail<K, P>) -> Result<Next<K, P>, Fault>
     where
         requires moment { moment < 2 ^ 94 }
         requires keys_clone { (x y : K) → K.is_clone x y → y ≡ x }
         requires peers_clone { (x y : P) → P.is_clone x y → y ≡ x }
         ensures ok { IfOk result
-            (λ next. next ≡ next_of (orders K.cmp P.cmp) self.now moment trail.now) }
+            (λ next. next ≡ next_of (orders K.cmp P.cmp) self.old moment trail.now) }
+        ensures same { self.new ≡ self.old }
         ensures only { IfErr result (λ fault. fault ≡ OutOfMemory) }
     {
-        match self.seek(moment, trail)? {
+        let mut at_hand = self.peers.take_pool();
+        let found = self.next_of(moment, trail, &mut at_hand);
+        self.peers.put_pool(at_hand);
+        found
+    }
+
+    /// The same, with the peers at hand.
+    fn next_of(
+        &self,
+        moment: u128,
+        trail: &Trail<K, P>,
+        at_hand: &mut Option<Pool<P>>,
+    ) -> Result<Next<K, P>, Fault>
+    where
+        requires moment { moment < 2 ^ 94 }
+        requires keys_clone { (x y : K) → K.is_clone x y → y ≡ x }
+        requires peers_clone { (x y : P) → P.is_clone x y → y ≡ x }
+        requires at_hand { IsAtHand (orders K.cmp P.cmp) self.now at_hand.old }
+        ensures ok { IfOk result
+            (λ next. next ≡ next_of (orders K.cmp P.cmp) self.now moment trail.now) }
+        ensures at_hand { IsAtHand (orders K.cmp P.cmp) self.now at_hand.new }
+        ensures only { IfErr result (λ fault. fault ≡ OutOfMemory) }
+    {
+        match self.seek(moment, trail, at_hand)? {
             Some(trying) => Ok(Next::Try(trying)),
             None => Ok(Next::Wait(trail.moment(moment, self.retry_delay))),
         }
@@ -307,24 +394,31 @@ impl<K: Ord + Clone + Drop, P: Ord + Clone + Drop> Fetcher<K, P> {
     /// What a scan of this moment tries after this trail: the first waiting key that is due and
     /// has a peer left.
     ///
-    /// It takes constant time where no peer may be asked at all, else a pass over the peers for
-    /// each due key that it passes, with a look-up in the trail for each, and two look-ups more.
-    fn seek(&self, moment: u128, trail: &Trail<K, P>) -> Result<Option<Trying<K, P>>, Fault>
+    /// It takes constant time where no peer may be asked at all, else a look at each due key that
+    /// it passes, and two look-ups more.
+    fn seek(
+        &self,
+        moment: u128,
+        trail: &Trail<K, P>,
+        at_hand: &mut Option<Pool<P>>,
+    ) -> Result<Option<Trying<K, P>>, Fault>
     where
         requires keys_clone { (x y : K) → K.is_clone x y → y ≡ x }
         requires peers_clone { (x y : P) → P.is_clone x y → y ≡ x }
+        requires at_hand { IsAtHand (orders K.cmp P.cmp) self.now at_hand.old }
         ensures ok { IfOk result (λ found. found
             ≡ tried_next (orders K.cmp P.cmp) self.now moment trail.now) }
+        ensures at_hand { IsAtHand (orders K.cmp P.cmp) self.now at_hand.new }
         ensures only { IfErr result (λ fault. fault ≡ OutOfMemory) }
     {
         if self.peers.none_askable() {
             return Ok(None);
         }
         let queue = self.pending.keys().fresh().range_from(0)?;
-        if let Some(found) = self.first_until(queue, false, moment, trail)? {
+        if let Some(found) = self.first_until(queue, false, moment, trail, at_hand)? {
             return Ok(Some(found));
         }
-        self.seek_retry(moment, trail)
+        self.seek_retry(moment, trail, at_hand)
     }
 
     /// What a scan of this moment tries after this trail of the keys behind the one that it tried.
@@ -333,39 +427,49 @@ impl<K: Ord + Clone + Drop, P: Ord + Clone + Drop> Fetcher<K, P> {
         tried: &Trying<K, P>,
         moment: u128,
         trail: &Trail<K, P>,
+        at_hand: &mut Option<Pool<P>>,
     ) -> Result<Option<Trying<K, P>>, Fault>
     where
         requires keys_clone { (x y : K) → K.is_clone x y → y ≡ x }
         requires peers_clone { (x y : P) → P.is_clone x y → y ≡ x }
+        requires at_hand { IsAtHand (orders K.cmp P.cmp) self.now at_hand.old }
         ensures ok { IfOk result (λ found. found ≡ tried_behind (orders K.cmp P.cmp) self.now
             (tried.now.place, tried.now.key) (scan_at moment trail.now)) }
         ensures ordered { IsStrictlySortedBy (pair_order place_order K.cmp) self.now.waiting }
+        ensures at_hand { IsAtHand (orders K.cmp P.cmp) self.now at_hand.new }
         ensures only { IfErr result (λ fault. fault ≡ OutOfMemory) }
     {
         let keys = self.pending.keys();
         keys.law();
         if tried.is_retry {
             let behind = keys.retry().range_after(&tried.pair);
-            return self.first_until(behind, true, moment, trail);
+            return self.first_until(behind, true, moment, trail, at_hand);
         }
         let behind = keys.fresh().range_after(&tried.pair);
-        if let Some(found) = self.first_until(behind, false, moment, trail)? {
+        if let Some(found) = self.first_until(behind, false, moment, trail, at_hand)? {
             return Ok(Some(found));
         }
-        self.seek_retry(moment, trail)
+        self.seek_retry(moment, trail, at_hand)
     }
 
     /// The first key that is tried again, is due and has a peer left after this trail.
-    fn seek_retry(&self, moment: u128, trail: &Trail<K, P>) -> Result<Option<Trying<K, P>>, Fault>
+    fn seek_retry(
+        &self,
+        moment: u128,
+        trail: &Trail<K, P>,
+        at_hand: &mut Option<Pool<P>>,
+    ) -> Result<Option<Trying<K, P>>, Fault>
     where
         requires keys_clone { (x y : K) → K.is_clone x y → y ≡ x }
         requires peers_clone { (x y : P) → P.is_clone x y → y ≡ x }
+        requires at_hand { IsAtHand (orders K.cmp P.cmp) self.now at_hand.old }
         ensures ok { IfOk result (λ found. found ≡ first_until (orders K.cmp P.cmp) self.now
             trail.now moment (placed true (retry_queue self.now.waiting))) }
+        ensures at_hand { IsAtHand (orders K.cmp P.cmp) self.now at_hand.new }
         ensures only { IfErr result (λ fault. fault ≡ OutOfMemory) }
     {
         let queue = self.pending.keys().retry().range_from(0)?;
-        self.first_until(queue, true, moment, trail)
+        self.first_until(queue, true, moment, trail, at_hand)
     }
 
     /// The first of these keys of a queue, up to a moment, that has a peer left after this trail.
@@ -375,22 +479,25 @@ impl<K: Ord + Clone + Drop, P: Ord + Clone + Drop> Fetcher<K, P> {
         is_retry: bool,
         moment: u128,
         trail: &Trail<K, P>,
+        at_hand: &mut Option<Pool<P>>,
     ) -> Result<Option<Trying<K, P>>, Fault>
     where
         requires keys_clone { (x y : K) → K.is_clone x y → y ≡ x }
         requires peers_clone { (x y : P) → P.is_clone x y → y ≡ x }
         requires ordered { IsStrictlySortedBy (pair_order nat_cmp K.cmp) queue }
         requires runs { ShowsInOrder (deref {X = ℕ × K}) }
+        requires at_hand { IsAtHand (orders K.cmp P.cmp) self.now at_hand.old }
         ensures ok { IfOk result (λ found. found ≡ first_until (orders K.cmp P.cmp) self.now
             trail.now moment (placed is_retry queue.entry)) }
+        ensures at_hand { IsAtHand (orders K.cmp P.cmp) self.now at_hand.new }
         ensures only { IfErr result (λ fault. fault ≡ OutOfMemory) }
     {
         for pair in queue {
             if pair.0 > moment {
                 return Ok(None);
             }
-            let trying = self.trying(pair, is_retry, trail)?;
-            if !trying.left.is_empty() {
+            let trying = self.trying(pair, is_retry, trail, at_hand)?;
+            if trying.count() > 0 {
                 return Ok(Some(trying));
             }
         }
@@ -403,28 +510,67 @@ impl<K: Ord + Clone + Drop, P: Ord + Clone + Drop> Fetcher<K, P> {
         pair: &(u128, K),
         is_retry: bool,
         trail: &Trail<K, P>,
+        at_hand: &mut Option<Pool<P>>,
     ) -> Result<Trying<K, P>, Fault>
     where
         requires keys_clone { (x y : K) → K.is_clone x y → y ≡ x }
         requires peers_clone { (x y : P) → P.is_clone x y → y ≡ x }
+        requires at_hand { IsAtHand (orders K.cmp P.cmp) self.now at_hand.old }
         ensures ok { IfOk result (λ trying. trying ≡ trying_key (orders K.cmp P.cmp) self.now
             trail.now (record { is_retry = is_retry; due = pair.now.0 }, pair.now.1)) }
+        ensures at_hand { IsAtHand (orders K.cmp P.cmp) self.now at_hand.new }
         ensures only { IfErr result (λ fault. fault ≡ OutOfMemory) }
     {
         let (due, key) = pair;
-        let mut left = self.peers.eligible(self.targets.get(key))?;
-        left.retain(|peer| !trail.was_tried(key, &peer.0));
+        let again = key.clone()?;
+        let pool = self.pool_for(key, trail, at_hand)?;
         Ok(Trying {
             is_retry,
-            pair: (*due, key.clone()?),
+            pair: (*due, again),
             retries: self.retries(key),
-            left,
+            pool,
         })
+    }
+
+    /// The peers that may be asked for a key, and of them those that are left after this trail.
+    fn pool_for(
+        &self,
+        key: &K,
+        trail: &Trail<K, P>,
+        at_hand: &mut Option<Pool<P>>,
+    ) -> Result<Pool<P>, Fault>
+    where
+        requires peers_clone { (x y : P) → P.is_clone x y → y ≡ x }
+        requires at_hand { IsAtHand (orders K.cmp P.cmp) self.now at_hand.old }
+        ensures ok { IfOk result
+            (λ pool. pool ≡ pool_for (orders K.cmp P.cmp) self.now trail.now key.now) }
+        ensures at_hand { IsAtHand (orders K.cmp P.cmp) self.now at_hand.new }
+        ensures only { IfErr result (λ fault. fault ≡ OutOfMemory) }
+    {
+        let mut pool = self.peers_for(key, at_hand)?;
+        for peer in trail.tried(key) {
+            pool.forget(peer)?;
+        }
+        Ok(pool)
+    }
+
+    /// The peers that may be asked for a key: where it has no targets those at hand, else a few of
+    /// their own.
+    fn peers_for(&self, key: &K, at_hand: &mut Option<Pool<P>>) -> Result<Pool<P>, Fault>
+    where
+        requires peers_clone { (x y : P) → P.is_clone x y → y ≡ x }
+        requires at_hand { IsAtHand (orders K.cmp P.cmp) self.now at_hand.old }
+        ensures ok { IfOk result
+            (λ pool. pool ≡ whole_for (orders K.cmp P.cmp) self.now key.now) }
+        ensures at_hand { IsAtHand (orders K.cmp P.cmp) self.now at_hand.new }
+        ensures only { IfErr result (λ fault. fault ≡ OutOfMemory) }
+    {
+        self.peers.pool_for(self.targets.get(key), at_hand)
     }
 }
 
 /// Puts the request that a scan sent. Where memory is wanting, nothing changes.
-fn put_request<K: Ord + Clone + Drop, P: Drop>(
+fn put_request<K: Ord + Clone + Drop, P: Ord + Drop>(
     requests: &mut Requests<K, P>,
     cursor: &Cursor<K, P>,
     peer: P,
@@ -454,8 +600,26 @@ fn put_request<K: Ord + Clone + Drop, P: Drop>(
     requests.insert(id, request)
 }
 
+/// Keeps the peers that a key was tried with which any key without targets may be asked of.
+fn keep_pool<K: Ord + Drop, P: Ord + Drop>(
+    targets: &BTreeMap<K, Targets<P>>,
+    peers: &mut Peers<P>,
+    trying: Trying<K, P>,
+)
+    requires all { lookup (is_at (K.cmp trying.key)) targets.now.entries ≡ None
+        → trying.all ≡ weighed (eligible P.cmp peers.old None) }
+    ensures { peers.new ≡ peers.old }
+{
+    if targets.contains_key(&trying.pair.1) {
+        return;
+    }
+    let mut pool = trying.pool;
+    pool.restore();
+    peers.put_pool(Some(pool));
+}
+
 /// What a scan asks that tries a key and expects something.
-fn ask_for<K: Clone + Drop, P: Clone + Drop>(
+fn ask_for<K: Clone + Drop, P: Ord + Clone + Drop>(
     priority: bool,
     trying: &Trying<K, P>,
     expected: &Expected<P>,
@@ -468,7 +632,7 @@ fn ask_for<K: Clone + Drop, P: Clone + Drop>(
     match expected {
         Expected::Mode => Ok(Ask::Draw(u128::from(trying.retries) + 4)),
         Expected::ByWeight => Ok(Ask::Draw(trying.total())),
-        Expected::ByPlace => Ok(Ask::Draw(trying.left.len() as u128)),
+        Expected::ByPlace => Ok(Ask::Draw(trying.count())),
         Expected::Checking(peer) => Ok(Ask::Check(peer.clone()?)),
         Expected::FirstId(_) => Ok(Ask::Draw(1 << 64)),
         Expected::Sending(peer, id) => Ok(Ask::Request {

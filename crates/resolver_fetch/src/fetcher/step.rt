@@ -28,7 +28,7 @@ pub(super) enum Step<P> {
 
 /// What an answer means to a scan that tries a key and expects something. One that it doesn't
 /// expect, or a number out of range, is refused. Memory may be wanting only where it is taken.
-pub(super) fn step_of<K, P: Clone + Drop>(
+pub(super) fn step_of<K, P: Ord + Clone + Drop>(
     trying: &Trying<K, P>,
     expected: &Expected<P>,
     answer: Answer,

@@ -7,9 +7,8 @@ ghost use Rattle.std.specs.Option.{option_map_or};
 ghost use Rattle.std.specs.Ordering.{is_eq};
 ghost use Rattle.resolver_base.specs.declared.base.fault.Fault.TheVariants.{OutOfMemory};
 ghost use Rattle.resolver_fetch.specs.declared.fetcher.trail.Try.{Try};
-ghost use Rattle.resolver_fetch.specs.Orders.{is_one_of, orders};
-ghost use Rattle.resolver_fetch.specs.Scan.{least, least_until, limit_of, trail_moment, was_tried};
-ghost use Rattle.resolver_fetch.specs.Tried.{noted};
+ghost use Rattle.resolver_fetch.specs.Scan.{least, least_until, limit_of, trail_moment};
+ghost use Rattle.resolver_fetch.specs.Tried.{noted, peers_tried};
 
 use crate::fetcher::ID;
 use resolver_base::base::Fault;
@@ -65,8 +64,7 @@ pub(super) enum Expected<P> {
 
 /// What a scan tried in vain. Contracts see it as the list of its tries.
 ///
-/// A call on one key takes time logarithmic in the number of keys that were tried, and linear in
-/// the peers that were tried for it.
+/// A call on one key takes time logarithmic in the number of keys that were tried.
 #[derive(Debug, Drop)]
 pub(super) struct Trail<K: Ord, P> {
     tries: Vec<Try<K, P>>,
@@ -145,6 +143,16 @@ impl<K: Ord + Drop, P: Drop> Trail<K, P> {
         }
     }
 
+    /// The peers that were tried for a key, in the order of the tries.
+    pub(super) fn tried(&self, key: &K) -> &[P]
+        ensures { result.now ≡ peers_tried K.cmp self.now key.now }
+    {
+        match self.peers.get(key) {
+            Some(peers) => peers.as_slice(),
+            None => &[],
+        }
+    }
+
     /// When what was tried may be tried again, if anything was tried: at the least limit, or after
     /// the delay where there were refusals alone. It takes time linear in what was tried.
     pub(super) fn moment(&self, now: u128, delay: u128) -> Option<u128>
@@ -158,18 +166,6 @@ impl<K: Ord + Drop, P: Drop> Trail<K, P> {
         match least_until(&self.tries) {
             Some(limit) => Some(limit),
             None => Some(now + delay),
-        }
-    }
-}
-
-impl<K: Ord + Drop, P: Ord + Drop> Trail<K, P> {
-    /// Whether a peer was tried for a key.
-    pub(super) fn was_tried(&self, key: &K, peer: &P) -> bool
-        ensures { result ≡ was_tried (orders K.cmp P.cmp) self.now key.now peer.now }
-    {
-        match self.peers.get(key) {
-            Some(peers) => is_listed(peers, peer),
-            None => false,
         }
     }
 }
@@ -221,11 +217,4 @@ pub(super) fn least(moment: Option<u128>, later: Option<u128>) -> Option<u128>
         },
         None => later,
     }
-}
-
-/// Whether this peer is one of these.
-fn is_listed<P: Ord>(listed: &[P], peer: &P) -> bool
-    ensures { result ≡ is_one_of P.cmp listed.now peer.now }
-{
-    listed.iter().any(|other| peer.cmp(other).is_eq())
 }

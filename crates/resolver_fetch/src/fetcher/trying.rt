@@ -1,35 +1,38 @@
 //! The key that a scan tries.
 
-ghost use Rattle.std.specs.Prelude.{◌≡◌, ◌==◌, length, sum};
+ghost use Rattle.std.specs.Prelude.{◌≡◌, ◌==◌, length, sum, IfErr, OnErr, OnOk};
+ghost use Rattle.resolver_base.specs.declared.base.fault.Fault.TheVariants.{OutOfMemory};
 ghost use Rattle.std.specs.Option.{option_copied};
 ghost use Rattle.resolver_fetch.specs.Trying.{apart_from, at_place, at_weight, weights_of};
 
+use crate::fetcher::pool::Pool;
+use resolver_base::base::Fault;
 use std::marker::Model;
 
 /// The key that a scan tries, and the peers that are left for it.
 ///
-/// A call takes time linear in the peers, unless it says otherwise.
+/// A call takes time logarithmic in the peers, unless it says otherwise.
 #[derive(Debug, Drop)]
-pub(super) struct Trying<K, P> {
+pub(super) struct Trying<K, P: Ord> {
     /// Whether the key is tried again, or is fresh.
     pub(super) is_retry: bool,
     /// The key, with its due, as its queue has it.
     pub(super) pair: (u128, K),
     pub(super) retries: u32,
-    /// The peers that were not tried for it, in their order, with what they weigh.
-    pub(super) left: Vec<(P, u64)>,
+    /// The peers that may be asked for it; those that were not tried for it are left.
+    pub(super) pool: Pool<P>,
 }
 
 /// What a scan does next.
 #[derive(Debug, Drop)]
-pub(super) enum Next<K, P> {
+pub(super) enum Next<K, P: Ord> {
     /// It tries this key.
     Try(Trying<K, P>),
     /// It ends in vain, and may be begun again once a key becomes due, or at this moment.
     Wait(Option<u128>),
 }
 
-impl<K, P> Model for Trying<K, P> {
+impl<K, P: Ord> Model for Trying<K, P> {
     ghost use Rattle.resolver_fetch.specs.Trying.{Trying};
 
     ghost Value = { Trying K P };
@@ -38,63 +41,54 @@ impl<K, P> Model for Trying<K, P> {
       place = record { is_retry = a.is_retry; due = a.pair.0 };
       key = a.pair.1;
       retries = a.retries;
-      left = a.left.items;
+      all = a.pool.all;
+      left = a.pool.left;
     } };
 }
 
-impl<K, P> Trying<K, P> {
-    /// What the peers left weigh.
+impl<K, P: Ord + Drop> Trying<K, P> {
+    /// What the peers left weigh, in constant time.
     pub(super) fn total(&self) -> u128
         ensures { result ≡ sum (weights_of self.now.left) }
     {
-        self.left.iter().map(|peer| u128::from(peer.1)).sum()
+        self.pool.total()
+    }
+
+    /// How many peers are left, in constant time.
+    pub(super) fn count(&self) -> u128
+        ensures { result ≡ length self.now.left }
+    {
+        self.pool.count()
     }
 
     /// The peer in whose interval of the weights a number lies, if it lies in one.
     pub(super) fn by_weight(&self, number: u128) -> Option<&P>
         ensures { option_copied result ≡ at_weight self.now.left number }
     {
-        let mut rest = number;
-        for peer in &self.left {
-            let weight = u128::from(peer.1);
-            if rest < weight {
-                return Some(&peer.0);
-            }
-            rest -= weight;
-        }
-        None
+        self.pool.by_weight(number)
     }
 
-    /// The peer at a place, in constant time.
+    /// The peer at a place.
     pub(super) fn by_place(&self, number: u128) -> Option<&P>
         ensures { option_copied result ≡ at_place self.now.left number }
     {
-        if number >= self.left.len() as u128 {
-            return None;
-        }
-        let peer = self.left.get(number as usize)?;
-        Some(&peer.0)
+        self.pool.by_place(number)
     }
-}
 
-impl<K, P: Ord + Drop> Trying<K, P> {
     /// Whether no peer is left for it but this one.
     pub(super) fn is_last(&self, peer: &P) -> bool
         ensures { result ≡ (length (apart_from P.cmp peer.now self.now.left) == 0) }
     {
-        for other in &self.left {
-            if !other.0.cmp(peer).is_eq() {
-                return false;
-            }
-        }
-        true
+        self.pool.is_last(peer)
     }
 
-    /// The peer is left no more.
-    pub(super) fn forget(&mut self, peer: &P)
-        ensures { self.new
-            ≡ record self.old { left = apart_from P.cmp peer.now self.old.left } }
+    /// The peer is left no more. Where memory is wanting, nothing changes.
+    pub(super) fn forget(&mut self, peer: &P) -> Result<(), Fault>
+        ensures ok { OnOk result (self.new
+            ≡ record self.old { left = apart_from P.cmp peer.now self.old.left }) }
+        ensures err { OnErr result (self.new ≡ self.old) }
+        ensures only { IfErr result (λ fault. fault ≡ OutOfMemory) }
     {
-        self.left.retain(|other| !other.0.cmp(peer).is_eq());
+        self.pool.forget(peer)
     }
 }

@@ -96,8 +96,8 @@ impl<R: Ord, V: PartialEq, S> Consumer<R, V, S> {
 impl<R, V, S> Judge for Consumer<R, V, S>
 where
     R: Span + Drop + 'static,
-    V: PartialEq + Send + Drop + 'static,
-    S: Clone + Eq + Send + Drop + 'static,
+    V: PartialEq + Drop + 'static,
+    S: Clone + Eq + Drop + 'static,
 {
     type Key = R;
 

@@ -54,7 +54,7 @@ impl<K: Ord + Drop, V: Drop> Producer<K, V> {
 impl<K, V> Source for Producer<K, V>
 where
     K: Span + Drop + 'static,
-    V: Clone + Into<Bytes> + Send + Drop + 'static,
+    V: Clone + Into<Bytes> + Drop + 'static,
 {
     type Key = K;
 

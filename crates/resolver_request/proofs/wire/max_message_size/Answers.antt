@@ -3,5 +3,5 @@ use Rattle.resolver_request.proofs.wire.max_message_size.Goals as goal
 
 pub returns-clause-covers : goal.returns-clause-covers
 returns-clause-covers g c =
-    let laws = g.met.Key.Span g.world.𝓛 g.world.𝓜 g.world.𝓡 ((λ s x. x), (λ x. x), (λ x. x), λ x. x) in
+    let laws = g.met.Key.Span in
     rw (c.max.ensures, c.SIZE.ensures) (covers g.Key.Span.bytes_of g.Key.Span.SIZE c.args.value laws.sized)

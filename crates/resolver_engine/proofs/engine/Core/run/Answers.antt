@@ -13,12 +13,12 @@ use Rattle.resolver_engine.proofs.engine.Core.run.Goals as goal
 
 -- the order of the keys
 keys : (g : given.Over) → IsTotalOrder g.K.Ord.cmp
-keys g = (g.met.K.Ord g.world.𝓛 g.world.𝓜 g.world.𝓡 ((λ s x. x), (λ x. x), (λ x. x), λ x. x)).total
+keys g = g.met.K.Ord.total
 
 -- a predicate answers alike on equal keys and subscribers
 alike : (g : given.Over) (q : _) → AnswersAlike (names g.K.Ord.cmp g.S.Ord.cmp) (g.Q.Predicate.keeps q)
 alike g q k l s t same_key same_subscriber =
-    let by_key = g.met.K.Ord g.world.𝓛 g.world.𝓜 g.world.𝓡 ((λ s x. x), (λ x. x), (λ x. x), λ x. x) in
+    let by_key = g.met.K.Ord in
     sym (g.met.Q.Predicate.alike q k l s t (by_key.matches_eq k l ∙ same_key) (g.met.S.Ord.matches_eq s t ∙ same_subscriber))
 
 pub loop-input-init : goal.loop-input-init

@@ -8,7 +8,7 @@ use Rattle.resolver_engine.proofs.parts.Parts.end.Goals as goal
 pub returns : goal.returns
 returns g c = λ m agrees.
     let a = parties g.K.Ord.cmp g.S.Ord.cmp g.P.Ord.cmp in
-    let by_key = (g.met.K.Ord g.world.𝓛 g.world.𝓜 g.world.𝓡 ((λ s x. x), (λ x. x), (λ x. x), λ x. x)).total in
+    let by_key = g.met.K.Ord.total in
     let e = c.args.self.now in
     record {
       done = end m;

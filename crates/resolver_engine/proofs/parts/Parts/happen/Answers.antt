@@ -5,7 +5,7 @@ use Rattle.resolver_engine.proofs.Happening.{closed-behind, happened, wanting-be
 use Rattle.resolver_engine.proofs.parts.Parts.happen.Goals as goal
 
 pub scan-requires-clause-closed : goal.scan-requires-clause-closed
-scan-requires-clause-closed g c κs within =
+scan-requires-clause-closed g c =
     let a = parties g.K.Ord.cmp g.S.Ord.cmp g.P.Ord.cmp in
     let words = codec g.K.Span.SIZE g.K.Span.bytes_of g.K.Span.read_from in
     let m = c.requires.tied.0 in

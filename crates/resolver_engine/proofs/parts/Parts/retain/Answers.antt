@@ -10,7 +10,7 @@ use Rattle.resolver_engine.proofs.parts.Parts.retain.Goals as goal
 pub returns : goal.returns
 returns g c = λ m agrees.
     let a = parties g.K.Ord.cmp g.S.Ord.cmp g.P.Ord.cmp in
-    let by_key = (g.met.K.Ord g.world.𝓛 g.world.𝓜 g.world.𝓡 ((λ s x. x), (λ x. x), (λ x. x), λ x. x)).total in
+    let by_key = g.met.K.Ord.total in
     let keep = g.Q.Predicate.keeps c.args.keep.now in
     let e = c.args.self.now in
     let keys = c.as_slice.ensures.value ∙ c.in_ok-emptied.ensures.emptied ∙ ap (emptied keep) agrees.demand in

@@ -9,6 +9,6 @@ pub returns-clause-goes : goal.returns-clause-goes
 returns-clause-goes g c = λ m is over.
     let a = parties g.K.Ord.cmp g.S.Ord.cmp g.P.Ord.cmp in
     let words = codec g.K.Span.SIZE g.K.Span.bytes_of g.K.Span.read_from in
-    let o = (g.met.K.Ord g.world.𝓛 g.world.𝓜 g.world.𝓡 ((λ s x. x), (λ x. x), (λ x. x), λ x. x)).total in
+    let o = g.met.K.Ord.total in
     goes-last a words _ _ _ _ c.tell_asked.result c.tell_asked.ensures.ok c.tell_asked.ensures.only
     (λ grown. begun a o words c.args.self.now _ m c.args.now c.in_ok-asked.asked _ _ is (due-now c.in-Some.due c.args.now _ (c.in-Some.ensures m is) c.if-due-now.false) refl c.in_ok-asked.ensures.ok c.in_ok-asked.ensures.asked grown)

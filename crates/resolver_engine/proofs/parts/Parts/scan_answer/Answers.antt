@@ -8,7 +8,7 @@ pub returns-in_err-asked : goal.returns-in_err-asked
 returns-in_err-asked g c = λ m is.
     let a = parties g.K.Ord.cmp g.S.Ord.cmp g.P.Ord.cmp in
     let words = codec g.K.Span.SIZE g.K.Span.bytes_of g.K.Span.read_from in
-    let o = (g.met.K.Ord g.world.𝓛 g.world.𝓜 g.world.𝓡 ((λ s x. x), (λ x. x), (λ x. x), λ x. x)).total in
+    let o = g.met.K.Ord.total in
     let refused : c.from_residual.result ≡ Err c.in_err-asked.field-0.0 = search rules in
     rw refused (answer-refused a o words c.args.self.now _ m c.args.answer c.args.effects.now.items is refl c.in_err-asked.ensures.err c.in_err-asked.field-0.0
     c.in_err-asked.ensures.refused c.in_err-asked.ensures.takes)
@@ -17,6 +17,6 @@ pub returns : goal.returns
 returns g c = λ m is.
     let a = parties g.K.Ord.cmp g.S.Ord.cmp g.P.Ord.cmp in
     let words = codec g.K.Span.SIZE g.K.Span.bytes_of g.K.Span.read_from in
-    let o = (g.met.K.Ord g.world.𝓛 g.world.𝓜 g.world.𝓡 ((λ s x. x), (λ x. x), (λ x. x), λ x. x)).total in
+    let o = g.met.K.Ord.total in
     answer-taken a o words c.args.self.now _ m c.args.answer c.in_ok-asked.asked _ _ is refl
     c.in_ok-asked.ensures.ok c.in_ok-asked.ensures.asked c.in_ok-asked.ensures.new_id c.tell_asked.result c.tell_asked.ensures.ok c.tell_asked.ensures.only

@@ -4,6 +4,7 @@ use Rattle.resolver_fetch.specs.Fetcher.{Fetcher}
 use Rattle.resolver_fetch.specs.Orders.{orders}
 use Rattle.resolver_fetch.proofs.Kept.{closed-any, kept-sent}
 use Rattle.resolver_fetch.proofs.Phases.{tried-apart, tried-kind}
+use Rattle.resolver_fetch.proofs.Weighing.{all-tried}
 use Rattle.resolver_fetch.proofs.fetcher.Fetcher.accept.Goals as goal
 
 pub put_request-requires-clause-new_key : goal.put_request-requires-clause-new_key
@@ -60,3 +61,19 @@ invariant_of-self-in-Ok-4 g c =
     let key = ap (λ (n : Cursor g.row.K.Denot g.row.P.Denot). n.trying.key) c.cursor.view_is in
     rw (c.remove.ensures, c.in-Ok.ensures.ok, key)
     (kept-sent g.met.K.Ord.total a.fetch_timeout a.retry_delay a.last_id a.pending.keys a.requests c.self.invariant.0 c.args.id _ new idle taken, closed-any a.cursor shut _)
+
+pub keep_pool-requires : goal.keep_pool-requires
+keep_pool-requires g c = record {
+  all = rw (← c.self.view_is) at (all-tried (orders g.K.Ord.cmp g.P.Ord.cmp) c.args.self.now c.args.cursor.moment c.args.cursor.trail c.args.cursor.trying c.requires.right.tries);
+}
+
+pub invariant_of-self-in-Err : goal.invariant_of-self-in-Err
+invariant_of-self-in-Err g c =
+    rw c.in-Err.ensures.err (
+      c.self.invariant.0,
+      record {
+        moment_fits = c.requires.right.moment_fits;
+        tries = rw (← c.self.view_is) at c.requires.right.tries;
+        new_id = rw (← c.self.view_is) at c.requires.right.new_id;
+      },
+    )

@@ -9,3 +9,59 @@ returns-in-Ok-clause-asked g c =
     let t = c.args.cursor in
     rw (c.in-Ok.ensures.ok, c.wake.ensures)
     (sym (rw (← c.self.view_is) at (asks-kept o c.args.self.now t.moment t.trail t.trying c.args.expected c.args.last_id None c.requires.right.tries)))
+
+pub invariant_of-self : goal.invariant_of-self
+invariant_of-self g c =
+    let kept = c.self.invariant.0 in
+    rw c.wake.ensures (
+      record {
+        timely = kept.timely;
+        once = kept.once;
+        none_yet = rw (← c.self.view_is) at c.requires.none_yet;
+      },
+      record {
+        moment_fits = c.requires.right.moment_fits;
+        tries = rw (← c.self.view_is) at c.requires.right.tries;
+        new_id = rw (← c.self.view_is) at c.requires.new_id;
+      },
+    )
+
+pub invariant_of-self-in-Err : goal.invariant_of-self-in-Err
+invariant_of-self-in-Err g c = (
+  c.self.invariant.0,
+  record {
+    moment_fits = c.requires.right.moment_fits;
+    tries = rw (← c.self.view_is) at c.requires.right.tries;
+    new_id = rw (← c.self.view_is) at c.requires.right.new_id;
+  },
+)
+
+pub invariant_of-self-in-Err-2 : goal.invariant_of-self-in-Err-2
+invariant_of-self-in-Err-2 g c = (
+  c.self.invariant.0,
+  record {
+    moment_fits = c.requires.right.moment_fits;
+    tries = rw (← c.self.view_is) at c.requires.right.tries;
+    new_id = rw (← c.self.view_is) at c.requires.right.new_id;
+  },
+)
+
+pub invariant_of-self-in-Err-3 : goal.invariant_of-self-in-Err-3
+invariant_of-self-in-Err-3 g c = (
+  c.self.invariant.0,
+  record {
+    moment_fits = c.requires.right.moment_fits;
+    tries = rw (← c.self.view_is) at c.requires.right.tries;
+    new_id = rw (← c.self.view_is) at c.requires.right.new_id;
+  },
+)
+
+pub invariant_of-self-in-Err-4 : goal.invariant_of-self-in-Err-4
+invariant_of-self-in-Err-4 g c = (
+  c.self.invariant.0,
+  record {
+    moment_fits = c.requires.right.moment_fits;
+    tries = rw (← c.self.view_is) at c.requires.right.tries;
+    new_id = rw (← c.self.view_is) at c.requires.right.new_id;
+  },
+)

@@ -6,9 +6,9 @@ use Rattle.resolver_fetch.proofs.Progress.{begins-sound}
 use Rattle.resolver_fetch.proofs.fetcher.Fetcher.fetch.Goals as goal
 
 pub drive-driven-requires-clause-sound : goal.drive-driven-requires-clause-sound
-drive-driven-requires-clause-sound g c κs within =
+drive-driven-requires-clause-sound g c =
     let o = orders g.K.Ord.cmp g.P.Ord.cmp in
-    let by_key = (g.met.K.Ord g.world.𝓛 g.world.𝓜 g.world.𝓡 ((λ s x. x), (λ x. x), (λ x. x), λ x. x)).total in
-    let by_peer = (g.met.P.Ord g.world.𝓛 g.world.𝓜 g.world.𝓡 ((λ s x. x), (λ x. x), (λ x. x), λ x. x)).total in
+    let by_key = g.met.K.Ord.total in
+    let by_peer = g.met.P.Ord.total in
     let Q : Fetcher g.row.K.Denot g.row.P.Denot → Type 0 = λ f. IsSound o f in
     subst Q (sym c.in_ok-asked.ensures.ok) (begins-sound o by_key by_peer c.args.self.now c.args.now)

@@ -22,23 +22,23 @@ returns-then-pair-moment-clause-ok g c =
     let o = orders g.K.Ord.cmp g.P.Ord.cmp in
     let p = c.in-Some.pair.now in
     let queue = c.next.new.self in
-    let list : c.loop-pair.pair-iterator ≡ p ∷ queue = search rules in
-    let more : c.args.moment < p.0 = search rules in
+    let list : c.loop-pair.pair-iterator ≡ p ∷ queue = c.in-Some.ensures.steps in
+    let more : c.args.moment < p.0 = c.if-pair-moment.true in
     sym (until-none o c.args.self.now c.args.trail.now c.args.moment c.args.is_retry p queue (rw list at c.loop-pair.invariant.ordered) (past p.0 c.args.moment more))
     ∙ ap (λ ps. first_until o c.args.self.now c.args.trail.now c.args.moment (placed c.args.is_retry ps)) (sym list)
     ∙ c.loop-pair.invariant.first
 
-pub returns-then-not-is_empty-clause-ok : goal.returns-then-not-is_empty-clause-ok
-returns-then-not-is_empty-clause-ok g c =
+pub returns-then-count-gt0-clause-ok : goal.returns-then-count-gt0-clause-ok
+returns-then-count-gt0-clause-ok g c =
     let o = orders g.K.Ord.cmp g.P.Ord.cmp in
     let p = c.in-Some.pair.now in
     let queue = c.next.new.self in
-    let list : c.loop-pair.pair-iterator ≡ p ∷ queue = search rules in
-    let le : p.0 ≤ c.args.moment = search rules in
+    let list : c.loop-pair.pair-iterator ≡ p ∷ queue = c.in-Some.ensures.steps in
+    let le : p.0 ≤ c.args.moment = c.if-pair-moment.false in
     let is : c.in_ok-trying.trying ≡ trying_key o c.args.self.now c.args.trail.now (record { is_retry = c.args.is_retry; due = p.0 }, p.1) = c.in_ok-trying.ensures.ok in
-    let some : 0 < length c.trying-in-loop-pair.inside.left.items = search rules in
+    let some : 0 < length c.in_ok-trying.trying.left = rw (← c.count.ensures) c.if-count-gt0.true in
     let left : 0 < length (trying_key o c.args.self.now c.args.trail.now (record { is_retry = c.args.is_retry; due = p.0 }, p.1)).left =
-    subst (λ (t : Trying g.row.K.Denot g.row.P.Denot). 0 < length t.left) (c.trying-in-loop-pair.view_is ∙ is) some in
+    subst (λ (t : Trying g.row.K.Denot g.row.P.Denot). 0 < length t.left) is some in
     ap Some is
     ∙ sym (until-here o c.args.self.now c.args.trail.now c.args.moment c.args.is_retry p queue (due p.0 c.args.moment le) left)
     ∙ ap (λ ps. first_until o c.args.self.now c.args.trail.now c.args.moment (placed c.args.is_retry ps)) (sym list)
@@ -49,16 +49,17 @@ loop-pair-preserved g c =
     let o = orders g.K.Ord.cmp g.P.Ord.cmp in
     let p = c.in-Some.pair.now in
     let queue = c.next.new.self in
-    let list : c.loop-pair.pair-iterator ≡ p ∷ queue = search rules in
-    let le : p.0 ≤ c.args.moment = search rules in
+    let list : c.loop-pair.pair-iterator ≡ p ∷ queue = c.in-Some.ensures.steps in
+    let le : p.0 ≤ c.args.moment = c.if-pair-moment.false in
     let is : c.in_ok-trying.trying ≡ trying_key o c.args.self.now c.args.trail.now (record { is_retry = c.args.is_retry; due = p.0 }, p.1) = c.in_ok-trying.ensures.ok in
-    let none : length c.trying-in-loop-pair.inside.left.items ≡ 0 = search rules in
+    let none : length c.in_ok-trying.trying.left ≡ 0 = omega (arith, c.count.ensures, c.if-count-gt0.false) in
     let left : length (trying_key o c.args.self.now c.args.trail.now (record { is_retry = c.args.is_retry; due = p.0 }, p.1)).left ≡ 0 =
-    sym (ap (λ (t : Trying g.row.K.Denot g.row.P.Denot). length t.left) (c.trying-in-loop-pair.view_is ∙ is)) ∙ none in
+    sym (ap (λ (t : Trying g.row.K.Denot g.row.P.Denot). length t.left) is) ∙ none in
     record {
       ordered = sorted_tail (pair_order nat_cmp g.K.Ord.cmp) p queue (rw list at c.loop-pair.invariant.ordered);
       first =
           sym (until-past o c.args.self.now c.args.trail.now c.args.moment c.args.is_retry p queue (due p.0 c.args.moment le) left)
           ∙ ap (λ ps. first_until o c.args.self.now c.args.trail.now c.args.moment (placed c.args.is_retry ps)) (sym list)
           ∙ c.loop-pair.invariant.first;
+      at_hand = c.trying.ensures.at_hand;
     }

@@ -2,6 +2,7 @@ use Rattle.std.proofs.Common.{◌≡◌}
 use Rattle.std.specs.List.Sorted.{IsStrictlySortedBy}
 use Rattle.std.specs.Ordering.{nat_cmp}
 use Rattle.resolver_base.specs.Priorities.{pair_order}
+use Rattle.resolver_fetch.specs.Left.{IsAtHand}
 use Rattle.resolver_fetch.specs.Orders.{orders}
 use Rattle.resolver_fetch.specs.Queues.{placed}
 use Rattle.resolver_fetch.specs.Seeking.{first_until}
@@ -13,4 +14,5 @@ invariant-loop-pair g l = record {
   ordered : IsStrictlySortedBy (pair_order nat_cmp g.K.Ord.cmp) l.pair-iterator;
   first : first_until (orders g.K.Ord.cmp g.P.Ord.cmp) l.fn.self l.fn.trail l.moment (placed l.is_retry l.pair-iterator)
       ≡ first_until (orders g.K.Ord.cmp g.P.Ord.cmp) l.fn.self l.fn.trail l.moment (placed l.is_retry l.fn.queue);
+  at_hand : IsAtHand (orders g.K.Ord.cmp g.P.Ord.cmp) l.fn.self l.at_hand;
 }

@@ -17,6 +17,11 @@ returns-clause-ordered g c =
     let waiting : c.keys-keys.result.now ≡ c.args.self.now.waiting = c.keys-keys.ensures ∙ ap (λ (f : Fetcher g.row.K.Denot g.row.P.Denot). f.waiting) c.self.view_is in
     rw waiting at c.law.ensures
 
+pub returns-in-Some-clause-ordered : goal.returns-in-Some-clause-ordered
+returns-in-Some-clause-ordered g c =
+    let waiting : c.keys-keys.result.now ≡ c.args.self.now.waiting = c.keys-keys.ensures ∙ ap (λ (f : Fetcher g.row.K.Denot g.row.P.Denot). f.waiting) c.self.view_is in
+    rw waiting at c.law.ensures
+
 pub returns-then-tried-clause-ok : goal.returns-then-tried-clause-ok
 returns-then-tried-clause-ok g c =
     let o = orders g.K.Ord.cmp g.P.Ord.cmp in

@@ -3,22 +3,23 @@ use Rattle.resolver_fetch.proofs.Progress.{fits-taken, goes-forward, if-refused,
 use Rattle.resolver_fetch.proofs.Stepping.{onto-ok}
 use Rattle.resolver_fetch.proofs.fetcher.Fetcher.turn.Goals as goal
 
-pub answer_to-requires-clause-answerable : goal.answer_to-requires-clause-answerable
-answer_to-requires-clause-answerable g c κs within =
-    is-answerable (orders g.K.Ord.cmp g.P.Ord.cmp) c.args.self.now c.args.ask c.requires.asked
+pub answer_to-requires : goal.answer_to-requires
+answer_to-requires g c = record {
+  answerable = is-answerable (orders g.K.Ord.cmp g.P.Ord.cmp) c.args.self.now c.args.ask c.requires.asked;
+}
 
 pub returns-clause-sound : goal.returns-clause-sound
 returns-clause-sound g c =
-    let by_key = (g.met.K.Ord g.world.𝓛 g.world.𝓜 g.world.𝓡 ((λ s x. x), (λ x. x), (λ x. x), λ x. x)).total in
-    let by_peer = (g.met.P.Ord g.world.𝓛 g.world.𝓜 g.world.𝓡 ((λ s x. x), (λ x. x), (λ x. x), λ x. x)).total in
+    let by_key = g.met.K.Ord.total in
+    let by_peer = g.met.P.Ord.total in
     onto-ok c.scan_answer.result _ _
     (λ taken. (goes-forward (orders g.K.Ord.cmp g.P.Ord.cmp) by_key by_peer c.args.self.now c.requires.sound c.in_ok-answer.answer c.scan_answer.new.self taken).0)
     c.scan_answer.ensures.ok
 
 pub returns-clause-fewer : goal.returns-clause-fewer
 returns-clause-fewer g c =
-    let by_key = (g.met.K.Ord g.world.𝓛 g.world.𝓜 g.world.𝓡 ((λ s x. x), (λ x. x), (λ x. x), λ x. x)).total in
-    let by_peer = (g.met.P.Ord g.world.𝓛 g.world.𝓜 g.world.𝓡 ((λ s x. x), (λ x. x), (λ x. x), λ x. x)).total in
+    let by_key = g.met.K.Ord.total in
+    let by_peer = g.met.P.Ord.total in
     onto-ok c.scan_answer.result _ _
     (λ taken. (goes-forward (orders g.K.Ord.cmp g.P.Ord.cmp) by_key by_peer c.args.self.now c.requires.sound c.in_ok-answer.answer c.scan_answer.new.self taken).1)
     c.scan_answer.ensures.ok

@@ -5,7 +5,7 @@ use Rattle.resolver_request.proofs.wire.Message.read.Goals as goal
 -- the laws of the key
 codec : (g : Over) → IsCodec g.Key.Span.SIZE g.Key.Span.bytes_of g.Key.Span.read_from g.Key.PartialEq.eq
 codec g =
-    let laws = g.met.Key.Span g.world.𝓛 g.world.𝓜 g.world.𝓡 ((λ s x. x), (λ x. x), (λ x. x), λ x. x) in
+    let laws = g.met.Key.Span in
     record { sized = laws.sized; again = laws.read_again; own = laws.own_bytes }
 
 pub returns-clause-found : goal.returns-clause-found

@@ -3,7 +3,7 @@ use Rattle.resolver_base.specs.Names.{names}
 use Rattle.resolver_demand.specs.declared.ingress.Message.TheVariants as messages
 use Rattle.resolver_demand.specs.declared.ingress.FetchKey.{FetchKey}
 use Rattle.resolver_demand.specs.Backlog.{Drains, Item, batch_told, item_of, told_of}
-use Rattle.resolver_demand.proofs.Drained.{drains-batch, drains-batch-refused, drains-nothing, filed-again, nothing}
+use Rattle.resolver_demand.proofs.Drained.{drains-batch, drains-batch-refused, drains-nothing, filed-again, filed-none, nothing}
 use Rattle.resolver_demand.proofs.ingress.pending.Pending.drain_batch.Goals as goal
 
 pub returns-then-is_empty-clause-drains : goal.returns-then-is_empty-clause-drains
@@ -14,8 +14,11 @@ returns-then-is_empty-clause-drains g c =
 
 pub invariant_of-self-in-Some : goal.invariant_of-self-in-Some
 invariant_of-self-in-Some g c =
-    filed-again (names g.K.Ord.cmp g.S.Ord.cmp) c.self.inside.places.keys c.in-Some.back.items c.self.inside.batch.items
+    filed-again (names g.K.Ord.cmp g.S.Ord.cmp) c.self.inside.places c.in-Some.back.items c.self.inside.batch.items
     (c.in-Some.ensures.same ∙ ap (λ batch. map item_of batch.items) c.replace-batch.ensures.value) c.self.invariant
+
+pub invariant_of-self : goal.invariant_of-self
+invariant_of-self g c = filed-none (names g.K.Ord.cmp g.S.Ord.cmp) _ _ (search rules) (search rules)
 
 pub returns-in-None-clause-drains : goal.returns-in-None-clause-drains
 returns-in-None-clause-drains g c =

@@ -4,9 +4,12 @@ use Rattle.resolver_demand.specs.Backlog.{backlog_of, item_of}
 use Rattle.resolver_demand.proofs.Right.{apart-queued_all, flips-by, follows-by, right-fetch}
 use Rattle.resolver_demand.proofs.ingress.pending.Pending.fetch.Goals as goal
 
+pub invariant_of-self : goal.invariant_of-self
+invariant_of-self g c = rw (c.in_err-put_all.ensures.err_places, c.in_err-put_all.ensures.err) c.self.invariant
+
 pub invariant_of-self-2 : goal.invariant_of-self-2
 invariant_of-self-2 g c = record {
-  keys_are = c.in_ok-put_all.ensures.listed;
+  placed = c.in_ok-put_all.ensures.placed;
   apart = rw c.in_ok-put_all.ensures.ok
       (apart-queued_all (names g.K.Ord.cmp g.S.Ord.cmp) g.M.Metadata.merged
       (flips-by g.K.Ord.cmp g.met.K.Ord.total) (follows-by g.K.Ord.cmp g.met.K.Ord.total) (follows-by g.S.Ord.cmp g.met.S.Ord.total)

@@ -1,8 +1,7 @@
-use Rattle.std.proofs.Common.{◌≡◌, ◌∙◌, sym, ap, rules, ◌∷◌, ◌++◌, [], map}
-use Rattle.indexmap.specs.IndexSet.{insert_all}
+use Rattle.std.proofs.Common.{◌≡◌, ◌∙◌, ap, rules, ◌∷◌, ◌++◌, [], map}
 use Rattle.resolver_base.specs.Names.{names}
-use Rattle.resolver_demand.specs.Backlog.{backlog_of, item_of, kept, keys_kept}
-use Rattle.resolver_demand.proofs.Pruned.{apart-kept, insert_all-apart, keys-of-items}
+use Rattle.resolver_demand.specs.Backlog.{backlog_of, item_of, kept, keys_kept, keys_of_items}
+use Rattle.resolver_demand.proofs.Pruned.{apart-kept, keys-of-items}
 use Rattle.resolver_demand.proofs.Right.{flips-by, follows-by, right-retain}
 use Rattle.resolver_demand.proofs.ingress.pending.Pending.retain.Goals as goal
 
@@ -12,12 +11,9 @@ invariant_of-self-2 g c =
     let keep = g.Q.Predicate.keeps c.args.keep in
     let apart = apart-kept n keep (map item_of c.self.inside.batch.items) c.self.invariant.apart in
     let pruned : map item_of c.prune_all.result.items ≡ kept keep (map item_of c.self.inside.batch.items) = search rules in
-    let places : c.in_ok-places.places.keys ≡ insert_all g.K.PartialEq.eq [] (keys_kept keep c.self.inside.batch.items) = search rules in
+    let keys : keys_of_items c.prune_all.result.items ≡ keys_kept keep c.self.inside.batch.items = keys-of-items c.prune_all.result.items ∙ ap (λ items. map (λ item. item.key) items) pruned in
     record {
-      keys_are = places
-          ∙ insert_all-apart n g.K.PartialEq.eq g.met.K.Ord.matches_eq (flips-by g.K.Ord.cmp g.met.K.Ord.total) (kept keep (map item_of c.self.inside.batch.items)) apart
-          ∙ ap (λ items. map (λ item. item.key) items) (sym pruned)
-          ∙ sym (keys-of-items c.prune_all.result.items);
+      placed = rw keys (search rules);
       apart = rw pruned apart;
     }
 

@@ -1,0 +1,43 @@
+//! An engine that runs.
+
+ghost use Rattle.std.specs.Prelude.{◌≡◌, IfErr};
+ghost use Rattle.resolver_base.specs.declared.base.fault.Fault.TheVariants.{OutOfMemory};
+
+use crate::engine::Engine;
+use bytes::Bytes;
+use resolver_base::base::{Draws, Faithful, Fault, Predicate, PublicKey, Sender, Span};
+use resolver_surface::{Blocker, Clock, Consumer, Producer, Provider, Receiver};
+use resolver_worker::{Handle, start};
+use std::alloc::AllocGlobal;
+use std::random::RandomSource;
+use std::sync::Wait;
+use std::thread::Threads;
+
+impl<
+    P: PublicKey + Faithful + Drop + Send + 'static,
+    D: Provider<PublicKey = P> + Drop + Send + 'static,
+    B: Blocker<PublicKey = P> + Drop + Send + 'static,
+    K: Span + Faithful + Drop + Send + 'static,
+    S: Ord + Faithful + Drop + Send + 'static,
+    C: Consumer<Key = K, Value = Bytes, Subscriber = S> + Drop + Send,
+    O: Producer<Key = K> + Drop + Send,
+    Q: Predicate<K, S> + Faithful + Drop + Send + 'static,
+    R: Threads + Wait + RandomSource + AllocGlobal + Copy + Drop + Send + 'static,
+> Engine<P, D, B, K, S, C, O, Q, R> {
+    /// Runs the engine over this network, clock and source of draws, in a thread of its own: until
+    /// the mailbox, the source of sets or the network is closed, or memory or numbers are wanting.
+    ///
+    /// Where memory is wanting or no thread can be made, all is dropped, and the mailbox stays open.
+    pub fn start<X, Y, W, G>(self, network: (X, Y), clock: W, draws: G) -> Result<Handle, Fault>
+    where
+        X: Sender<PublicKey = P> + Drop + Send + 'static,
+        Y: Receiver<PublicKey = P> + Drop + Send + 'static,
+        W: Clock + Drop + Send + 'static,
+        G: Draws + Drop + Send + 'static,
+        C::Outcome: Drop + Send + 'static,
+        ensures only { IfErr result (λ fault. fault ≡ OutOfMemory) }
+    {
+        let rt = self.rt;
+        start(rt, self.into_loop(network, clock, draws)?)
+    }
+}
