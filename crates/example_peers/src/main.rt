@@ -1,0 +1,151 @@
+//! `example-peers`: three engines in one process, over a network in memory. Engine 0 wants a key that the
+//! others have: 1 sends wrong bytes, which the consumer refuses, and 2 the right ones. It prints what
+//! engine 0 did.
+#![tactic(auto)]
+
+mod lent;
+mod network;
+
+use anyhow::Result;
+use bytes::Bytes;
+use futures::StreamExt;
+use futures::channel::mpsc;
+use futures::executor::block_on;
+use lent::{All, First, Guard, Hasty, Sets};
+use network::{Inbox, Peer, Post, Seen, Told, Wire};
+use resolver::base::{Blocker, Provider};
+use resolver::mailbox::Unrecorded;
+use resolver::p2p::mocks::{Consumer, Key, Producer, Quiet};
+use resolver::p2p::{Config, Engine, Mailbox};
+use resolver::{Fetch, Handle, Resolver};
+use std::alloc::{AllocGlobal, Global};
+use std::num::NonZeroUsize;
+use std::random::RandomSource;
+use std::sync::Wait;
+use std::thread::Threads;
+
+/// An engine that runs, and the handle through which it is asked.
+#[derive(Drop)]
+struct Running<R> {
+    mailbox: Mailbox<Key, Peer, u16, All, Unrecorded, R>,
+    handle: Handle,
+}
+
+fn main(rt: HostRuntime) -> Result<()> {
+    let alloc = rt.alloc();
+    let (told, mut seen) = mpsc::unbounded(alloc)?;
+    let taken = work(rt, alloc, &told)?;
+    for _ in 0..10 {
+        match seen.try_recv() {
+            Ok(Seen::Asked(peer)) => println!(rt; "asked {}", peer.0)?,
+            Ok(Seen::Answered(peer)) => println!(rt; "{} answered", peer.0)?,
+            Ok(Seen::Blocked(peer)) => println!(rt; "blocked {}", peer.0)?,
+            Err(_) => break,
+        }
+    }
+    if let Some((key, value)) = taken {
+        println!(rt; "took {value:?} as {key}")?;
+    }
+    Ok(())
+}
+
+/// Has the three engines run until engine 0 has taken a value.
+fn work<R>(rt: R, alloc: Global, told: &Told) -> Result<Option<(Key, Bytes)>>
+where
+    R: Threads + Wait + RandomSource + AllocGlobal + Copy + Drop + Send + 'static,
+{
+    let (own, inbox) = mpsc::unbounded(alloc)?;
+    let (second, wrong) = mpsc::unbounded(alloc)?;
+    let (third, right) = mpsc::unbounded(alloc)?;
+    let posts = [own, second, third];
+    let wrong = (Wire::new(alloc, 1, &posts, told)?, Inbox(wrong));
+    let right = (Wire::new(alloc, 2, &posts, told)?, Inbox(right));
+    let own = (Wire::new(alloc, 0, &posts, told)?, Inbox(inbox));
+    let wrong = answer(rt, alloc, wrong, b"wrong")?;
+    let right = answer(rt, alloc, right, b"right")?;
+    let taken = ask(rt, alloc, own, told)?;
+    end(&rt, wrong)?;
+    end(&rt, right)?;
+    Ok(taken)
+}
+
+/// Runs an engine that asks for key 7, until the consumer has taken a value.
+fn ask<R>(rt: R, alloc: Global, net: (Wire, Inbox), told: &Told) -> Result<Option<(Key, Bytes)>>
+where
+    R: Threads + Wait + RandomSource + AllocGlobal + Copy + Drop + Send + 'static,
+{
+    let sets = Sets {
+        set: Some(Vec::from_slice(alloc, &[Peer(0), Peer(1), Peer(2)])?),
+        rest: Quiet::new(),
+    };
+    let guard = Guard {
+        alloc,
+        told: told.clone()?,
+        blocked: None,
+        rest: Quiet::new(),
+    };
+    let (mut consumer, mut taken) = Consumer::new(alloc)?;
+    consumer.add_expected(Key(7), Bytes::from_static(b"right"))?;
+    let hands = (consumer, Producer::new(alloc));
+    let mut running = run(rt, alloc, (sets, guard), hands, net)?;
+    running.mailbox.fetch(Fetch::from(Key(7)))?;
+    let value = block_on(&rt, taken.next())?;
+    end(&rt, running)?;
+    Ok(value)
+}
+
+/// Runs an engine that has these bytes for key 7.
+fn answer<R>(rt: R, alloc: Global, net: (Wire, Inbox), bytes: &'static [u8]) -> Result<Running<R>>
+where
+    R: Threads + Wait + RandomSource + AllocGlobal + Copy + Drop + Send + 'static,
+{
+    let mut producer = Producer::new(alloc);
+    producer.insert(Key(7), Bytes::from_static(bytes))?;
+    let hands = (Consumer::dummy(alloc)?, producer);
+    run(rt, alloc, (Quiet::new(), Quiet::new()), hands, net)
+}
+
+/// Runs an engine over what gives it its peers, what its effects go to, and its network.
+fn run<R, D, B>(
+    rt: R,
+    alloc: Global,
+    peers: (D, B),
+    hands: (Consumer<Key, Bytes, u16>, Producer<Key, Bytes>),
+    net: (Wire, Inbox),
+) -> Result<Running<R>>
+where
+    R: Threads + Wait + RandomSource + AllocGlobal + Copy + Drop + Send + 'static,
+    D: Provider<PublicKey = Peer> + Drop + Send + 'static,
+    B: Blocker<PublicKey = Peer> + Drop + Send + 'static,
+{
+    let cfg = Config {
+        peer_provider: peers.0,
+        blocker: peers.1,
+        consumer: hands.0,
+        producer: hands.1,
+        mailbox_size: NonZeroUsize::MIN,
+        me: Some(net.0.me),
+        fetch_timeout: 1_000_000,
+        fetch_retry_delay: 100,
+        priority_requests: false,
+        priority_responses: false,
+    };
+    let (engine, mailbox) = Engine::new(rt, alloc, cfg)?;
+    let clock = Hasty {
+        now: 0,
+        rest: Quiet::new(),
+    };
+    let handle = engine.start(net, clock, First)?;
+    Ok(Running { mailbox, handle })
+}
+
+/// Ends an engine, and waits for its end.
+fn end<R: Threads + Wait + Drop>(rt: &R, engine: Running<R>) -> Result<()> {
+    let Running {
+        mut mailbox,
+        handle,
+    } = engine;
+    mailbox.close();
+    handle.join(rt)?;
+    Ok(())
+}

@@ -1,0 +1,89 @@
+//! The network in memory.
+
+ghost use Rattle.std.proofs.Common.{rules};
+
+use bytes::Bytes;
+use futures::Stream;
+use futures::channel::mpsc;
+use futures::task::{Context, Poll};
+use resolver::base::{Check, Faithful, Feedback, PublicKey, Receiver, Sender, Unreliable};
+use std::alloc::{AllocError, Global};
+
+/// A name of an engine.
+#[derive(Clone, Copy, Debug, PartialEq, Eq, PartialOrd, Ord, Hash)]
+pub struct Peer(pub u8);
+
+impl PublicKey for Peer {}
+
+impl Faithful for Peer {
+    ghost clones = { Prim.search rules };
+}
+
+/// What is seen of engine 0: whom it asked, who answered, and whom it blocked.
+#[derive(Clone, Copy, Debug)]
+pub enum Seen {
+    Asked(Peer),
+    Answered(Peer),
+    Blocked(Peer),
+}
+
+/// Where it is told.
+pub type Told = mpsc::UnboundedSender<Seen>;
+
+/// Where messages to an engine are put.
+pub type Post = mpsc::UnboundedSender<(Peer, Bytes)>;
+
+/// What an engine receives.
+#[derive(Drop)]
+pub struct Inbox(pub mpsc::UnboundedReceiver<(Peer, Bytes)>);
+
+impl Receiver for Inbox {
+    type PublicKey = Peer;
+
+    fn poll_recv(&mut self, cx: &mut Context<'_>) -> Poll<Option<(Peer, Bytes)>> {
+        self.0.poll_next(cx)
+    }
+}
+
+/// The way of an engine to the others, whose posts stand in the order of their names.
+#[derive(Drop)]
+pub struct Wire {
+    pub me: Peer,
+    pub posts: Vec<Post>,
+    pub told: Told,
+}
+
+impl Wire {
+    /// The way of this engine.
+    pub fn new(alloc: Global, me: u8, posts: &[Post], told: &Told) -> Result<Wire, AllocError> {
+        let mut all = Vec::new(alloc);
+        for post in posts {
+            all.push(post.clone()?)?;
+        }
+        Ok(Wire {
+            me: Peer(me),
+            posts: all,
+            told: told.clone()?,
+        })
+    }
+}
+
+impl Sender for Wire {
+    type PublicKey = Peer;
+
+    fn check(&mut self, _: &Peer) -> Check {
+        Check::Clear
+    }
+
+    fn send(&mut self, peer: &Peer, message: Bytes, _: bool) -> Unreliable {
+        let seen = match self.me {
+            Peer(0) => Seen::Asked(*peer),
+            other => Seen::Answered(other),
+        };
+        let _ = self.told.unbounded_send(seen);
+        if let Some(post) = self.posts.get(usize::from(peer.0)) {
+            let _ = post.unbounded_send((self.me, message));
+        }
+        Unreliable::Outcome(Feedback::Ok)
+    }
+}
