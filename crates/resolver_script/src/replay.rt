@@ -4,6 +4,7 @@ use crate::endings::{Ending, Fault, Place, written};
 use crate::opaque::Opaque;
 use crate::peers::Peers;
 use crate::script::{Command, Rejected, Said, Why, Wrong, is_skipped, parse};
+use log::{Log, trace};
 use resolver::base::Moment;
 use resolver::p2p::fetcher::Answer;
 use std::alloc::Global;
@@ -24,13 +25,15 @@ struct Session {
 }
 
 /// Reads the script, feeds its inputs one after another, and prints what comes of each before more
-/// input is waited for. What was printed before a fault is written, too.
-pub fn run<R: Read, W: Write>(
+/// input is waited for. What was printed before a fault is written, too. The number of each line that is
+/// read is traced.
+pub fn run<L: Log, R: Read, W: Write>(
+    log: &L,
     alloc: Global,
     input: &mut BufReader<R>,
     output: &mut W,
 ) -> Result<Ending, Fault> {
-    let ended = take_lines(alloc, input, output);
+    let ended = take_lines(log, alloc, input, output);
     let flushed = written(output.flush());
     let ending = ended?;
     flushed?;
@@ -38,17 +41,19 @@ pub fn run<R: Read, W: Write>(
 }
 
 /// Does what the lines say, up to the first that can't be read.
-fn take_lines<R: Read, W: Write>(
+fn take_lines<L: Log, R: Read, W: Write>(
+    log: &L,
     alloc: Global,
     input: &mut BufReader<R>,
     output: &mut W,
 ) -> Result<Ending, Fault> {
     let mut session = None;
-    feed_lines(alloc, &mut session, input, output)
+    feed_lines(log, alloc, &mut session, input, output)
 }
 
 /// The same, of a machine that is held elsewhere, so that it is let go in one place.
-fn feed_lines<R: Read, W: Write>(
+fn feed_lines<L: Log, R: Read, W: Write>(
+    log: &L,
     alloc: Global,
     session: &mut Option<Session>,
     input: &mut BufReader<R>,
@@ -65,6 +70,7 @@ fn feed_lines<R: Read, W: Write>(
         if is_skipped(&line) {
             continue;
         }
+        trace!(log; "line {number}");
         if let Some(wrong) = take_line(alloc, session, &line, output)? {
             written(writeln!(output, "line {number} unreadable"))?;
             return Ok(Ending::Unreadable(Place {

@@ -1,5 +1,6 @@
 //! Scripts, and what they print.
 
+use log::sink::{Discard, Memory};
 use resolver_script::endings::{Ending, Fault};
 use resolver_script::replay::run;
 use std::alloc::Global;
@@ -17,7 +18,7 @@ mod worked;
 fn replayed(alloc: Global, script: &[u8]) -> io::Result<(Vec<u8>, Result<Ending, Fault>)> {
     let mut output = Vec::new(alloc);
     let mut input = BufReader::new(alloc, script)?;
-    let ended = run(alloc, &mut input, &mut output);
+    let ended = run(&Discard, alloc, &mut input, &mut output);
     Ok((output, ended))
 }
 
@@ -237,7 +238,7 @@ fn a_torn_input(rt: HostRuntime) -> Result<(), Fail> {
         rest: b"opaque 1\nfetch 1 10 7\nfetch 2 10 7",
     };
     let mut input = BufReader::new(rt.alloc(), torn)?;
-    let ended = run(rt.alloc(), &mut input, &mut output);
+    let ended = run(&Discard, rt.alloc(), &mut input, &mut output);
     assert_eq!(rt; ended, Err(Fault::Input));
     assert_eq!(rt; output.as_slice(), b"start 0 1\n".as_slice());
     Ok(())
@@ -277,7 +278,7 @@ fn a_full_output(rt: HostRuntime) -> Result<(), Fail> {
             room,
         };
         let mut input = BufReader::new(rt.alloc(), script.as_slice())?;
-        let ended = run(rt.alloc(), &mut input, &mut output);
+        let ended = run(&Discard, rt.alloc(), &mut input, &mut output);
         assert_eq!(rt; ended, Err(Fault::Output));
         assert_eq!(rt; output.taken.as_slice(), &whole[..room]);
     }
@@ -327,7 +328,7 @@ fn lines_that_come_one_by_one(rt: HostRuntime) -> Result<(), Fail> {
         flushes: Vec::new(rt.alloc()),
     };
     let mut input = BufReader::new(rt.alloc(), Lines { rest: TWO_FETCHES })?;
-    let ended = run(rt.alloc(), &mut input, &mut output);
+    let ended = run(&Discard, rt.alloc(), &mut input, &mut output);
     assert_eq!(rt; ended, Ok(Ending::End));
     assert_eq!(rt;
         output.flushes.as_slice(),
@@ -344,8 +345,26 @@ fn lines_that_come_together(rt: HostRuntime) -> Result<(), Fail> {
         flushes: Vec::new(rt.alloc()),
     };
     let mut input = BufReader::new(rt.alloc(), TWO_FETCHES)?;
-    let ended = run(rt.alloc(), &mut input, &mut output);
+    let ended = run(&Discard, rt.alloc(), &mut input, &mut output);
     assert_eq!(rt; ended, Ok(Ending::End));
     assert_eq!(rt; output.flushes.as_slice(), [0, 20, 20].as_slice());
+    Ok(())
+}
+
+// A line that is skipped isn't traced.
+#[test]
+fn lines_that_are_traced(rt: HostRuntime) -> Result<(), Fail> {
+    let traces = Memory::new(rt.alloc());
+    let mut output = Vec::new(rt.alloc());
+    let mut input = BufReader::new(rt.alloc(), TWO_FETCHES)?;
+    let ended = run(&traces, rt.alloc(), &mut input, &mut output);
+    assert_eq!(rt; ended, Ok(Ending::End));
+    let lines = traces.into_lines().into_vec();
+    let said = lines.iter().map(|line| line.as_str());
+    assert!(rt; said.eq([
+        "[TRACE resolver_script::replay] line 1",
+        "[TRACE resolver_script::replay] line 2",
+        "[TRACE resolver_script::replay] line 4",
+    ]));
     Ok(())
 }
