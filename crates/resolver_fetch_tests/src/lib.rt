@@ -4,6 +4,10 @@
 #![tactic(auto)]
 
 #[cfg(test)]
+mod calls;
+#[cfg(test)]
+mod drawing;
+#[cfg(test)]
 mod fetcher;
 #[cfg(test)]
 mod fetching;

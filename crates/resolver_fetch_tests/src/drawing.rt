@@ -1,0 +1,497 @@
+//! What a scan draws from: the peers that may be asked for a key, with what they weigh, and without
+//! those that were tried for it in vain.
+
+use crate::calls::{
+    Call, Node, Seen, clear, config, delayed, drawn, goes, goes_on, recorded, sent, set_peers,
+    until,
+};
+use resolver_base::base::Fault;
+use resolver_fetch::fetcher::{Config, Fetcher, ID};
+use std::alloc::Global;
+use std::process::Abort;
+use std::test::Fail;
+
+/// A second, in nanoseconds.
+const SECOND: u64 = 1_000_000_000;
+
+/// A response of a peer comes, after a second and with these bytes. After the first one it weighs
+/// one more than they are.
+fn responds(peer: u8, bytes: u64) -> (Call<'static>, Seen) {
+    let call = Call::Record {
+        peer,
+        count: 1,
+        elapsed: u128::from(SECOND),
+        bytes,
+    };
+    (call, Seen::Done)
+}
+
+/// What a peer weighs, where it is in the set.
+fn weighs(peer: u8, weight: Option<u64>) -> (Call<'static>, Seen) {
+    (Call::Weight(peer), Seen::Weight(weight))
+}
+
+/// A key waits from this moment on.
+fn waits(key: u8, at: u64) -> (Call<'static>, Seen) {
+    (Call::Ready { key, at }, Seen::Done)
+}
+
+/// A key was tried at this moment, and waits to be tried again.
+fn waits_again(key: u8, at: u64) -> (Call<'static>, Seen) {
+    (Call::Retry { key, at }, Seen::Done)
+}
+
+/// A scan begins, and what is to be drawn is below this bound.
+fn begins(at: u64, bound: u128) -> (Call<'static>, Seen) {
+    (Call::Begin(at), Seen::Draw(bound))
+}
+
+/// A scan may do something at this moment.
+fn wakes(at: u128) -> (Call<'static>, Seen) {
+    (Call::WakeUp, Seen::At(Some(at)))
+}
+
+/// A request is to be sent, without priority.
+fn requests(peer: u8, id: ID, key: u8) -> Seen {
+    Seen::Request {
+        peer,
+        id,
+        key,
+        priority: false,
+    }
+}
+
+/// The number isn't below the bound.
+const TOO_MUCH: Seen = Seen::Refused(Fault::OutOfRange);
+
+/// The peers from 1 to 200.
+fn crowd(alloc: Global) -> Result<Vec<u8>, Fault> {
+    let mut peers = Vec::new(alloc);
+    for peer in 1..201 {
+        peers.push(peer)?;
+    }
+    Ok(peers)
+}
+
+/// A fetcher that knows the peers from 1 to 200, each of the weight 1.
+fn among_many(alloc: Global) -> Result<Node, Fault> {
+    let mut fetcher = Fetcher::new(alloc, config());
+    let peers = crowd(alloc)?;
+    set_peers(alloc, &mut fetcher, &peers)?;
+    Ok(fetcher)
+}
+
+/// A fetcher that knows the peers from 1 to 200, each of its own number's weight.
+fn among_weights(alloc: Global) -> Result<Node, Fault> {
+    let mut fetcher = among_many(alloc)?;
+    for bytes in 0..200_u8 {
+        let bytes_more = u64::from(bytes);
+        recorded(&mut fetcher, bytes + 1, 1, u128::from(SECOND), bytes_more);
+    }
+    Ok(fetcher)
+}
+
+#[test]
+fn targets_among_many_peers(rt: HostRuntime) -> Result<(), Fail> {
+    // The targets weigh 3, 5 and 1, and 250 isn't in the set.
+    let calls = [
+        responds(10, 99),
+        responds(20, 2),
+        responds(50, 4),
+        responds(60, 99),
+        (Call::Targets(1, &[70, 20, 250, 50]), Seen::Done),
+        waits(1, 5),
+        begins(5, 4),
+        drawn(3, Seen::Draw(9)),
+        drawn(9, TOO_MUCH),
+        drawn(3, Seen::Check(50)),
+        until(20, Seen::Draw(4)),
+        drawn(0, Seen::Draw(4)),
+        drawn(3, Seen::Check(70)),
+        until(30, Seen::Draw(4)),
+        drawn(2, Seen::Draw(3)),
+        drawn(2, Seen::Check(20)),
+        until(40, Seen::Over),
+        wakes(20),
+    ];
+    let mut fetcher = among_many(rt.alloc())?;
+    goes_on(&rt, rt.alloc(), &mut fetcher, &calls)?;
+    Ok(())
+}
+
+#[test]
+fn targets_drawn_by_place(rt: HostRuntime) -> Result<(), Fail> {
+    let calls = [
+        responds(20, 2),
+        responds(50, 4),
+        (Call::Targets(1, &[70, 20, 250, 50]), Seen::Done),
+        waits_again(1, 0),
+        begins(10, 5),
+        drawn(4, Seen::Draw(3)),
+        drawn(3, TOO_MUCH),
+        drawn(1, Seen::Check(50)),
+        until(20, Seen::Draw(5)),
+        drawn(4, Seen::Draw(2)),
+        drawn(1, Seen::Check(70)),
+        until(19, Seen::Draw(5)),
+        drawn(3, Seen::Draw(3)),
+        drawn(0, Seen::Check(20)),
+        until(18, Seen::Over),
+        wakes(18),
+    ];
+    let mut fetcher = among_many(rt.alloc())?;
+    goes_on(&rt, rt.alloc(), &mut fetcher, &calls)?;
+    Ok(())
+}
+
+#[test]
+fn many_peers_by_place(rt: HostRuntime) -> Result<(), Fail> {
+    let calls = [
+        waits_again(1, 0),
+        begins(10, 5),
+        drawn(4, Seen::Draw(200)),
+        drawn(200, TOO_MUCH),
+        drawn(99, Seen::Check(100)),
+        until(50, Seen::Draw(5)),
+        drawn(4, Seen::Draw(199)),
+        drawn(99, Seen::Check(101)),
+        until(51, Seen::Draw(5)),
+        drawn(3, Seen::Draw(198)),
+        drawn(98, Seen::Check(99)),
+        until(52, Seen::Draw(5)),
+        drawn(4, Seen::Draw(197)),
+        drawn(98, Seen::Check(102)),
+        until(53, Seen::Draw(5)),
+        drawn(4, Seen::Draw(196)),
+        drawn(195, Seen::Check(200)),
+    ];
+    let mut fetcher = among_many(rt.alloc())?;
+    goes_on(&rt, rt.alloc(), &mut fetcher, &calls)?;
+    Ok(())
+}
+
+#[test]
+fn many_peers_by_weight(rt: HostRuntime) -> Result<(), Fail> {
+    // The peers before 100 weigh 4,950 together.
+    let calls = [
+        weighs(1, Some(1)),
+        weighs(200, Some(200)),
+        waits(1, 0),
+        begins(0, 4),
+        drawn(0, Seen::Draw(20_100)),
+        drawn(20_100, TOO_MUCH),
+        drawn(5_049, Seen::Check(100)),
+        until(9, Seen::Draw(4)),
+        drawn(0, Seen::Draw(20_000)),
+        drawn(5_050, Seen::Check(101)),
+        until(8, Seen::Draw(4)),
+        drawn(0, Seen::Draw(19_899)),
+        drawn(4_950, Seen::Check(102)),
+        until(7, Seen::Draw(4)),
+        drawn(0, Seen::Draw(19_797)),
+        drawn(19_796, Seen::Check(200)),
+        until(6, Seen::Draw(4)),
+        drawn(0, Seen::Draw(19_597)),
+        drawn(0, Seen::Check(1)),
+    ];
+    let mut fetcher = among_weights(rt.alloc())?;
+    goes_on(&rt, rt.alloc(), &mut fetcher, &calls)?;
+    Ok(())
+}
+
+/// Two keys wait, and the peers 2, 4, 6 and 8 weigh 2, 1, 4 and 1. The first key is tried with each
+/// of them in vain, and then peer 6 is asked for the other one.
+fn asks_for_the_second(rt: &impl Abort, alloc: Global, fetcher: &mut Node) -> Result<(), Fault> {
+    let calls = [
+        (Call::Peers(&[2, 4, 6, 8]), Seen::Done),
+        responds(2, 1),
+        responds(6, 3),
+        waits(1, 5),
+        waits(2, 6),
+        begins(6, 4),
+        drawn(0, Seen::Draw(8)),
+        drawn(3, Seen::Check(6)),
+        until(100, Seen::Draw(4)),
+        drawn(0, Seen::Draw(4)),
+        drawn(3, Seen::Check(8)),
+        until(90, Seen::Draw(4)),
+        drawn(1, Seen::Draw(3)),
+        drawn(0, Seen::Check(2)),
+        until(80, Seen::Draw(4)),
+        drawn(2, Seen::Draw(1)),
+        drawn(0, Seen::Check(4)),
+        until(70, Seen::Draw(4)),
+        drawn(3, Seen::Draw(8)),
+        drawn(7, Seen::Check(8)),
+        until(60, Seen::Draw(4)),
+        drawn(0, Seen::Draw(7)),
+        drawn(3, Seen::Check(6)),
+        clear(Seen::Draw(1 << 64)),
+        drawn(5, requests(6, 5, 2)),
+        sent(true, Seen::Over),
+    ];
+    goes_on(rt, alloc, fetcher, &calls)
+}
+
+#[test]
+fn a_second_key_has_all_peers_again(rt: HostRuntime) -> Result<(), Fail> {
+    let calls = [
+        (Call::Phase(2), Seen::Phase(None, Some((5, 6)))),
+        (Call::Phase(1), Seen::Phase(Some((5, false)), None)),
+        begins(7, 4),
+        drawn(0, Seen::Draw(8)),
+        drawn(2, Seen::Check(4)),
+        clear(requests(4, 6, 1)),
+        sent(false, Seen::Draw(4)),
+        drawn(0, Seen::Draw(7)),
+        drawn(6, Seen::Check(8)),
+        until(20, Seen::Draw(4)),
+        drawn(0, Seen::Draw(6)),
+        drawn(2, Seen::Check(6)),
+        clear(requests(6, 7, 1)),
+        sent(true, Seen::Over),
+        (Call::Phase(1), Seen::Phase(None, Some((7, 6)))),
+    ];
+    let mut fetcher = Fetcher::new(rt.alloc(), config());
+    asks_for_the_second(&rt, rt.alloc(), &mut fetcher)?;
+    goes_on(&rt, rt.alloc(), &mut fetcher, &calls)?;
+    Ok(())
+}
+
+/// A request is over after three seconds, and a retry waits for one.
+fn in_seconds(alloc: Global) -> Node {
+    let second = u128::from(SECOND);
+    let config = Config {
+        me: None,
+        fetch_timeout: 3 * second,
+        retry_delay: second,
+        priority_requests: false,
+    };
+    Fetcher::new(alloc, config)
+}
+
+/// Peer 4, of the weight 11, is asked under the id 5. Peer 6 responds then, and peer 4 says after a
+/// second that it has no data: it is charged two.
+fn has_no_data(rt: &impl Abort, alloc: Global, fetcher: &mut Node) -> Result<(), Fault> {
+    let calls = [
+        (Call::Peers(&[2, 4, 6]), Seen::Done),
+        responds(4, 10),
+        waits(1, 0),
+        begins(0, 4),
+        drawn(0, Seen::Draw(13)),
+        drawn(1, Seen::Check(4)),
+        clear(Seen::Draw(1 << 64)),
+        drawn(5, requests(4, 5, 1)),
+        sent(true, Seen::Over),
+        responds(6, 6),
+        responds(9, 50),
+        (Call::Missing(SECOND), Seen::Popped(Some(1))),
+        weighs(4, Some(4)),
+        weighs(6, Some(7)),
+        weighs(9, None),
+    ];
+    goes_on(rt, alloc, fetcher, &calls)
+}
+
+/// Peer 4 is asked again, and its time is over: it is charged four seconds.
+fn has_no_time(rt: &impl Abort, alloc: Global, fetcher: &mut Node) -> Result<(), Fault> {
+    let calls = [
+        waits(2, SECOND),
+        begins(SECOND, 4),
+        drawn(0, Seen::Draw(12)),
+        drawn(4, Seen::Check(4)),
+        clear(requests(4, 6, 2)),
+        sent(true, Seen::Over),
+        (Call::Overdue(4 * SECOND - 1), Seen::Popped(None)),
+        (Call::Overdue(4 * SECOND), Seen::Popped(Some(2))),
+        weighs(4, Some(1)),
+    ];
+    goes_on(rt, alloc, fetcher, &calls)
+}
+
+#[test]
+fn weights_change_between_scans(rt: HostRuntime) -> Result<(), Fail> {
+    let later = 5 * SECOND;
+    let moment = u128::from(later);
+    let calls = [
+        waits(3, 4 * SECOND),
+        begins(4 * SECOND, 4),
+        drawn(0, Seen::Draw(9)),
+        drawn(2, Seen::Check(6)),
+        until(moment, Seen::Draw(4)),
+        drawn(0, Seen::Draw(2)),
+        drawn(1, Seen::Check(4)),
+        until(moment + 1, Seen::Draw(4)),
+        drawn(0, Seen::Draw(1)),
+        drawn(0, Seen::Check(2)),
+        until(moment + 2, Seen::Over),
+        wakes(moment),
+        responds(6, 0),
+        weighs(6, Some(4)),
+        begins(later, 4),
+        drawn(0, Seen::Draw(6)),
+        drawn(5, Seen::Check(6)),
+    ];
+    let mut fetcher = in_seconds(rt.alloc());
+    has_no_data(&rt, rt.alloc(), &mut fetcher)?;
+    has_no_time(&rt, rt.alloc(), &mut fetcher)?;
+    goes_on(&rt, rt.alloc(), &mut fetcher, &calls)?;
+    Ok(())
+}
+
+/// Peer 3 is the local one.
+fn of_peer_three(alloc: Global) -> Node {
+    let config = Config {
+        me: Some(3),
+        ..delayed(10)
+    };
+    Fetcher::new(alloc, config)
+}
+
+/// Of seven peers the third is the local one, and the fifth is blocked. The others weigh 2, 1, 4, 1
+/// and 3, and are drawn by weight and by place.
+fn draws_around(rt: &impl Abort, alloc: Global, fetcher: &mut Node) -> Result<(), Fault> {
+    let calls = [
+        (Call::Peers(&[7, 3, 1, 5, 2, 6, 4]), Seen::Done),
+        (Call::Blocked(&[5]), Seen::Done),
+        responds(1, 1),
+        responds(3, 50),
+        responds(4, 3),
+        responds(5, 70),
+        responds(7, 2),
+        weighs(3, Some(0)),
+        weighs(5, Some(0)),
+        waits_again(1, 0),
+        begins(10, 5),
+        drawn(0, Seen::Draw(11)),
+        drawn(11, TOO_MUCH),
+        drawn(7, Seen::Check(6)),
+        until(29, Seen::Draw(5)),
+        drawn(4, Seen::Draw(4)),
+        drawn(2, Seen::Check(4)),
+        until(28, Seen::Draw(5)),
+        drawn(3, Seen::Draw(6)),
+        drawn(3, Seen::Check(7)),
+        until(27, Seen::Draw(5)),
+        drawn(4, Seen::Draw(2)),
+        drawn(1, Seen::Check(2)),
+        until(26, Seen::Draw(5)),
+        drawn(0, Seen::Draw(2)),
+        drawn(1, Seen::Check(1)),
+        until(25, Seen::Over),
+        wakes(25),
+    ];
+    goes_on(rt, alloc, fetcher, &calls)
+}
+
+#[test]
+fn peers_of_no_weight_between(rt: HostRuntime) -> Result<(), Fail> {
+    // Peer 5 comes back with what it responded, and peer 2 responds while it is blocked.
+    let calls = [
+        (Call::Blocked(&[2, 6]), Seen::Done),
+        responds(2, 9),
+        weighs(2, Some(0)),
+        weighs(5, Some(71)),
+        begins(10, 5),
+        drawn(0, Seen::Draw(80)),
+        drawn(6, Seen::Check(5)),
+        until(20, Seen::Draw(5)),
+        drawn(4, Seen::Draw(3)),
+        drawn(2, Seen::Check(7)),
+        until(30, Seen::Draw(5)),
+        drawn(0, Seen::Draw(6)),
+        drawn(2, Seen::Check(4)),
+    ];
+    let mut fetcher = of_peer_three(rt.alloc());
+    draws_around(&rt, rt.alloc(), &mut fetcher)?;
+    goes_on(&rt, rt.alloc(), &mut fetcher, &calls)?;
+    Ok(())
+}
+
+/// Peers that weigh 2, 5 and 3 are known, and the second is asked for key 1 under the id 5. Then it
+/// leaves the set.
+fn leaves_while_asked(rt: &impl Abort, alloc: Global, fetcher: &mut Node) -> Result<(), Fault> {
+    let calls = [
+        (Call::Peers(&[2, 4, 6]), Seen::Done),
+        responds(2, 1),
+        responds(4, 4),
+        responds(6, 2),
+        waits(1, 0),
+        begins(0, 4),
+        drawn(0, Seen::Draw(10)),
+        drawn(2, Seen::Check(4)),
+        clear(Seen::Draw(1 << 64)),
+        drawn(5, requests(4, 5, 1)),
+        sent(true, Seen::Over),
+        (Call::Peers(&[6, 2]), Seen::Done),
+        weighs(4, None),
+    ];
+    goes_on(rt, alloc, fetcher, &calls)
+}
+
+#[test]
+fn peers_that_leave_and_come_back(rt: HostRuntime) -> Result<(), Fail> {
+    // Those that stay keep their scores, and peer 4 comes back without one.
+    let calls = [
+        waits(2, 1),
+        begins(1, 4),
+        drawn(0, Seen::Draw(5)),
+        drawn(2, Seen::Check(6)),
+        until(8, Seen::Draw(4)),
+        drawn(0, Seen::Draw(2)),
+        drawn(1, Seen::Check(2)),
+        until(9, Seen::Over),
+        wakes(8),
+        (Call::Peers(&[4, 2, 6]), Seen::Done),
+        weighs(4, Some(1)),
+        begins(2, 4),
+        drawn(0, Seen::Draw(6)),
+        drawn(2, Seen::Check(4)),
+        clear(requests(4, 6, 2)),
+        sent(true, Seen::Over),
+        (
+            Call::Response { peer: 4, at: 3 },
+            Seen::Answered(Some((1, 3))),
+        ),
+    ];
+    let mut fetcher = Fetcher::new(rt.alloc(), config());
+    leaves_while_asked(&rt, rt.alloc(), &mut fetcher)?;
+    goes_on(&rt, rt.alloc(), &mut fetcher, &calls)?;
+    Ok(())
+}
+
+#[test]
+fn targets_between_keys_without(rt: HostRuntime) -> Result<(), Fail> {
+    // No target of key 1 is known, and key 2 has more targets than there are peers.
+    let calls = [
+        (Call::Peers(&[2, 4, 6]), Seen::Done),
+        (Call::Targets(1, &[9]), Seen::Done),
+        (Call::Targets(2, &[4, 1, 3, 6]), Seen::Done),
+        waits(1, 0),
+        waits(2, 0),
+        waits(3, 0),
+        begins(0, 4),
+        drawn(0, Seen::Draw(2)),
+        drawn(1, Seen::Check(6)),
+        until(9, Seen::Draw(4)),
+        drawn(0, Seen::Draw(1)),
+        drawn(0, Seen::Check(4)),
+        until(8, Seen::Draw(4)),
+        drawn(0, Seen::Draw(3)),
+        drawn(2, Seen::Check(6)),
+        clear(Seen::Draw(1 << 64)),
+        drawn(5, requests(6, 5, 3)),
+        sent(true, Seen::Over),
+        begins(1, 4),
+        drawn(0, Seen::Draw(2)),
+        drawn(0, Seen::Check(4)),
+        clear(requests(4, 6, 2)),
+        sent(true, Seen::Over),
+        waits(4, 2),
+        begins(2, 4),
+        drawn(0, Seen::Draw(3)),
+        drawn(1, Seen::Check(4)),
+    ];
+    goes(&rt, rt.alloc(), &calls)?;
+    Ok(())
+}
