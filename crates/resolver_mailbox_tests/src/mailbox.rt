@@ -110,7 +110,17 @@ fn row<N: Naming, R: Wait + Drop>(
     spell_all(text, receiver.taken())
 }
 
-/// Writes the book that is lent for the shares of two handles.
+/// Writes the book that is lent for these shares.
+fn spell_lent<N: Naming, R: Wait>(
+    text: &mut String,
+    receiver: &Receiver<u16, u16, (), All, N, R>,
+    shares: &[&Share<u16, u16, (), All, N>],
+) -> Result<(), Fail> {
+    let book = receiver.book(*text.allocator(), shares)?;
+    spell_book(text, book.as_slice())
+}
+
+/// Writes the book that is lent for no share, for that of one handle, and for those of both.
 fn spell_book_for<N: Naming, R: Wait>(
     text: &mut String,
     first: &Sender<u16, u16, (), All, N, R>,
@@ -123,8 +133,9 @@ fn spell_book_for<N: Naming, R: Wait>(
     let Some(other) = second.share() else {
         return Err("a share".into());
     };
-    let book = receiver.book(*text.allocator(), &[one, other])?;
-    spell_book(text, book.as_slice())
+    spell_lent(text, receiver, &[])?;
+    spell_lent(text, receiver, &[one])?;
+    spell_lent(text, receiver, &[one, other])
 }
 
 /// Writes the row in a recorded mailbox of capacity 1, and then its book.
@@ -143,19 +154,23 @@ where
     spell_book_for(text, &first, &second, &receiver)
 }
 
+/// The calls of the row, and what is shown behind it.
+const ROW: &str = "none\nnone\nOk\nBackoff\nBackoff\n 1 10:7\n 2 20:8 21:9\n pending\nClosed\n\
+    share 0 true\n 1 10:7\n 2 20:8\nshare 1 false\n 2 21:9\n\
+    taken\n 1 10:7\n 2 20:8 21:9\n";
+
+/// The book of the row.
+const BOOK: &str = "put 0 0 true 1 10:7\nput 0 1 false 2 20:8\nput 1 0 false 2 21:9\n\
+    take 1 10:7\ntake 2 20:8 21:9\nclose\n";
+
 #[test]
 fn mailbox_book(rt: HostRuntime) -> Result<(), Fail> {
     let task = MockTask::new(&rt)?;
     let mut text = String::new(rt.alloc());
     recorded_row::<Brand, _>(&mut text, rt, Pages::new(), &task)?;
-    assert_eq!(rt;
-        text.as_str(),
-        "none\nnone\nOk\nBackoff\nBackoff\n 1 10:7\n 2 20:8 21:9\n pending\nClosed\n\
-        share 0 true\n 1 10:7\n 2 20:8\nshare 1 false\n 2 21:9\n\
-        taken\n 1 10:7\n 2 20:8 21:9\n\
-        put 0 0 true 1 10:7\nput 0 1 false 2 20:8\nput 1 0 false 2 21:9\n\
-        take 1 10:7\ntake 2 20:8 21:9\nclose\n"
-    );
+    let mut wanted = String::new(rt.alloc());
+    write!(wanted, "{ROW}{BOOK}{BOOK}{BOOK}")?;
+    assert_eq!(rt; text.as_str(), wanted.as_str());
     Ok(())
 }
 
