@@ -1,9 +1,9 @@
 //! Sources that close, and parts that fail: what becomes of the engine's loop.
 
-use crate::acts::{Act, play};
-use crate::fakes::Wrong;
-use crate::world::Setting;
 use resolver::{Outcome, Resolution};
+use resolver_fakes::acts::{Act, play};
+use resolver_fakes::seen::Wrong;
+use resolver_fakes::world::Setting;
 use std::test::Fail;
 
 /// There is peer 3, and it is asked for key 1.

@@ -1,64 +1,43 @@
-use crate::fakes::Wrong;
-use crate::world::{Looped, Setting, World, into_loop, make_world, turn};
-use futures::test::MockTask;
+//! Each input and each effect of the peer machine, once.
+
 use resolver::{Outcome, Resolution};
-use std::fmt::Write;
-use std::sync::Wait;
+use resolver_fakes::acts::{Act, play};
+use resolver_fakes::seen::Wrong;
+use resolver_fakes::world::Setting;
 use std::test::Fail;
 
+const COMPLETE: Act<'static> = Act::Judge(Outcome::Resolved(Resolution::Complete));
+
 /// Every input of the peer machine is ready once, one after another.
-fn every_input<R: Wait + Copy + Drop + Send + 'static>(
-    text: &mut String,
-    task: &MockTask,
-    looped: &mut Looped<R>,
-    world: &mut World<R>,
-) -> Result<(), Fail> {
-    world.peers(1, &[3, 4, 9])?;
-    turn(text, task, looped, world)?;
-    world.fetch(10)?;
-    turn(text, task, looped, world)?;
-    world.watch.put(20);
-    world.net(3, b"\0\0\0\0\0\0\0\0\x01\x02no");
-    turn(text, task, looped, world)?;
-    world.judge(Outcome::Invalid);
-    turn(text, task, looped, world)?;
-    world.block(&[3])?;
-    turn(text, task, looped, world)?;
-    world.watch.put(30);
-    turn(text, task, looped, world)?;
-    world.watch.put(80);
-    turn(text, task, looped, world)?;
-    world.watch.put(90);
-    turn(text, task, looped, world)?;
-    world.net(4, b"\0\0\0\0\0\0\0\x02\x01\x02hi");
-    turn(text, task, looped, world)?;
-    world.fetch(11)?;
-    turn(text, task, looped, world)?;
-    world.judge(Outcome::Resolved(Resolution::Complete));
-    turn(text, task, looped, world)?;
-    world.retain_below(11)?;
-    turn(text, task, looped, world)?;
-    let canceled = match world.verdicts.try_recv() {
-        Ok(verdict) => verdict.is_canceled(),
-        Err(_) => false,
-    };
-    writeln!(text, "canceled {canceled}")?;
-    world.net(3, b"\0\0\0\0\0\0\0\x07\0\x05");
-    turn(text, task, looped, world)?;
-    world.serve(b"ok");
-    turn(text, task, looped, world)?;
-    world.mailbox.close();
-    turn(text, task, looped, world)
-}
+const EVERY: [Act<'static>; 17] = [
+    Act::Peers(1, &[3, 4, 9]),
+    Act::Fetch(&[(1, 10)]),
+    Act::At(20),
+    Act::Net(3, b"\0\0\0\0\0\0\0\0\x01\x02no"),
+    Act::Judge(Outcome::Invalid),
+    Act::Block(&[3]),
+    Act::At(30),
+    Act::At(80),
+    Act::At(90),
+    Act::Net(4, b"\0\0\0\0\0\0\0\x02\x01\x02hi"),
+    Act::Fetch(&[(1, 11)]),
+    COMPLETE,
+    Act::Retain(11),
+    Act::IsWanted,
+    Act::Net(3, b"\0\0\0\0\0\0\0\x07\0\x05"),
+    Act::Serve(b"ok"),
+    Act::CloseMailbox,
+];
 
 /// What the fakes see, by the rules of the peer machine: a line for each thing that they are asked,
-/// and one for each poll.
+/// one for each poll, and last what one more fetch is answered.
 const SEEN: &str = "-
 draw 4
 draw 2
 check 3
 draw 18446744073709551616
 send 3 x00000000000000000001
+-
 -
 deliver 1 to 10 x6e6f
 -
@@ -82,55 +61,38 @@ deliver 1 to 10 x6869
 deliver 1 to 11 x6869
 -
 -
-canceled true
+wanted false
 produce 5
 -
 send 3 x000000000000000701026f6b
 -
 complete
+Closed
 ";
 
 #[test]
 fn every_input_every_effect(rt: HostRuntime) -> Result<(), Fail> {
-    let task = MockTask::new(&rt)?;
-    let mut text = String::new(rt.alloc());
-    let (mut world, engine, lent) = make_world(rt, rt.alloc(), Setting::with(Wrong::Nothing))?;
-    let mut looped = into_loop(engine, lent)?;
-    every_input(&mut text, &task, &mut looped, &mut world)?;
+    let text = play(rt, Setting::with(Wrong::Nothing), &EVERY)?;
     assert_eq!(rt; text.as_str(), SEEN);
     Ok(())
 }
 
 /// A subscriber joins while a response is being judged.
-fn join_late<R: Wait + Copy + Drop + Send + 'static>(
-    text: &mut String,
-    task: &MockTask,
-    looped: &mut Looped<R>,
-    world: &mut World<R>,
-) -> Result<(), Fail> {
-    world.peers(1, &[3, 4, 9])?;
-    world.fetch(10)?;
-    turn(text, task, looped, world)?;
-    world.net(3, b"\0\0\0\0\0\0\0\0\x01\x02hi");
-    turn(text, task, looped, world)?;
-    world.fetch(11)?;
-    turn(text, task, looped, world)?;
-    world.judge(Outcome::Resolved(Resolution::Complete));
-    turn(text, task, looped, world)?;
-    world.judge(Outcome::Resolved(Resolution::Complete));
-    turn(text, task, looped, world)
-}
-
 #[test]
 fn a_late_subscriber_gets_the_same_response(rt: HostRuntime) -> Result<(), Fail> {
-    let task = MockTask::new(&rt)?;
-    let mut text = String::new(rt.alloc());
-    let (mut world, engine, lent) = make_world(rt, rt.alloc(), Setting::with(Wrong::Nothing))?;
-    let mut looped = into_loop(engine, lent)?;
-    join_late(&mut text, &task, &mut looped, &mut world)?;
+    let acts = [
+        Act::Peers(1, &[3, 4, 9]),
+        Act::Fetch(&[(1, 10)]),
+        Act::Net(3, b"\0\0\0\0\0\0\0\0\x01\x02hi"),
+        Act::Fetch(&[(1, 11)]),
+        COMPLETE,
+        COMPLETE,
+    ];
+    let text = play(rt, Setting::with(Wrong::Nothing), &acts)?;
     assert_eq!(rt;
         text.as_str(),
-        "draw 4
+        "-
+draw 4
 draw 2
 check 3
 draw 18446744073709551616
@@ -142,6 +104,7 @@ deliver 1 to 10 x6869
 deliver 1 to 11 x6869
 -
 -
+Ok
 "
     );
     Ok(())

@@ -1,217 +1,17 @@
-use crate::fakes::{Judge, Seen, Standing, Telling, Watch, Wrong};
-use crate::names::{Below, Peer};
-use crate::world::{judge, spell_polled, spell_told, wanted};
 use bytes::Bytes;
-use futures::Future;
-use futures::channel::{mpsc, oneshot};
-use futures::task::{Context, Poll};
+use futures::channel::oneshot;
+use futures::task::Poll;
 use futures::test::MockTask;
-use resolver::base::Fault;
-use resolver::mailbox::Unrecorded;
-use resolver::opaque::{Fetcher, Loop, init, open};
-use resolver::p2p::mocks::Key;
-use resolver::{Ending, Handle, Outcome, Resolution, Resolver, opaque};
-use std::alloc::{AllocGlobal, Global};
+use resolver::{Ending, Resolver};
+use resolver_fakes::actor::{Ends, Held, Looped, opened};
+use resolver_fakes::acts::wanted;
+use resolver_fakes::seen::Wrong;
+use resolver_fakes::world::spell_polled;
+use std::alloc::AllocGlobal;
 use std::fmt::Write;
-use std::num::NonZeroUsize;
 use std::random::RandomSource;
-use std::sync::{Arc, Wait};
+use std::sync::Wait;
 use std::test::Fail;
-use std::thread::Threads;
-
-/// A look that a test answers.
-#[derive(Drop)]
-struct Look {
-    value: Option<oneshot::Receiver<Option<Bytes>>>,
-}
-
-impl Future for Look {
-    type Output = Option<Bytes>;
-
-    fn poll(&mut self, cx: &mut Context<'_>) -> Poll<Option<Bytes>> {
-        match &mut self.value {
-            Some(receiver) => match receiver.poll(cx) {
-                Poll::Ready(Ok(value)) => Poll::Ready(value),
-                Poll::Ready(Err(_)) => Poll::Ready(None),
-                Poll::Pending => Poll::Pending,
-            },
-            None => Poll::Ready(None),
-        }
-    }
-}
-
-/// A source that hands each look to its test.
-#[derive(Drop)]
-struct Source {
-    alloc: Global,
-    looks: mpsc::UnboundedSender<(Key, oneshot::Sender<Option<Bytes>>)>,
-}
-
-impl Fetcher for Source {
-    type Key = Key;
-
-    type Value = Bytes;
-
-    type Future = Look;
-
-    fn fetch(&self, key: Key) -> Look {
-        let Ok((sender, receiver)) = oneshot::channel(self.alloc) else {
-            return Look { value: None };
-        };
-        let _ = self.looks.unbounded_send((key, sender));
-        Look {
-            value: Some(receiver),
-        }
-    }
-
-    ghost pollable = { λ look. tt };
-}
-
-/// The loop of an actor over a source.
-type Looped<R> = Loop<Key, Bytes, u16, Below, R, Telling, Source, Judge>;
-
-/// A handle of its mailbox.
-type Asked<R> = opaque::Resolver<Key, u16, Peer, Below, Unrecorded, R>;
-
-/// Where a look is answered.
-pub type Looked = oneshot::Sender<Option<Bytes>>;
-
-/// What a test holds of what an actor is lent.
-#[derive(Drop)]
-pub struct Held {
-    pub looks: mpsc::UnboundedReceiver<(Key, Looked)>,
-    pub verdicts: mpsc::UnboundedReceiver<oneshot::Sender<Outcome>>,
-    pub told: mpsc::UnboundedReceiver<Seen>,
-    pub moments: mpsc::UnboundedReceiver<u128>,
-    pub watch: Arc<Watch>,
-}
-
-/// What an actor is lent.
-#[derive(Drop)]
-struct Lent {
-    clock: Telling,
-    source: Source,
-    consumer: Judge,
-}
-
-/// What a test holds.
-#[derive(Drop)]
-pub struct Ends<R> {
-    pub resolver: Asked<R>,
-    pub held: Held,
-}
-
-/// A clock that stands at 0, with the moments that it is to wait for, and the watch that puts it forward.
-fn clock(alloc: Global) -> Result<(mpsc::UnboundedReceiver<u128>, Arc<Watch>, Telling), Fault> {
-    let (asked, moments) = mpsc::unbounded(alloc)?;
-    let watch = Arc::new(alloc, Watch::new())?;
-    let clock = Telling {
-        clock: Standing {
-            watch: Arc::try_clone(&watch)?,
-        },
-        moments: asked,
-    };
-    Ok((moments, watch, clock))
-}
-
-/// What an actor is lent, and the ends of it that its test holds.
-fn lend(alloc: Global, wrong: Wrong) -> Result<(Held, Lent), Fault> {
-    let (moments, watch, clock) = clock(alloc)?;
-    let (sender, looks) = mpsc::unbounded(alloc)?;
-    let (teller, told) = mpsc::unbounded(alloc)?;
-    let (verdicts, consumer) = judge(alloc, &teller, wrong)?;
-    let source = Source {
-        alloc,
-        looks: sender,
-    };
-    let held = Held {
-        looks,
-        verdicts,
-        told,
-        moments,
-        watch,
-    };
-    let lent = Lent {
-        clock,
-        source,
-        consumer,
-    };
-    Ok((held, lent))
-}
-
-/// An actor over a source, with a delay of 100.
-fn opened<R: Copy>(rt: R, alloc: Global, wrong: Wrong) -> Result<(Ends<R>, Looped<R>), Fault> {
-    let (held, lent) = lend(alloc, wrong)?;
-    let Lent {
-        clock,
-        source,
-        consumer,
-    } = lent;
-    let size = NonZeroUsize::MIN;
-    let (resolver, looped) = open(rt, alloc, clock, source, consumer, size, 100)?;
-    Ok((Ends { resolver, held }, looped))
-}
-
-/// The same in a thread.
-pub fn run<R>(rt: R, alloc: Global) -> Result<(Ends<R>, Handle), Fault>
-where
-    R: Threads + Wait + RandomSource + AllocGlobal + Copy + Drop + Send + 'static,
-{
-    let (held, lent) = lend(alloc, Wrong::Nothing)?;
-    let Lent {
-        clock,
-        source,
-        consumer,
-    } = lent;
-    let size = NonZeroUsize::MIN;
-    let (resolver, handle) = init(rt, alloc, clock, source, consumer, size, 100)?;
-    Ok((Ends { resolver, held }, handle))
-}
-
-impl<R: Wait + Copy + Send + 'static> Ends<R> {
-    /// Subscriber wants key 1.
-    pub fn fetch(&mut self, subscriber: u16) -> Result<(), Fault> {
-        self.resolver.fetch(wanted(subscriber))?;
-        Ok(())
-    }
-
-    /// Subscribers from this one on are let go.
-    pub fn retain_below(&mut self, subscriber: u16) -> Result<(), Fault> {
-        self.resolver.retain(Below(subscriber))?;
-        Ok(())
-    }
-}
-
-impl Held {
-    /// The look that has begun, which is written.
-    pub fn look(&mut self, text: &mut String) -> Result<Option<Looked>, Fail> {
-        let Ok((key, look)) = self.looks.try_recv() else {
-            return Ok(None);
-        };
-        writeln!(text, "look {}", key.0)?;
-        Ok(Some(look))
-    }
-
-    /// Answers the look that has begun.
-    pub fn answer(&mut self, text: &mut String, value: Option<Bytes>) -> Result<(), Fail> {
-        if let Some(look) = self.look(text)? {
-            let _ = look.send(value);
-        }
-        Ok(())
-    }
-
-    /// The consumer says that what was delivered last is what was wanted.
-    fn complete(&mut self) {
-        if let Ok(verdict) = self.verdicts.try_recv() {
-            let _ = verdict.send(Outcome::Resolved(Resolution::Complete));
-        }
-    }
-
-    /// Writes what the consumer was asked since the last time.
-    fn spell(&mut self, text: &mut String) -> Result<(), Fail> {
-        spell_told(text, &mut self.told)
-    }
-}
 
 /// Polls the loop, and once more where it was woken in that poll: what is new in a set of futures wakes
 /// the task that polls it.
@@ -345,7 +145,7 @@ fn looked<R: Wait + Copy + Drop + Send + 'static>(
     if !closes {
         turn(text, task, looped, &mut ends.held)?;
     }
-    writeln!(text, "{:?}", ends.resolver.fetch(wanted(10))?)?;
+    writeln!(text, "{:?}", ends.resolver.fetch(wanted(1, 10))?)?;
     Ok(())
 }
 

@@ -1,10 +1,7 @@
 //! A second core, which is given by hand what the loop takes from its sources: it asks fakes of its own.
 
-use crate::acts::{Act, fetches, targeted};
-use crate::fakes::{Dice, Seen, Told, Wire};
-use crate::names::{Below, Peer};
 use crate::scan::{Scan, Shown, Stage, list_rows};
-use crate::world::{Setting, peers, spell_told};
+use crate::script::Script;
 use bytes::Bytes;
 use futures::channel::mpsc;
 use resolver::base::{Check, Draws, Fault, Sender};
@@ -15,11 +12,16 @@ use resolver::p2p::inputs::{Event, Happening, Input};
 use resolver::p2p::mocks::Key;
 use resolver::p2p::{Core, FetchKey as Wanted};
 use resolver::{Delivery, Outcome};
+use resolver_fakes::acts::{Act, fetches, targeted};
+use resolver_fakes::lent::{Dice, Wire};
+use resolver_fakes::names::{Below, Peer};
+use resolver_fakes::seen::{Seen, Told, spell};
+use resolver_fakes::world::{Setting, peers};
 use std::alloc::Global;
 use std::collections::VecDeque;
 use std::test::Fail;
 
-type Happened = Event<Key, Peer, u16, Below>;
+pub type Happened = Event<Key, Peer, u16, Below>;
 
 type Done = Effect<Key, Peer, u16>;
 
@@ -57,6 +59,8 @@ pub struct Twin {
     sent: VecDeque<(Peer, Bytes)>,
     delivered: Vec<(u8, u16)>,
     counts: Counts,
+    /// What it takes, where that is written.
+    script: Option<Script>,
 }
 
 fn is_due(deadline: Option<u128>, now: u64) -> bool {
@@ -138,7 +142,22 @@ impl Twin {
                 credits: 0,
                 responses: 0,
             },
+            script: None,
         })
+    }
+
+    /// What it takes from now on is written.
+    pub fn begin_script(&mut self, me: u8) -> Result<(), Fail> {
+        self.script = Some(Script::new(self.alloc, me)?);
+        Ok(())
+    }
+
+    /// What it took since then, as lines.
+    pub fn script(&self) -> &str {
+        match &self.script {
+            Some(script) => script.lines(),
+            None => "",
+        }
     }
 
     /// The checks, sends, credits and responses so far.
@@ -193,6 +212,13 @@ impl Twin {
         }
     }
 
+    /// Whether no key is wanted: none waits, is asked for or is judged.
+    pub fn is_idle(&self) -> bool {
+        let is_waiting = self.core.get_pending_deadline().is_some();
+        let is_asked = self.core.get_active_deadline().is_some();
+        !is_waiting && !is_asked && !self.is_judging()
+    }
+
     /// Whether a delivery has no verdict.
     pub fn is_judging(&self) -> bool {
         !self.deliveries.is_empty()
@@ -206,7 +232,7 @@ impl Twin {
 
     /// Writes what its fakes were asked since the last time.
     pub fn spell(&mut self, text: &mut String) -> Result<(), Fail> {
-        spell_told(text, &mut self.seen)
+        spell(text, &mut self.seen)
     }
 
     /// Sends, and says whether it is accepted.
@@ -327,6 +353,9 @@ impl Twin {
 
     /// Takes an event, and answers what its scan asks.
     fn take(&mut self, event: Happened) -> Result<(), Fail> {
+        if let Some(script) = &mut self.script {
+            script.note(self.now, &event)?;
+        }
         let mut effects = step(&mut self.core, happens(self.now, event))?;
         let eligible = self.eligible.unwrap_or(0);
         let mut scan = Scan::new(self.alloc, self.now, eligible, self.looked()?);
@@ -334,6 +363,9 @@ impl Twin {
             let Some(answer) = self.carry_out_all(effects, &mut scan)? else {
                 return self.judge(&scan);
             };
+            if let Some(script) = &mut self.script {
+                script.note_answer(answer)?;
+            }
             effects = step(&mut self.core, Input::Answers(answer))?;
         }
         Err("a scan without an end".into())

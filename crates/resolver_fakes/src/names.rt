@@ -1,4 +1,4 @@
-//! Names of peers and a predicate for the tests.
+//! Names of peers, and a predicate.
 
 ghost use Rattle.std.specs.Prelude.{◌≡◌, nat_lt};
 ghost use Rattle.std.proofs.Common.{rules};

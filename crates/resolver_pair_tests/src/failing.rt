@@ -1,12 +1,12 @@
 //! Checks that say Until, and sends that are refused: for each place of these in a run that fetches three
 //! keys from three peers.
 
-use crate::acts::Act;
-use crate::fakes::Wrong;
 use crate::pair::{Pair, make_pair};
 use crate::twin::Counts;
-use crate::world::Setting;
 use resolver::{Outcome, Resolution};
+use resolver_fakes::acts::Act;
+use resolver_fakes::seen::Wrong;
+use resolver_fakes::world::Setting;
 use std::alloc::AllocGlobal;
 use std::random::RandomSource;
 use std::sync::Wait;

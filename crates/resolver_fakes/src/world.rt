@@ -1,19 +1,18 @@
 //! An engine's loop in memory, and what its test holds of it.
 
-use crate::fakes::{Dice, Given, Judge, Seen, Standing, Store, Told, Watch, Wire, Wrong};
+use crate::lent::{Dice, Given, Judge, Store, Wire};
 use crate::names::{Below, Peer};
+use crate::seen::{Seen, Told, Wrong, spell};
+use crate::watch::{Standing, Watch};
 use bytes::Bytes;
-use futures::StreamExt;
 use futures::channel::{mpsc, oneshot};
-use futures::executor::block_on;
 use futures::task::Poll;
 use futures::test::MockTask;
-use log::{Log, trace};
-use resolver::base::{Fault, Feedback, NonEmptyVec, Seeded};
+use resolver::base::{Fault, Seeded};
 use resolver::mailbox::Unrecorded;
 use resolver::p2p::mocks::Key;
 use resolver::p2p::{Config, Engine, Loop, Mailbox};
-use resolver::{Ending, Fetch, Handle, Outcome, Resolver, TargetedResolver};
+use resolver::{Ending, Handle, Outcome};
 use std::alloc::{AllocGlobal, Global};
 use std::fmt::Write;
 use std::num::NonZeroUsize;
@@ -110,11 +109,11 @@ pub struct Lent {
 
 /// What gives an engine its peers, and the ends by which a test gives it.
 #[derive(Drop)]
-struct Sources {
-    sets: mpsc::UnboundedSender<(u64, Vec<Peer>)>,
-    blocked: mpsc::UnboundedSender<Vec<Peer>>,
-    provider: Given<(u64, Vec<Peer>)>,
-    blocker: Given<Vec<Peer>>,
+pub struct Sources {
+    pub sets: mpsc::UnboundedSender<(u64, Vec<Peer>)>,
+    pub blocked: mpsc::UnboundedSender<Vec<Peer>>,
+    pub provider: Given<(u64, Vec<Peer>)>,
+    pub blocker: Given<Vec<Peer>>,
 }
 
 /// What an engine's effects go to, and the ends by which a test answers.
@@ -136,7 +135,8 @@ fn given<T: Drop>(
     Ok((sender, Given { told, given }))
 }
 
-fn make_sources(alloc: Global, told: &Told) -> Result<Sources, Fault> {
+/// Sources of peers that give what a test says.
+pub fn make_sources(alloc: Global, told: &Told) -> Result<Sources, Fault> {
     let (sets, provider) = given(alloc, told)?;
     let (blocked, blocker) = given(alloc, told)?;
     Ok(Sources {
@@ -192,7 +192,7 @@ fn make_hands(alloc: Global, told: &Told, wrong: Wrong) -> Result<Hands, Fault> 
 }
 
 /// What the engine is lent besides, and the ends that a test holds of that.
-fn make_lent(
+pub fn make_lent(
     alloc: Global,
     told: Told,
     setting: Setting,
@@ -264,7 +264,7 @@ pub fn make_world<R: Copy>(
 }
 
 /// The network, the clock and the draws that an engine is lent.
-fn parts_of(lent: Lent) -> Result<((Wire, Given<(Peer, Bytes)>), Standing, Dice), Fault> {
+pub fn parts_of(lent: Lent) -> Result<((Wire, Given<(Peer, Bytes)>), Standing, Dice), Fault> {
     let Lent {
         setting,
         told,
@@ -303,103 +303,6 @@ pub fn peers(alloc: Global, numbers: &[u8]) -> Result<Vec<Peer>, Fault> {
     Ok(peers)
 }
 
-/// A fetch of key 1.
-pub fn wanted(subscriber: u16) -> Fetch<Key, u16> {
-    Fetch {
-        key: Key(1),
-        subscriber,
-        mark: 7,
-    }
-}
-
-impl<R: Wait + Copy + Send + 'static> World<R> {
-    /// Subscriber wants key 1.
-    pub fn fetch(&mut self, subscriber: u16) -> Result<Feedback, Fault> {
-        self.mailbox.fetch(wanted(subscriber))
-    }
-
-    /// Subscriber wants key 1 of this peer.
-    pub fn fetch_from(&mut self, subscriber: u16, peer: u8) -> Result<(), Fault> {
-        let Ok(targets) = NonEmptyVec::new(self.alloc, Peer(peer)) else {
-            return Err(Fault::OutOfMemory);
-        };
-        self.mailbox.fetch_targeted(wanted(subscriber), targets)?;
-        Ok(())
-    }
-
-    /// Subscribers from this one on are let go.
-    pub fn retain_below(&mut self, subscriber: u16) -> Result<(), Fault> {
-        self.mailbox.retain(Below(subscriber))?;
-        Ok(())
-    }
-}
-
-impl<R> World<R> {
-    /// There are these peers.
-    pub fn peers(&self, index: u64, numbers: &[u8]) -> Result<(), Fault> {
-        let _ = self
-            .sets
-            .unbounded_send((index, peers(self.alloc, numbers)?));
-        Ok(())
-    }
-
-    /// These peers are blocked.
-    pub fn block(&self, numbers: &[u8]) -> Result<(), Fault> {
-        let _ = self.blocked.unbounded_send(peers(self.alloc, numbers)?);
-        Ok(())
-    }
-
-    /// A peer sends these bytes.
-    pub fn net(&self, peer: u8, message: &'static [u8]) {
-        let _ = self
-            .network
-            .unbounded_send((Peer(peer), Bytes::from_static(message)));
-    }
-
-    /// The consumer says this of the first delivery that it hasn't judged.
-    pub fn judge(&mut self, outcome: Outcome) {
-        if let Ok(verdict) = self.verdicts.try_recv() {
-            let _ = verdict.send(outcome);
-        }
-    }
-
-    /// The producer has these bytes for the first request that it hasn't answered.
-    pub fn serve(&mut self, value: &'static [u8]) {
-        if let Ok(serve) = self.serves.try_recv() {
-            let _ = serve.send(Bytes::from_static(value));
-        }
-    }
-
-    /// Writes what the fakes were asked since the last time.
-    pub fn spell(&mut self, text: &mut String) -> Result<(), Fail> {
-        spell_told(text, &mut self.told)
-    }
-}
-
-/// Writes what some fakes were asked since the last time.
-pub fn spell_told(text: &mut String, told: &mut mpsc::UnboundedReceiver<Seen>) -> Result<(), Fail> {
-    for _ in 0..100_000_u64 {
-        let Ok(seen) = told.try_recv() else {
-            return Ok(());
-        };
-        writeln!(text, "{seen}")?;
-    }
-    Ok(())
-}
-
-impl<R: Wait + RandomSource + AllocGlobal + Log> World<R> {
-    /// Waits until the fakes were asked so many things, and writes them.
-    pub fn wait(&mut self, rt: &R, text: &mut String, count: u32) -> Result<(), Fail> {
-        for _ in 0..count {
-            if let Some(seen) = block_on(rt, self.told.next())? {
-                trace!(rt; "{seen}");
-                writeln!(text, "{seen}")?;
-            }
-        }
-        Ok(())
-    }
-}
-
 /// Polls the loop until it is over, or nothing is left for it: what is new in a set of futures wakes the
 /// task that polls it, and so does a loop that took many turns.
 pub fn settle<R: Wait + Copy + Drop>(task: &MockTask, looped: &mut Looped<R>) -> Poll<Ending> {
@@ -434,6 +337,6 @@ pub fn turn<R: Wait + Copy + Drop>(
     world: &mut World<R>,
 ) -> Result<(), Fail> {
     let polled = settle(task, looped);
-    world.spell(text)?;
+    spell(text, &mut world.told)?;
     spell_polled(text, polled, task.is_woken())
 }

@@ -1,10 +1,10 @@
 //! What a scan is to come to, by the rules of scans: of one that is written down as it goes.
 
-use crate::names::{Below, Peer};
 use resolver::base::{Check, Fault};
 use resolver::p2p::Core;
 use resolver::p2p::mocks::Key;
 use resolver::p2p::rows::{Phase, Row};
+use resolver_fakes::names::{Below, Peer};
 use std::alloc::Global;
 use std::test::Fail;
 

@@ -1,10 +1,10 @@
 //! A loop beside the twin of its core: both are given the same, and are to ask and to await the same.
 
-use crate::acts::Act;
 use crate::twin::Twin;
-use crate::world::{Looped, Setting, World, into_loop, make_world, settle};
 use futures::test::MockTask;
-use resolver::base::Fault;
+use resolver_fakes::acts::Act;
+use resolver_fakes::seen::spell;
+use resolver_fakes::world::{Looped, Setting, World, into_loop, make_world, settle};
 use std::alloc::AllocGlobal;
 use std::fmt::Write;
 use std::random::RandomSource;
@@ -51,7 +51,7 @@ impl<R: Wait + Copy + Drop + Send + 'static> Pair<R> {
         self.expected.clear();
         self.world.act(act)?;
         let polled = settle(&self.task, &mut self.looped);
-        self.world.spell(&mut self.said)?;
+        spell(&mut self.said, &mut self.world.told)?;
         let awaited = self.world.watch.awaited();
         write!(self.said, "{} {awaited:?}", polled.is_pending())?;
         self.twin.act(act)?;

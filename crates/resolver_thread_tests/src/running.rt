@@ -1,38 +1,72 @@
-use crate::fakes::Wrong;
-use crate::source::{Held, run};
-use crate::world::{Setting, World, make_world, start};
 use bytes::Bytes;
 use futures::StreamExt;
+use futures::channel::mpsc;
 use futures::executor::block_on;
-use log::{Log, trace};
-use resolver::{Outcome, Resolution};
+use resolver::{Outcome, Resolution, Resolver};
+use resolver_fakes::actor::{Held, run};
+use resolver_fakes::acts::Act;
+use resolver_fakes::seen::{Seen, Wrong};
+use resolver_fakes::world::{Setting, World, make_world, start};
 use std::alloc::AllocGlobal;
 use std::fmt::Write;
 use std::random::RandomSource;
 use std::sync::Wait;
 use std::test::Fail;
 
+/// Waits until the fakes were asked so many things, and writes them.
+fn wait<R: Wait + RandomSource + AllocGlobal>(
+    rt: &R,
+    text: &mut String,
+    told: &mut mpsc::UnboundedReceiver<Seen>,
+    count: u32,
+) -> Result<(), Fail> {
+    for _ in 0..count {
+        if let Some(seen) = block_on(rt, told.next())? {
+            writeln!(text, "{seen}")?;
+        }
+    }
+    Ok(())
+}
+
+/// The next delivery is what was wanted.
+fn complete<R>(rt: &R, world: &mut World<R>) -> Result<(), Fail>
+where
+    R: Wait + RandomSource + AllocGlobal,
+{
+    if let Some(verdict) = block_on(rt, world.verdicts.next())? {
+        let _ = verdict.send(Outcome::Resolved(Resolution::Complete));
+    }
+    Ok(())
+}
+
+/// The producer has these bytes for the next request.
+fn serve<R>(rt: &R, world: &mut World<R>, value: &'static [u8]) -> Result<(), Fail>
+where
+    R: Wait + RandomSource + AllocGlobal,
+{
+    if let Some(serve) = block_on(rt, world.serves.next())? {
+        let _ = serve.send(Bytes::from_static(value));
+    }
+    Ok(())
+}
+
 /// Of two peers the second is asked for a key, and answers; the first asks for another, and is
 /// answered.
 fn exchange<R>(rt: &R, text: &mut String, world: &mut World<R>) -> Result<(), Fail>
 where
-    R: Wait + RandomSource + AllocGlobal + Log + Copy + Send + 'static,
+    R: Wait + RandomSource + AllocGlobal + Copy + Send + 'static,
 {
-    world.peers(1, &[3, 4])?;
-    world.fetch_from(10, 4)?;
-    world.wait(rt, text, 5)?;
-    world.net(4, b"\0\0\0\0\0\0\0\0\x01\x02hi");
-    world.wait(rt, text, 1)?;
-    if let Some(verdict) = block_on(rt, world.verdicts.next())? {
-        let _ = verdict.send(Outcome::Resolved(Resolution::Complete));
-    }
-    world.net(3, b"\0\0\0\0\0\0\0\x07\0\x05");
-    world.wait(rt, text, 1)?;
-    if let Some(serve) = block_on(rt, world.serves.next())? {
-        let _ = serve.send(Bytes::from_static(b"ok"));
-    }
-    world.wait(rt, text, 1)?;
-    world.mailbox.close();
+    world.act(Act::Peers(1, &[3, 4]))?;
+    world.act(Act::FetchFrom(&[(1, 4)]))?;
+    wait(rt, text, &mut world.told, 5)?;
+    world.act(Act::Net(4, b"\0\0\0\0\0\0\0\0\x01\x02hi"))?;
+    wait(rt, text, &mut world.told, 1)?;
+    complete(rt, world)?;
+    world.act(Act::Net(3, b"\0\0\0\0\0\0\0\x07\0\x05"))?;
+    wait(rt, text, &mut world.told, 1)?;
+    serve(rt, world, b"ok")?;
+    wait(rt, text, &mut world.told, 1)?;
+    world.act(Act::CloseMailbox)?;
     Ok(())
 }
 
@@ -74,7 +108,7 @@ where
 /// to wait for.
 fn retry<R>(rt: &R, text: &mut String, held: &mut Held) -> Result<(), Fail>
 where
-    R: Wait + RandomSource + AllocGlobal + Log,
+    R: Wait + RandomSource + AllocGlobal,
 {
     answer(rt, text, held, None)?;
     if let Some(moment) = block_on(rt, held.moments.next())? {
@@ -83,7 +117,6 @@ where
     held.watch.put(100);
     answer(rt, text, held, Some(Bytes::from_static(b"hi")))?;
     if let Some(seen) = block_on(rt, held.told.next())? {
-        trace!(rt; "{seen}");
         writeln!(text, "{seen}")?;
     }
     Ok(())

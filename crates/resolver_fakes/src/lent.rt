@@ -1,0 +1,180 @@
+//! What an engine is lent by a test.
+
+ghost use Rattle.std.specs.Prelude.{◌≡◌, IfErr};
+ghost use Rattle.futures.specs.Poll.{OnPending};
+ghost use Rattle.futures.specs.Task.{IsArmed, Keeps};
+ghost use Rattle.resolver_base.specs.declared.base.fault.Fault.TheVariants.{OutOfMemory};
+
+use crate::names::Peer;
+use crate::seen::{Seen, Told, Wrong};
+use bytes::Bytes;
+use futures::Stream;
+use futures::channel::{mpsc, oneshot};
+use futures::task::{Context, Poll};
+use resolver::base::{
+    Blocker, Check, Draws, Fault, Feedback, Provider, Receiver, Seeded, Sender, Unreliable,
+};
+use resolver::p2p::Producer;
+use resolver::p2p::mocks::Key;
+use resolver::{Consumer, Delivery, Outcome};
+use std::alloc::Global;
+
+/// Peer sets, blocked sets or messages, as a test gives them.
+#[derive(Drop)]
+pub struct Given<T> {
+    pub told: Told,
+    pub given: mpsc::UnboundedReceiver<T>,
+}
+
+impl Provider for Given<(u64, Vec<Peer>)> {
+    type PublicKey = Peer;
+
+    fn poll_update(&mut self, cx: &mut Context<'_>) -> Poll<Option<(u64, Vec<Peer>)>> {
+        self.given.poll_next(cx)
+    }
+}
+
+impl Blocker for Given<Vec<Peer>> {
+    type PublicKey = Peer;
+
+    fn block(&mut self, peer: &Peer) {
+        let _ = self.told.unbounded_send(Seen::Blocked(*peer));
+    }
+
+    fn poll_blocked(&mut self, cx: &mut Context<'_>) -> Poll<Option<Vec<Peer>>> {
+        self.given.poll_next(cx)
+    }
+}
+
+impl Receiver for Given<(Peer, Bytes)> {
+    type PublicKey = Peer;
+
+    fn poll_recv(&mut self, cx: &mut Context<'_>) -> Poll<Option<(Peer, Bytes)>> {
+        self.given.poll_next(cx)
+    }
+}
+
+/// A way to the peers that takes everything but what goes wrong.
+#[derive(Drop)]
+pub struct Wire {
+    told: Told,
+    wrong: Wrong,
+    checks: u64,
+    sends: u64,
+}
+
+impl Wire {
+    /// Returns a wire on which nothing was checked or sent yet.
+    pub fn new(told: Told, wrong: Wrong) -> Wire {
+        Wire {
+            told,
+            wrong,
+            checks: 0,
+            sends: 0,
+        }
+    }
+}
+
+impl Sender for Wire {
+    type PublicKey = Peer;
+
+    fn check(&mut self, peer: &Peer) -> Check {
+        self.checks = self.checks.saturating_add(1);
+        let check = self.wrong.check(self.checks);
+        let seen = match check {
+            Check::Clear => Seen::Checked(*peer),
+            Check::Until(_) => Seen::Limited(*peer),
+        };
+        let _ = self.told.unbounded_send(seen);
+        check
+    }
+
+    fn send(&mut self, peer: &Peer, message: Bytes, _priority: bool) -> Unreliable {
+        self.sends = self.sends.saturating_add(1);
+        if self.wrong.is_refused(self.sends) {
+            let _ = self.told.unbounded_send(Seen::Refused(*peer, message));
+            return Unreliable::Rejected;
+        }
+        let _ = self.told.unbounded_send(Seen::Sent(*peer, message));
+        Unreliable::Outcome(Feedback::Ok)
+    }
+}
+
+/// Draws that follow from a seed, or are all 0 where there is none.
+#[derive(Drop)]
+pub struct Dice {
+    pub told: Told,
+    pub seeded: Option<Seeded>,
+}
+
+impl Draws for Dice {
+    fn below(&mut self, n: u128) -> u128 {
+        let _ = self.told.unbounded_send(Seen::Drew(n));
+        match &mut self.seeded {
+            Some(seeded) => seeded.below(n),
+            None => 0,
+        }
+    }
+}
+
+/// A consumer that hands each delivery's sender to its test, unless it drops them.
+#[derive(Drop)]
+pub struct Judge {
+    pub alloc: Global,
+    pub told: Told,
+    pub wrong: Wrong,
+    pub verdicts: mpsc::UnboundedSender<oneshot::Sender<Outcome>>,
+}
+
+impl Consumer for Judge {
+    type Key = Key;
+
+    type Value = Bytes;
+
+    type Subscriber = u16;
+
+    type Outcome = Outcome;
+
+    fn deliver(
+        &mut self,
+        delivery: Delivery<Key, u16>,
+        value: Bytes,
+    ) -> Result<oneshot::Receiver<Outcome>, Fault>
+        ensures only { IfErr result (λ fault. fault ≡ OutOfMemory) }
+    {
+        if self.wrong == Wrong::Consumer {
+            return Err(Fault::OutOfMemory);
+        }
+        let (verdict, receiver) = oneshot::channel(self.alloc)?;
+        let _ = self.told.unbounded_send(Seen::Delivered(delivery, value));
+        if self.wrong != Wrong::Drops {
+            let _ = self.verdicts.unbounded_send(verdict);
+        }
+        Ok(receiver)
+    }
+}
+
+/// A producer that hands each request's sender to its test.
+#[derive(Drop)]
+pub struct Store {
+    pub alloc: Global,
+    pub told: Told,
+    pub wrong: Wrong,
+    pub serves: mpsc::UnboundedSender<oneshot::Sender<Bytes>>,
+}
+
+impl Producer for Store {
+    type Key = Key;
+
+    fn produce(&mut self, key: Key) -> Result<oneshot::Receiver<Bytes>, Fault>
+        ensures only { IfErr result (λ fault. fault ≡ OutOfMemory) }
+    {
+        if self.wrong == Wrong::Producer {
+            return Err(Fault::OutOfMemory);
+        }
+        let (serve, receiver) = oneshot::channel(self.alloc)?;
+        let _ = self.told.unbounded_send(Seen::Produced(key));
+        let _ = self.serves.unbounded_send(serve);
+        Ok(receiver)
+    }
+}

@@ -1,0 +1,130 @@
+//! What goes wrong around an engine, and what its fakes are asked, as lines.
+
+use crate::names::Peer;
+use bytes::Bytes;
+use futures::channel::mpsc;
+use resolver::Delivery;
+use resolver::base::Check;
+use resolver::p2p::mocks::Key;
+use std::fmt;
+use std::fmt::{Formatter, Write};
+use std::test::Fail;
+
+/// What goes wrong around an engine. Checks and sends are counted from 1.
+#[derive(Clone, Copy, Debug, PartialEq, Eq)]
+pub enum Wrong {
+    Nothing,
+    /// The consumer has no memory.
+    Consumer,
+    /// The consumer drops every one-shot.
+    Drops,
+    /// The producer has no memory.
+    Producer,
+    /// So many checks, from the first of these on, say that the peer is to wait for this moment.
+    Checks { first: u64, count: u64, until: u64 },
+    /// So many sends, from the first of these on, are refused.
+    Sends { first: u64, count: u64 },
+    /// Every send is refused whose number is a multiple of seven.
+    Sevenths,
+}
+
+impl Wrong {
+    /// What the check of this number says.
+    pub fn check(self, number: u64) -> Check {
+        match self {
+            Wrong::Checks {
+                first,
+                count,
+                until,
+            } if is_in(number, first, count) => Check::Until(until as u128),
+            _ => Check::Clear,
+        }
+    }
+
+    /// Whether the send of this number is refused.
+    pub fn is_refused(self, number: u64) -> bool {
+        match self {
+            Wrong::Sends { first, count } => is_in(number, first, count),
+            Wrong::Sevenths => number % 7 == 0,
+            _ => false,
+        }
+    }
+}
+
+/// Whether a number is one of so many from the first one on.
+fn is_in(number: u64, first: u64, count: u64) -> bool {
+    number >= first && number - first < count
+}
+
+/// Bytes as `x` and two digits for each.
+#[derive(Clone, Copy)]
+pub struct Hex<'a>(pub &'a [u8]);
+
+impl fmt::Display for Hex<'_> {
+    fn fmt<W: Write>(&self, f: &mut Formatter<W>) -> fmt::Result {
+        write!(f, "x")?;
+        for byte in self.0 {
+            write!(f, "{byte:02x}")?;
+        }
+        Ok(())
+    }
+}
+
+/// What the fakes are asked.
+#[derive(Drop)]
+pub enum Seen {
+    Drew(u128),
+    Checked(Peer),
+    /// A check that was answered by a moment.
+    Limited(Peer),
+    Sent(Peer, Bytes),
+    /// A send that was refused.
+    Refused(Peer, Bytes),
+    Delivered(Delivery<Key, u16>, Bytes),
+    Produced(Key),
+    Blocked(Peer),
+}
+
+/// A line for each.
+impl fmt::Display for Seen {
+    fn fmt<W: Write>(&self, f: &mut Formatter<W>) -> fmt::Result {
+        match self {
+            Seen::Drew(below) => write!(f, "draw {below}"),
+            Seen::Checked(peer) => write!(f, "check {}", peer.0),
+            Seen::Limited(peer) => write!(f, "limit {}", peer.0),
+            Seen::Sent(peer, bytes) => write!(f, "send {} {}", peer.0, Hex(bytes.as_slice())),
+            Seen::Refused(peer, bytes) => {
+                write!(f, "refuse {} {}", peer.0, Hex(bytes.as_slice()))
+            },
+            Seen::Delivered(delivery, value) => write_delivery(f, delivery, value),
+            Seen::Produced(key) => write!(f, "produce {}", key.0),
+            Seen::Blocked(peer) => write!(f, "block {}", peer.0),
+        }
+    }
+}
+
+fn write_delivery<W: Write>(
+    f: &mut Formatter<W>,
+    delivery: &Delivery<Key, u16>,
+    value: &Bytes,
+) -> fmt::Result {
+    write!(f, "deliver {} to", delivery.key.0)?;
+    for (subscriber, _) in delivery.subscribers.iter() {
+        write!(f, " {subscriber}")?;
+    }
+    write!(f, " {}", Hex(value.as_slice()))
+}
+
+/// Where a test is told of it.
+pub type Told = mpsc::UnboundedSender<Seen>;
+
+/// Writes what some fakes were asked since the last time.
+pub fn spell(text: &mut String, told: &mut mpsc::UnboundedReceiver<Seen>) -> Result<(), Fail> {
+    for _ in 0..100_000_u64 {
+        let Ok(seen) = told.try_recv() else {
+            return Ok(());
+        };
+        writeln!(text, "{seen}")?;
+    }
+    Ok(())
+}

@@ -1,0 +1,5 @@
+//! Tests of loops in threads of their own.
+#![tactic(auto)]
+
+#[cfg(test)]
+mod running;
