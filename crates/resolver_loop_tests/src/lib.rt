@@ -6,4 +6,6 @@ mod closing;
 #[cfg(test)]
 mod every;
 #[cfg(test)]
+mod leaving;
+#[cfg(test)]
 mod source;
