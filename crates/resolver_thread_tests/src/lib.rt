@@ -2,4 +2,6 @@
 #![tactic(auto)]
 
 #[cfg(test)]
+mod gate;
+#[cfg(test)]
 mod running;

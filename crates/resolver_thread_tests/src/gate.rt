@@ -1,0 +1,380 @@
+//! A serve that is held back, while a key is fetched.
+
+ghost use Rattle.std.specs.Prelude.{◌≡◌, IfErr};
+ghost use Rattle.resolver_base.specs.declared.base.fault.Fault.TheVariants.{OutOfMemory};
+
+use bytes::Bytes;
+use futures::channel::{mpsc, oneshot};
+use futures::spin::lock;
+use resolver::base::{Check, Fault, Sender, Unreliable};
+use resolver::mailbox::Unrecorded;
+use resolver::p2p::mocks::{Consumer, Key};
+use resolver::p2p::{Config, Engine, Mailbox, Producer};
+use resolver::{Handle, Resolver};
+use resolver_fakes::acts::wanted;
+use resolver_fakes::lent::{Dice, Given, Wire};
+use resolver_fakes::names::{Below, Peer};
+use resolver_fakes::seen::{Hex, Seen, Told, Wrong, spell};
+use resolver_fakes::watch::{Standing, Watch};
+use resolver_fakes::world::{make_sources, peers};
+use std::alloc::{AllocGlobal, Global};
+use std::fmt::Write;
+use std::num::NonZeroUsize;
+use std::random::RandomSource;
+use std::sync::{Arc, Mutex, Wait};
+use std::test::Fail;
+use std::thread;
+use std::thread::Threads;
+use std::time::{Clock, Duration};
+
+/// Holds back what a producer has.
+trait Gate {
+    /// What is held back goes its way, and so does all that comes later.
+    fn open(&self);
+
+    fn is_open(&self) -> bool;
+}
+
+/// What stands behind a gate.
+#[derive(Drop)]
+struct Behind {
+    is_open: bool,
+    serve: Option<oneshot::Sender<Bytes>>,
+}
+
+/// A gate that a test shares with its producer.
+#[derive(Drop)]
+struct Door {
+    behind: Mutex<Behind>,
+}
+
+/// Sends the bytes of a serve.
+fn send(serve: Option<oneshot::Sender<Bytes>>) {
+    if let Some(serve) = serve {
+        let _ = serve.send(Bytes::from_static(b"ok"));
+    }
+}
+
+impl Door {
+    /// A gate that is closed.
+    fn new() -> Door {
+        Door {
+            behind: Mutex::new(Behind {
+                is_open: false,
+                serve: None,
+            }),
+        }
+    }
+
+    /// Holds a serve back, and gives the one that needn't wait.
+    fn hold(&self, serve: oneshot::Sender<Bytes>) -> Option<oneshot::Sender<Bytes>> {
+        let Some(mut guard) = lock(&self.behind) else {
+            return Some(serve);
+        };
+        let behind = &mut *guard;
+        if behind.is_open {
+            return Some(serve);
+        }
+        behind.serve.replace(serve)
+    }
+
+    /// Opens the gate, and gives the serve that was held back.
+    fn release(&self) -> Option<oneshot::Sender<Bytes>> {
+        let mut guard = lock(&self.behind)?;
+        let behind = &mut *guard;
+        behind.is_open = true;
+        behind.serve.take()
+    }
+}
+
+impl Gate for Door {
+    fn open(&self) {
+        send(self.release());
+    }
+
+    fn is_open(&self) -> bool {
+        match lock(&self.behind) {
+            Some(behind) => behind.is_open,
+            None => false,
+        }
+    }
+}
+
+/// A producer behind a gate.
+#[derive(Drop)]
+struct Gated {
+    alloc: Global,
+    told: Told,
+    door: Arc<Door>,
+}
+
+impl Producer for Gated {
+    type Key = Key;
+
+    fn produce(&mut self, key: Key) -> Result<oneshot::Receiver<Bytes>, Fault>
+        ensures only { IfErr result (λ fault. fault ≡ OutOfMemory) }
+    {
+        let (serve, receiver) = oneshot::channel(self.alloc)?;
+        send(self.door.hold(serve));
+        let _ = self.told.unbounded_send(Seen::Produced(key));
+        Ok(receiver)
+    }
+}
+
+/// A network that answers a request at once.
+#[derive(Drop)]
+struct Network {
+    wire: Wire,
+    answers: mpsc::UnboundedSender<(Peer, Bytes)>,
+}
+
+impl Sender for Network {
+    type PublicKey = Peer;
+
+    fn check(&mut self, peer: &Peer) -> Check {
+        self.wire.check(peer)
+    }
+
+    fn send(&mut self, peer: &Peer, message: Bytes, priority: bool) -> Unreliable {
+        let is_request = message.as_slice() == REQUEST;
+        let sent = self.wire.send(peer, message, priority);
+        if is_request {
+            let response = Bytes::from_static(RESPONSE);
+            let _ = self.answers.unbounded_send((*peer, response));
+        }
+        sent
+    }
+}
+
+/// The request for key 1 under the id 0, and its response.
+const REQUEST: &[u8] = b"\0\0\0\0\0\0\0\0\0\x01";
+
+const RESPONSE: &[u8] = b"\0\0\0\0\0\0\0\0\x01\x02hi";
+
+/// An engine whose producer is behind a gate.
+type Made<R> = Engine<
+    Peer,
+    Given<(u64, Vec<Peer>)>,
+    Given<Vec<Peer>>,
+    Key,
+    u16,
+    Consumer<Key, Bytes, u16>,
+    Gated,
+    Below,
+    R,
+>;
+
+/// A handle of its mailbox.
+type Asked<R> = Mailbox<Key, Peer, u16, Below, Unrecorded, R>;
+
+/// What an engine's effects go to.
+type Hands = (Consumer<Key, Bytes, u16>, Gated);
+
+/// What a test holds of it.
+#[derive(Drop)]
+struct Ends {
+    sets: mpsc::UnboundedSender<(u64, Vec<Peer>)>,
+    network: mpsc::UnboundedSender<(Peer, Bytes)>,
+    taken: mpsc::UnboundedReceiver<(Key, Bytes)>,
+    told: mpsc::UnboundedReceiver<Seen>,
+    door: Arc<Door>,
+}
+
+/// What the engine is lent.
+#[derive(Drop)]
+struct Lent {
+    peers: (Given<(u64, Vec<Peer>)>, Given<Vec<Peer>>),
+    hands: Hands,
+    network: (Network, Given<(Peer, Bytes)>),
+    clock: Standing,
+    draws: Dice,
+}
+
+fn make_hands(
+    alloc: Global,
+    told: &Told,
+) -> Result<(mpsc::UnboundedReceiver<(Key, Bytes)>, Arc<Door>, Hands), Fault> {
+    let told = told.clone()?;
+    let door = Arc::new(alloc, Door::new())?;
+    let producer = Gated {
+        alloc,
+        told,
+        door: Arc::try_clone(&door)?,
+    };
+    let (consumer, taken) = Consumer::new(alloc)?;
+    Ok((taken, door, (consumer, producer)))
+}
+
+fn make_network(
+    alloc: Global,
+    told: &Told,
+) -> Result<
+    (
+        mpsc::UnboundedSender<(Peer, Bytes)>,
+        (Network, Given<(Peer, Bytes)>),
+    ),
+    Fault,
+> {
+    let (network, given) = mpsc::unbounded(alloc)?;
+    let sender = Network {
+        wire: Wire::new(told.clone()?, Wrong::Nothing),
+        answers: network.clone()?,
+    };
+    let told = told.clone()?;
+    Ok((network, (sender, Given { told, given })))
+}
+
+/// A clock that stands at 0.
+fn make_clock(alloc: Global) -> Result<Standing, Fault> {
+    let watch = Arc::new(alloc, Watch::new())?;
+    Ok(Standing { watch })
+}
+
+fn lend(alloc: Global) -> Result<(Ends, Lent), Fault> {
+    let (told, seen) = mpsc::unbounded(alloc)?;
+    let sources = make_sources(alloc, &told)?;
+    let (taken, door, hands) = make_hands(alloc, &told)?;
+    let (network, lent) = make_network(alloc, &told)?;
+    let ends = Ends {
+        sets: sources.sets,
+        network,
+        taken,
+        told: seen,
+        door,
+    };
+    let lent = Lent {
+        peers: (sources.provider, sources.blocker),
+        hands,
+        network: lent,
+        clock: make_clock(alloc)?,
+        draws: Dice { told, seeded: None },
+    };
+    Ok((ends, lent))
+}
+
+fn made<R: Copy>(
+    rt: R,
+    alloc: Global,
+    peers: (Given<(u64, Vec<Peer>)>, Given<Vec<Peer>>),
+    hands: Hands,
+) -> Result<(Made<R>, Asked<R>), Fault> {
+    let cfg = Config {
+        peer_provider: peers.0,
+        blocker: peers.1,
+        consumer: hands.0,
+        producer: hands.1,
+        mailbox_size: NonZeroUsize::MIN,
+        me: Some(Peer(9)),
+        fetch_timeout: 50,
+        fetch_retry_delay: 10,
+        priority_requests: false,
+        priority_responses: false,
+    };
+    Engine::new(rt, alloc, cfg)
+}
+
+/// The engine in a thread.
+fn start<R>(rt: R, alloc: Global, lent: Lent) -> Result<(Asked<R>, Handle), Fault>
+where
+    R: Threads + Wait + RandomSource + AllocGlobal + Copy + Drop + Send + 'static,
+{
+    let Lent {
+        peers,
+        hands,
+        network,
+        clock,
+        draws,
+    } = lent;
+    let (engine, mailbox) = made(rt, alloc, peers, hands)?;
+    Ok((mailbox, engine.start(network, clock, draws)?))
+}
+
+/// Looks at most 10,000 times, with a pause of a millisecond, whether something has come.
+fn look<R: Clock, T: Drop>(rt: &R, given: &mut mpsc::UnboundedReceiver<T>) -> Option<T> {
+    for _ in 0..10_000_u32 {
+        if let Ok(value) = given.try_recv() {
+            return Some(value);
+        }
+        thread::sleep(rt, Duration::from_millis(1));
+    }
+    None
+}
+
+/// Writes what the fakes are asked next.
+fn wait<R: Clock>(rt: &R, text: &mut String, ends: &mut Ends) -> Result<(), Fail> {
+    if let Some(seen) = look(rt, &mut ends.told) {
+        writeln!(text, "{seen}")?;
+    }
+    Ok(())
+}
+
+fn fetch<R: Wait + Copy + Send + 'static>(mailbox: &mut Asked<R>) -> Result<(), Fault> {
+    mailbox.fetch(wanted(1, 10))?;
+    Ok(())
+}
+
+/// Peer 3 asks for key 5.
+fn ask(alloc: Global, ends: &Ends) -> Result<(), Fault> {
+    let _ = ends.sets.unbounded_send((1, peers(alloc, &[3])?));
+    let request = Bytes::from_static(b"\0\0\0\0\0\0\0\x07\0\x05");
+    let _ = ends.network.unbounded_send((Peer(3), request));
+    Ok(())
+}
+
+/// Writes what the consumer took, and what the fakes were asked up to then. Says whether anything was taken.
+fn take<R: Clock>(rt: &R, text: &mut String, ends: &mut Ends) -> Result<bool, Fail> {
+    let taken = look(rt, &mut ends.taken);
+    spell(text, &mut ends.told)?;
+    let Some((key, value)) = taken else {
+        writeln!(text, "nothing is taken")?;
+        return Ok(false);
+    };
+    writeln!(text, "take {} {}", key.0, Hex(value.as_slice()))?;
+    Ok(true)
+}
+
+/// A key is fetched while a serve is held back. Only then the gate is opened, and the reply is waited for.
+fn exchange<R>(
+    rt: &R,
+    text: &mut String,
+    ends: &mut Ends,
+    mailbox: &mut Asked<R>,
+) -> Result<(), Fail>
+where
+    R: Clock + Wait + Copy + Send + 'static,
+{
+    ask(*text.allocator(), ends)?;
+    wait(rt, text, ends)?;
+    fetch(mailbox)?;
+    let is_taken = take(rt, text, ends)?;
+    writeln!(text, "open {}", ends.door.is_open())?;
+    ends.door.open();
+    if is_taken {
+        wait(rt, text, ends)?;
+    }
+    mailbox.close();
+    Ok(())
+}
+
+#[test]
+fn serve_waits_for_fetch(rt: HostRuntime) -> Result<(), Fail> {
+    let mut text = String::new(rt.alloc());
+    let (mut ends, lent) = lend(rt.alloc())?;
+    let (mut mailbox, handle) = start(rt, rt.alloc(), lent)?;
+    exchange(&rt, &mut text, &mut ends, &mut mailbox)?;
+    assert_eq!(rt; handle.join(&rt), Ok(()));
+    assert_eq!(rt;
+        text.as_str(),
+        "produce 5
+draw 4
+draw 1
+check 3
+draw 18446744073709551616
+send 3 x00000000000000000001
+take 1 x6869
+open false
+send 3 x000000000000000701026f6b
+"
+    );
+    Ok(())
+}
