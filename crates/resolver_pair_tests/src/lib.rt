@@ -11,4 +11,8 @@ mod scan;
 #[cfg(test)]
 mod script;
 #[cfg(test)]
+mod scripted;
+#[cfg(test)]
 mod twin;
+#[cfg(test)]
+mod two_engines;

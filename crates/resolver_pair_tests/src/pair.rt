@@ -16,6 +16,8 @@ use std::test::Fail;
 pub struct Pair<R> {
     pub setting: Setting,
     pub twin: Twin,
+    /// Whether the loop asked or awaited something else than its twin.
+    pub differs: bool,
     task: MockTask,
     looped: Looped<R>,
     world: World<R>,
@@ -35,6 +37,7 @@ where
     Ok(Pair {
         setting,
         twin,
+        differs: false,
         task,
         looped: into_loop(engine, lent)?,
         world,
@@ -60,6 +63,7 @@ impl<R: Wait + Copy + Drop + Send + 'static> Pair<R> {
         if self.said.as_str() == self.expected.as_str() {
             return Ok(());
         }
+        self.differs = true;
         Err(Fail::new(format_args!(
             "{:?}: {} instead of {}",
             self.setting,

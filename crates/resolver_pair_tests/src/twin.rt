@@ -123,11 +123,13 @@ impl Twin {
             retry_delay: 10,
             priority_requests: false,
         };
+        let wire = Wire::new(told.clone()?, setting.wrong);
+        let dice = setting.dice(told.clone()?);
         Ok(Twin {
             alloc,
             core: Core::new(alloc, configuration, false),
-            wire: Wire::new(told.clone()?, setting.wrong),
-            dice: setting.dice(told.clone()?),
+            wire,
+            dice,
             told,
             seen,
             now: 0,
@@ -222,6 +224,11 @@ impl Twin {
     /// Whether a delivery has no verdict.
     pub fn is_judging(&self) -> bool {
         !self.deliveries.is_empty()
+    }
+
+    /// How many keys and subscribers were handed out.
+    pub fn count_delivered(&self) -> u64 {
+        self.delivered.len() as u64
     }
 
     /// The keys and subscribers that were handed out, in their order.
