@@ -84,6 +84,32 @@ fn tracker_retain(rt: HostRuntime) -> Result<(), Fail> {
 }
 
 #[test]
+fn tracker_retain_empties_three(rt: HostRuntime) -> Result<(), Fail> {
+    let alloc = rt.alloc();
+    let mut tracker = Tracker::new(alloc);
+    for key in [3, 1, 2] {
+        insert(&mut tracker, alloc, key, &[(11, 0)])?;
+    }
+    assert_eq!(rt; tracker.retain(&Even)?.as_slice(), [1, 2, 3].as_slice());
+    assert!(rt; tracker.is_empty());
+    assert!(rt; tracker.retain(&Even)?.is_empty());
+    Ok(())
+}
+
+#[test]
+fn tracker_one_of_three_delivered(rt: HostRuntime) -> Result<(), Fail> {
+    let alloc = rt.alloc();
+    let mut tracker = Tracker::new(alloc);
+    insert(&mut tracker, alloc, 1, &[(12, 0), (10, 0), (11, 0)])?;
+    let rest = tracker.remove_delivered(&1, &list(alloc, &[(11, 0)])?)?;
+    assert_eq!(rt;
+        rest.ok_or("two are left")?.as_slice(),
+        [(10, 0), (12, 0)].as_slice()
+    );
+    Ok(())
+}
+
+#[test]
 fn tracker_all_delivered(rt: HostRuntime) -> Result<(), Fail> {
     let alloc = rt.alloc();
     let mut tracker = Tracker::new(alloc);

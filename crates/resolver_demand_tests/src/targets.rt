@@ -117,3 +117,59 @@ fn nothing_said_stays(rt: HostRuntime) -> Result<(), Fail> {
     assert_eq!(rt; all.copy()?, ());
     Ok(())
 }
+
+/// Fetches of these keys for subscriber 10, of any peers.
+fn fetches(alloc: Global, keys: &[u16]) -> Result<Told, Fail> {
+    let mut items = Vec::new(alloc);
+    for key in keys {
+        items.push(FetchKey {
+            key: *key,
+            subscribers: NonEmptyVec::new(alloc, (10, 0))?,
+            metadata: None,
+        })?;
+    }
+    Ok(Message::Fetch(items))
+}
+
+/// The keys of a message's fetches.
+fn keys_of(alloc: Global, told: &Told) -> Result<Vec<u16>, Fail> {
+    let mut keys = Vec::new(alloc);
+    if let Message::Fetch(items) = told {
+        for item in items {
+            keys.push(item.key)?;
+        }
+    }
+    Ok(keys)
+}
+
+/// The keys of a copy of so many fetches.
+fn copied(alloc: Global, keys: &[u16]) -> Result<Vec<u16>, Fail> {
+    let copy = fetches(alloc, keys)?.copy(alloc)?;
+    keys_of(alloc, &copy)
+}
+
+/// The keys that wait once an overflow that has a fetch of key 1 was handed so many fetches.
+fn waiting(alloc: Global, keys: &[u16]) -> Result<Vec<u16>, Fail> {
+    let mut pending: Waiting = Pending::new(alloc);
+    pending.handle(fetches(alloc, &[1])?)?;
+    pending.handle(fetches(alloc, keys)?)?;
+    match pending.pop() {
+        Some(told) => keys_of(alloc, &told),
+        None => Err("fetches that wait".into()),
+    }
+}
+
+#[test]
+fn messages_of_each_length(rt: HostRuntime) -> Result<(), Fail> {
+    let alloc = rt.alloc();
+    for keys in [[].as_slice(), [4].as_slice(), [4, 2, 3].as_slice()] {
+        assert_eq!(rt; copied(alloc, keys)?.as_slice(), keys);
+    }
+    assert_eq!(rt; waiting(alloc, &[])?.as_slice(), [1].as_slice());
+    assert_eq!(rt; waiting(alloc, &[4])?.as_slice(), [1, 4].as_slice());
+    assert_eq!(rt;
+        waiting(alloc, &[4, 1, 3])?.as_slice(),
+        [1, 4, 3].as_slice()
+    );
+    Ok(())
+}
