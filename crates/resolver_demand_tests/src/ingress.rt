@@ -9,20 +9,28 @@ use std::alloc::{AllocError, Global};
 use std::cell::Cell;
 use std::test::Fail;
 
-#[test]
-fn fetch_of_one_subscriber(rt: HostRuntime) -> Result<(), Fail> {
+/// The key, the first subscriber with its mark, how many there are, and whether any peer may be asked.
+type Told = (u16, (u16, u64), usize, bool);
+
+/// What a fetch of key 1 is for the subscriber 20 with the mark 7.
+fn told_of_one(alloc: Global) -> Result<Told, AllocError> {
     let fetch = Fetch {
-        key: 1u16,
-        subscriber: 20u16,
+        key: 1,
+        subscriber: 20,
         mark: 7,
     };
-    let item: FetchKey<u16, u16, Option<NonEmptyVec<u16>>> = FetchKey::from_fetch(
-        rt.alloc(),
-        fetch,
-    )?;
-    assert_eq!(rt; item.key, 1);
-    assert_eq!(rt; item.subscribers.as_slice(), [(20, 7)].as_slice());
-    assert!(rt; item.metadata.is_none());
+    let item: FetchKey<u16, u16, Option<NonEmptyVec<u16>>> = FetchKey::from_fetch(alloc, fetch)?;
+    Ok((
+        item.key,
+        *item.subscribers.first(),
+        item.subscribers.len(),
+        item.metadata.is_none(),
+    ))
+}
+
+#[test]
+fn fetch_of_one_subscriber(rt: HostRuntime) -> Result<(), Fail> {
+    assert_eq!(rt; told_of_one(rt.alloc())?, (1, (20, 7), 1, true));
     Ok(())
 }
 
@@ -56,66 +64,113 @@ fn one<K: Drop>(
     Ok(Message::Fetch(items))
 }
 
+/// How many fetches a message has, and of the first one the key, the first subscriber with its mark,
+/// and how many there are; nothing where it is a test.
+fn first_of(message: &Message<u16, u16, (), All>) -> Option<(usize, u16, (u16, u64), usize)> {
+    let Message::Fetch(items) = message else {
+        return None;
+    };
+    let item = items.first()?;
+    let subscribers = &item.subscribers;
+    Some((
+        items.len(),
+        item.key,
+        *subscribers.first(),
+        subscribers.len(),
+    ))
+}
+
+fn copied(
+    alloc: Global,
+    message: Message<u16, u16, (), All>,
+) -> Result<Message<u16, u16, (), All>, AllocError> {
+    message.copy(alloc)
+}
+
 #[test]
 fn message_is_copied(rt: HostRuntime) -> Result<(), Fail> {
     let alloc = rt.alloc();
-    let mut told = Vec::new(alloc);
-    if let Message::Fetch(items) = one(alloc, 1u16, 20)?.copy(alloc)? {
-        for item in items {
-            told.push((item.key, item.subscribers.into_vec()))?;
-        }
-    }
-    assert_eq!(rt; told.len(), 1);
-    assert_eq!(rt; told[0].0, 1);
-    assert_eq!(rt; told[0].1.as_slice(), [(20, 0)].as_slice());
-    let test: Message<u16, u16, (), All> = Message::Retain(All);
-    let is_test = match test.copy(alloc)? {
-        Message::Retain(_) => true,
-        Message::Fetch(_) => false,
-    };
+    let fetches = first_of(&copied(alloc, one(alloc, 1, 20)?)?);
+    assert_eq!(rt; fetches, Some((1, 1, (20, 0), 1)));
+    let is_test = matches!(copied(alloc, Message::Retain(All))?, Message::Retain(_));
     assert!(rt; is_test);
     Ok(())
 }
 
-/// Puts a fetch of each of 10,000 keys, one by one.
-fn put_all<'a>(
+type Waiting<'a> = Pending<Counting<'a>, u16, (), All>;
+
+/// Puts a fetch of a key.
+fn put<'a>(
     alloc: Global,
-    pending: &mut Pending<Counting<'a>, u16, (), All>,
-    looks: &'a Cell<u32>,
+    pending: &mut Waiting<'a>,
+    key: Counting<'a>,
     subscriber: u16,
 ) -> Result<(), Fault> {
+    pending.handle(one(alloc, key, subscriber)?)
+}
+
+/// Puts a fetch of each of 10,000 keys, one by one, and says how often keys are looked at.
+fn put_all<'a>(
+    alloc: Global,
+    pending: &mut Waiting<'a>,
+    looks: &'a Cell<u32>,
+    subscriber: u16,
+) -> Result<u32, Fault> {
     for name in 0..10_000u16 {
-        let key = Counting {
-            tally: Tally(looks),
-            name,
-        };
-        pending.handle(one(alloc, key, subscriber)?)?;
+        let tally = Tally(looks);
+        put(alloc, pending, Counting { tally, name }, subscriber)?;
     }
-    Ok(())
+    Ok(looks.replace(0))
+}
+
+/// Keeps every subscriber, and says how often keys are looked at.
+fn retain_all<'a>(pending: &mut Waiting<'a>, looks: &'a Cell<u32>) -> Result<u32, Fault> {
+    pending.handle(Message::Retain(All))?;
+    Ok(looks.replace(0))
+}
+
+/// Whether a test is the first that waits.
+fn pops_a_test(pending: &mut Waiting) -> bool {
+    match pending.pop() {
+        Some(Message::Retain(_)) => true,
+        _ => false,
+    }
+}
+
+/// How many fetches wait then, and how many subscribers the one at this place has.
+fn pops_fetches(pending: &mut Waiting, place: usize) -> Option<(usize, usize)> {
+    let Some(Message::Fetch(queued)) = pending.pop() else {
+        return None;
+    };
+    Some((queued.len(), queued.get(place)?.subscribers.len()))
+}
+
+/// How often keys are looked at where 10,000 are put, where they are put again, and where all are kept;
+/// whether the test waits first, how many fetches wait behind it, and how many subscribers the last has.
+fn queued(
+    alloc: Global,
+    looks: &Cell<u32>,
+) -> Result<([u32; 3], bool, Option<(usize, usize)>), Fault> {
+    let mut pending = Pending::new(alloc);
+    let counts = [
+        put_all(alloc, &mut pending, looks, 10)?,
+        put_all(alloc, &mut pending, looks, 11)?,
+        retain_all(&mut pending, looks)?,
+    ];
+    let is_test = pops_a_test(&mut pending);
+    Ok((counts, is_test, pops_fetches(&mut pending, 9_999)))
 }
 
 #[test]
 fn each_of_ten_thousand_keys_is_compared_with_few(rt: HostRuntime) -> Result<(), Fail> {
-    let alloc = rt.alloc();
-    let looks = Cell::new(0u32);
-    let mut pending = Pending::new(alloc);
-    put_all(alloc, &mut pending, &looks, 10)?;
-    assert!(rt; 0 < looks.get());
-    assert!(rt; looks.replace(0) <= 1_000_000);
-    put_all(alloc, &mut pending, &looks, 11)?;
-    assert!(rt; looks.replace(0) <= 1_000_000);
-    pending.handle(Message::Retain(All))?;
-    assert!(rt; looks.get() <= 1_000_000);
-    let is_test = match pending.pop() {
-        Some(Message::Retain(_)) => true,
-        _ => false,
-    };
+    let (counts, is_test, fetches) = queued(rt.alloc(), &Cell::new(0))?;
+    let [first, again, kept] = counts;
+    assert!(rt; 0 < first);
+    assert!(rt; first <= 1_000_000);
+    assert!(rt; again <= 1_000_000);
+    assert!(rt; kept <= 1_000_000);
     assert!(rt; is_test);
-    let Some(Message::Fetch(queued)) = pending.pop() else {
-        return Err("fetches that wait".into());
-    };
-    assert_eq!(rt; queued.len(), 10_000);
-    assert_eq!(rt; queued[9_999].subscribers.len(), 2);
+    assert_eq!(rt; fetches, Some((10_000, 2)));
     Ok(())
 }
 

@@ -1,9 +1,15 @@
+//! What is said of a fetch beside its key, and messages with it.
+//!
+//! What is compared is text, and what it is written of is made, used and dropped in one place each, so
+//! that the tests are proved without it.
+
 ghost use Rattle.std.specs.Prelude.{true};
 ghost use Rattle.std.proofs.Common.{rules};
 
 use resolver_base::base::NonEmptyVec;
 use resolver_demand::ingress::{FetchKey, Message, Metadata, Pending, Predicate};
 use std::alloc::Global;
+use std::fmt::Write;
 use std::test::Fail;
 
 type Targets = Option<NonEmptyVec<u16>>;
@@ -31,82 +37,143 @@ fn targets(alloc: Global, peers: &[u16]) -> Result<Targets, Fail> {
     Ok(NonEmptyVec::try_from(peers.to_vec(alloc)?).ok())
 }
 
-/// A fetch of key 1 for subscriber 10 of these peers.
-fn fetch(alloc: Global, peers: &[u16]) -> Result<Told, Fail> {
-    let mut items = Vec::new(alloc);
-    items.push(FetchKey {
-        key: 1,
+/// A fetch of this key for subscriber 10 of these peers.
+fn item(alloc: Global, key: u16, peers: &[u16]) -> Result<FetchKey<u16, u16, Targets>, Fail> {
+    Ok(FetchKey {
+        key,
         subscribers: NonEmptyVec::new(alloc, (10, 0))?,
         metadata: targets(alloc, peers)?,
-    })?;
+    })
+}
+
+/// A fetch of key 1 of these peers.
+fn fetch(alloc: Global, peers: &[u16]) -> Result<Told, Fail> {
+    let mut items = Vec::new(alloc);
+    items.push(item(alloc, 1, peers)?)?;
     Ok(Message::Fetch(items))
 }
 
-/// The peers of the first fetch of a message; none are named where any may be asked.
-fn peers(told: Option<Told>) -> Option<Vec<u16>> {
-    let Some(Message::Fetch(items)) = told else {
-        return None;
-    };
-    for item in items {
-        let peers = item.metadata?;
-        return Some(peers.into_vec());
+/// Fetches of these keys of any peers.
+fn fetches(alloc: Global, keys: &[u16]) -> Result<Told, Fail> {
+    let mut items = Vec::new(alloc);
+    for key in keys {
+        items.push(item(alloc, *key, &[])?)?;
     }
-    None
+    Ok(Message::Fetch(items))
 }
 
-/// Hands fetches of key 1 to an overflow, and drains it.
-fn queued(alloc: Global, fetches: &[&[u16]]) -> Result<Option<Told>, Fail> {
-    let mut pending: Waiting = Pending::new(alloc);
-    for one in fetches {
-        pending.handle(fetch(alloc, one)?)?;
+/// Writes the peers that may be asked.
+fn spell_targets(text: &mut String, targets: &Targets) -> Result<(), Fail> {
+    let Some(targets) = targets else {
+        return Ok(write!(text, " any")?);
+    };
+    for peer in targets.as_slice() {
+        write!(text, " {peer}")?;
     }
-    pending.law();
+    Ok(())
+}
+
+/// Writes fetches: each key with its peers.
+fn spell_items(text: &mut String, items: &[FetchKey<u16, u16, Targets>]) -> Result<(), Fail> {
+    for item in items {
+        write!(text, " {} of", item.key)?;
+        spell_targets(text, &item.metadata)?;
+    }
+    Ok(())
+}
+
+/// Writes a message.
+fn spell(text: &mut String, told: &Told) -> Result<(), Fail> {
+    match told {
+        Message::Fetch(items) => spell_items(text, items.as_slice()),
+        Message::Retain(_) => Ok(write!(text, " retain")?),
+    }
+}
+
+fn handle(pending: &mut Waiting, told: Told) -> Result<(), Fail> {
+    Ok(pending.handle(told)?)
+}
+
+/// Takes what waits by a drain.
+fn drained(pending: &mut Waiting) -> Option<Told> {
     let mut batch = None;
     pending.drain(|message| {
         batch = Some(message);
         None
     });
-    Ok(batch)
+    batch
+}
+
+/// Hands fetches of key 1 to an overflow.
+fn hand_all(alloc: Global, pending: &mut Waiting, fetches: &[&[u16]]) -> Result<(), Fail> {
+    for one in fetches {
+        handle(pending, fetch(alloc, one)?)?;
+    }
+    pending.law();
+    Ok(())
+}
+
+/// What a drain gives of an overflow that was handed fetches of key 1 of these peers.
+fn queued(alloc: Global, fetches: &[&[u16]]) -> Result<String, Fail> {
+    let mut text = String::new(alloc);
+    let mut pending = Pending::new(alloc);
+    hand_all(alloc, &mut pending, fetches)?;
+    if let Some(batch) = drained(&mut pending) {
+        spell(&mut text, &batch)?;
+    }
+    Ok(text)
 }
 
 #[test]
 fn overflow_targets(rt: HostRuntime) -> Result<(), Fail> {
-    let alloc = rt.alloc();
-    let joined = peers(queued(alloc, &[&[2, 3], &[3, 4]])?);
-    assert_eq!(rt;
-        joined.ok_or("targets that are named")?.as_slice(),
-        [2, 3, 4].as_slice()
-    );
-
-    let any = queued(alloc, &[&[2], &[], &[3]])?;
-    assert!(rt; any.is_some());
-    assert!(rt; peers(any).is_none());
+    let joined = queued(rt.alloc(), &[&[2, 3], &[3, 4]])?;
+    assert_eq!(rt; joined.as_str(), " 1 of 2 3 4");
+    let any = queued(rt.alloc(), &[&[2], &[], &[3]])?;
+    assert_eq!(rt; any.as_str(), " 1 of any");
     Ok(())
+}
+
+/// The copy of these targets.
+fn copied_targets(alloc: Global, peers: &[u16]) -> Result<String, Fail> {
+    let mut text = String::new(alloc);
+    let copy = targets(alloc, peers)?.copy()?;
+    spell_targets(&mut text, &copy)?;
+    Ok(text)
+}
+
+/// The copy of a message.
+fn copied(alloc: Global, told: Told) -> Result<String, Fail> {
+    let mut text = String::new(alloc);
+    let copy = told.copy(alloc)?;
+    spell(&mut text, &copy)?;
+    Ok(text)
 }
 
 #[test]
 fn targets_are_copied(rt: HostRuntime) -> Result<(), Fail> {
     let alloc = rt.alloc();
-    let copy = targets(alloc, &[2, 3])?.copy()?;
-    let copy = copy.ok_or("targets that are named")?;
-    assert_eq!(rt; copy.as_slice(), [2, 3].as_slice());
-    assert!(rt; targets(alloc, &[])?.copy()?.is_none());
-
-    let copy = peers(Some(fetch(alloc, &[2, 3])?.copy(alloc)?));
+    assert_eq!(rt; copied_targets(alloc, &[2, 3])?.as_str(), " 2 3");
+    assert_eq!(rt; copied_targets(alloc, &[])?.as_str(), " any");
     assert_eq!(rt;
-        copy.ok_or("targets that are named")?.as_slice(),
-        [2, 3].as_slice()
+        copied(alloc, fetch(alloc, &[2, 3])?)?.as_str(),
+        " 1 of 2 3"
     );
     Ok(())
 }
 
+/// What an earlier and a later fetch say together.
+fn merged(alloc: Global, earlier: &[u16], later: &[u16]) -> Result<String, Fail> {
+    let mut text = String::new(alloc);
+    let mut all = targets(alloc, earlier)?;
+    all.merge(alloc, targets(alloc, later)?)?;
+    spell_targets(&mut text, &all)?;
+    Ok(text)
+}
+
 #[test]
 fn many_targets_are_joined(rt: HostRuntime) -> Result<(), Fail> {
-    let alloc = rt.alloc();
-    let mut all = targets(alloc, &[5])?;
-    all.merge(alloc, targets(alloc, &[9, 8, 7, 6, 5, 4, 3, 4, 5, 6])?)?;
-    let all = all.ok_or("targets that are named")?;
-    assert_eq!(rt; all.as_slice(), [5, 9, 8, 7, 6, 4, 3].as_slice());
+    let all = merged(rt.alloc(), &[5], &[9, 8, 7, 6, 5, 4, 3, 4, 5, 6])?;
+    assert_eq!(rt; all.as_str(), " 5 9 8 7 6 4 3");
     Ok(())
 }
 
@@ -118,58 +185,40 @@ fn nothing_said_stays(rt: HostRuntime) -> Result<(), Fail> {
     Ok(())
 }
 
-/// Fetches of these keys for subscriber 10, of any peers.
-fn fetches(alloc: Global, keys: &[u16]) -> Result<Told, Fail> {
-    let mut items = Vec::new(alloc);
-    for key in keys {
-        items.push(FetchKey {
-            key: *key,
-            subscribers: NonEmptyVec::new(alloc, (10, 0))?,
-            metadata: None,
-        })?;
+/// What waits once an overflow that has a fetch of key 1 was handed a message.
+fn waiting(alloc: Global, told: Told) -> Result<String, Fail> {
+    let mut text = String::new(alloc);
+    let mut pending = Pending::new(alloc);
+    hand_all(alloc, &mut pending, &[&[]])?;
+    handle(&mut pending, told)?;
+    if let Some(batch) = drained(&mut pending) {
+        spell(&mut text, &batch)?;
     }
-    Ok(Message::Fetch(items))
+    Ok(text)
 }
 
-/// The keys of a message's fetches.
-fn keys_of(alloc: Global, told: &Told) -> Result<Vec<u16>, Fail> {
-    let mut keys = Vec::new(alloc);
-    if let Message::Fetch(items) = told {
-        for item in items {
-            keys.push(item.key)?;
-        }
+#[test]
+fn copies_of_each_length(rt: HostRuntime) -> Result<(), Fail> {
+    let alloc = rt.alloc();
+    for (keys, seen) in [
+        ([].as_slice(), ""),
+        ([4].as_slice(), " 4 of any"),
+        ([4, 1, 3].as_slice(), " 4 of any 1 of any 3 of any"),
+    ] {
+        assert_eq!(rt; copied(alloc, fetches(alloc, keys)?)?.as_str(), seen);
     }
-    Ok(keys)
-}
-
-/// The keys of a copy of so many fetches.
-fn copied(alloc: Global, keys: &[u16]) -> Result<Vec<u16>, Fail> {
-    let copy = fetches(alloc, keys)?.copy(alloc)?;
-    keys_of(alloc, &copy)
-}
-
-/// The keys that wait once an overflow that has a fetch of key 1 was handed so many fetches.
-fn waiting(alloc: Global, keys: &[u16]) -> Result<Vec<u16>, Fail> {
-    let mut pending: Waiting = Pending::new(alloc);
-    pending.handle(fetches(alloc, &[1])?)?;
-    pending.handle(fetches(alloc, keys)?)?;
-    match pending.pop() {
-        Some(told) => keys_of(alloc, &told),
-        None => Err("fetches that wait".into()),
-    }
+    Ok(())
 }
 
 #[test]
 fn messages_of_each_length(rt: HostRuntime) -> Result<(), Fail> {
     let alloc = rt.alloc();
-    for keys in [[].as_slice(), [4].as_slice(), [4, 2, 3].as_slice()] {
-        assert_eq!(rt; copied(alloc, keys)?.as_slice(), keys);
+    for (keys, seen) in [
+        ([].as_slice(), " 1 of any"),
+        ([4].as_slice(), " 1 of any 4 of any"),
+        ([4, 1, 3].as_slice(), " 1 of any 4 of any 3 of any"),
+    ] {
+        assert_eq!(rt; waiting(alloc, fetches(alloc, keys)?)?.as_str(), seen);
     }
-    assert_eq!(rt; waiting(alloc, &[])?.as_slice(), [1].as_slice());
-    assert_eq!(rt; waiting(alloc, &[4])?.as_slice(), [1, 4].as_slice());
-    assert_eq!(rt;
-        waiting(alloc, &[4, 1, 3])?.as_slice(),
-        [1, 4, 3].as_slice()
-    );
     Ok(())
 }
