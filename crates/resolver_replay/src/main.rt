@@ -11,10 +11,9 @@ use log::sink::Console;
 use log::{LevelFilter, Log, Logged};
 use resolver_script::endings::{Ending, Fault};
 use resolver_script::replay;
-use std::env;
-use std::io;
 use std::io::{BufReader, BufWriter};
 use std::process::ExitCode;
+use std::{env, io};
 
 fn main(rt: HostRuntime) -> ExitCode {
     match run(&rt, &Logged::new(rt, level(&rt), Console(rt))) {

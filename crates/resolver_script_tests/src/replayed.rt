@@ -361,10 +361,12 @@ fn lines_that_are_traced(rt: HostRuntime) -> Result<(), Fail> {
     assert_eq!(rt; ended, Ok(Ending::End));
     let lines = traces.into_lines().into_vec();
     let said = lines.iter().map(|line| line.as_str());
-    assert!(rt; said.eq([
-        "[TRACE resolver_script::replay] line 1",
-        "[TRACE resolver_script::replay] line 2",
-        "[TRACE resolver_script::replay] line 4",
-    ]));
+    assert!(rt;
+        said.eq([
+            "[TRACE resolver_script::replay] line 1",
+            "[TRACE resolver_script::replay] line 2",
+            "[TRACE resolver_script::replay] line 4",
+        ])
+    );
     Ok(())
 }
