@@ -697,10 +697,16 @@ resolves_seconds_sum 340282366920938463463374607431.768211455
 resolves_seconds_count 15
 ";
 
+/// What is counted, as text.
+fn spelled(alloc: Global, metrics: &Metrics) -> Result<String, Fail> {
+    let mut text = String::new(alloc);
+    write!(text, "{metrics}")?;
+    Ok(text)
+}
+
 #[test]
 fn a_scraper_gets_a_line_for_each_number(rt: HostRuntime) -> Result<(), Fail> {
-    let mut text = String::new(rt.alloc());
-    write!(text, "{COUNTED}")?;
+    let text = spelled(rt.alloc(), &COUNTED)?;
     assert_eq!(rt; text.as_str(), SCRAPED);
     Ok(())
 }

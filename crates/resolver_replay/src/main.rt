@@ -11,6 +11,7 @@ use log::sink::Console;
 use log::{LevelFilter, Log, Logged};
 use resolver_script::endings::{Ending, Fault};
 use resolver_script::replay;
+use std::env::Env;
 use std::io::{BufReader, BufWriter};
 use std::process::ExitCode;
 use std::{env, io};
