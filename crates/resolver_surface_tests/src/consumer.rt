@@ -76,7 +76,9 @@ fn a_dummy_judges_too(rt: HostRuntime) -> Result<(), Fail> {
     let task = MockTask::new(&rt)?;
     let mut consumer = mocks::Consumer::dummy(alloc)?;
     consumer.add_expected(Letter(1), 7)?;
+    consumer.add_expected(Letter(2), 8)?;
     assert_eq!(rt; outcome_of(alloc, &task, &mut consumer, 1, 7)?, RIGHT);
     assert_eq!(rt; outcome_of(alloc, &task, &mut consumer, 1, 8)?, WRONG);
+    assert_eq!(rt; outcome_of(alloc, &task, &mut consumer, 2, 8)?, RIGHT);
     Ok(())
 }
