@@ -22,44 +22,77 @@ type Handle<N, R> = Mailbox<Key, Peer, u16, All, N, R>;
 type Mail<N, R> = Receiver<Key, u16, Targets, All, N, R>;
 
 /// What the calls of `ask_each` put, each call one message.
-const PUT: &str =
-    " 1=10:7\n 2=20:7 3=30:7\n\n 4=40:7 from 8\n 5=50:7 from 8 6=60:7 from 9\n retain\n";
+const PUT: &str = " 1=10:7\n\n 2=20:7\n 3=30:7 4=40:7 5=50:7\n 6=60:7 from 106\n\n 7=70:7 from \
+    107\n 8=80:7 from 108 9=90:7 from 109 10=100:7 from 110\n retain\n";
 
-fn fetch(key: u8, subscriber: u16) -> Fetch<Key, u16> {
+/// A fetch of a key for the subscriber of ten times its number.
+fn fetch(key: u8) -> Fetch<Key, u16> {
     Fetch {
         key: Key(key),
-        subscriber,
+        subscriber: u16::from(key).wrapping_mul(10),
         mark: 7,
     }
 }
 
-fn fetch_from(
-    alloc: Global,
-    key: u8,
-    subscriber: u16,
-    peer: u8,
-) -> Result<(Fetch<Key, u16>, NonEmptyVec<Peer>), Fail> {
-    Ok((fetch(key, subscriber), NonEmptyVec::new(alloc, Peer(peer))?))
+/// The same from one peer, whose number is the key's and a hundred.
+fn fetch_from(alloc: Global, key: u8) -> Result<(Fetch<Key, u16>, NonEmptyVec<Peer>), Fail> {
+    let peer = Peer(key.wrapping_add(100));
+    Ok((fetch(key), NonEmptyVec::new(alloc, peer)?))
 }
 
-/// Makes each call of the two traits once, and writes what it answers.
+fn fetches(alloc: Global, keys: &[u8]) -> Result<Vec<Fetch<Key, u16>>, Fail> {
+    let mut fetches = Vec::new(alloc);
+    for key in keys {
+        fetches.push(fetch(*key))?;
+    }
+    Ok(fetches)
+}
+
+fn fetches_from(
+    alloc: Global,
+    keys: &[u8],
+) -> Result<Vec<(Fetch<Key, u16>, NonEmptyVec<Peer>)>, Fail> {
+    let mut fetches = Vec::new(alloc);
+    for key in keys {
+        fetches.push(fetch_from(alloc, *key)?)?;
+    }
+    Ok(fetches)
+}
+
+/// Asks for none, for one and for three keys, and writes what each call answers.
+fn ask_lists<H>(text: &mut String, handle: &mut H) -> Result<(), Fail>
+where
+    H: Resolver<Key = Key, Subscriber = u16, Predicate = All>,
+{
+    for keys in [[].as_slice(), [2].as_slice(), [3, 4, 5].as_slice()] {
+        let fetches = fetches(*text.allocator(), keys)?;
+        write!(text, " {:?}", handle.fetch_all(fetches)?)?;
+    }
+    Ok(())
+}
+
+/// The same with targets.
+fn ask_targeted_lists<H>(text: &mut String, handle: &mut H) -> Result<(), Fail>
+where
+    H: TargetedResolver<PublicKey = Peer> + Resolver<Key = Key, Subscriber = u16, Predicate = All>,
+{
+    for keys in [[].as_slice(), [7].as_slice(), [8, 9, 10].as_slice()] {
+        let fetches = fetches_from(*text.allocator(), keys)?;
+        write!(text, " {:?}", handle.fetch_all_targeted(fetches)?)?;
+    }
+    Ok(())
+}
+
+/// Makes each call of the two traits, and writes what it answers.
 fn ask_each<H>(text: &mut String, handle: &mut H) -> Result<(), Fail>
 where
     H: TargetedResolver<PublicKey = Peer> + Resolver<Key = Key, Subscriber = u16, Predicate = All>,
 {
-    let alloc = *text.allocator();
-    write!(text, "{:?}", handle.fetch(fetch(1, 10))?)?;
-    let mut fetches = Vec::new(alloc);
-    fetches.push(fetch(2, 20))?;
-    fetches.push(fetch(3, 30))?;
-    write!(text, " {:?}", handle.fetch_all(fetches)?)?;
-    write!(text, " {:?}", handle.fetch_all(Vec::new(alloc))?)?;
-    let (one, targets) = fetch_from(alloc, 4, 40, 8)?;
+    write!(text, "{:?}", handle.fetch(fetch(1))?)?;
+    ask_lists(text, handle)?;
+    let (one, targets) = fetch_from(*text.allocator(), 6)?;
     write!(text, " {:?}", handle.fetch_targeted(one, targets)?)?;
-    let mut fetches = Vec::new(alloc);
-    fetches.push(fetch_from(alloc, 5, 50, 8)?)?;
-    fetches.push(fetch_from(alloc, 6, 60, 9)?)?;
-    write!(text, " {:?}", handle.fetch_all_targeted(fetches)?)?;
+    ask_targeted_lists(text, handle)?;
     writeln!(text, " {:?}", handle.retain(All)?)?;
     Ok(())
 }
@@ -130,7 +163,7 @@ where
     requires takes { pages.takes.name ≡ N.takes }
 {
     let alloc = *text.allocator();
-    let (sender, _receiver) = recorded::<Key, u16, Targets, All, N, R>(rt, alloc, pages, 8)?;
+    let (sender, _receiver) = recorded::<Key, u16, Targets, All, N, R>(rt, alloc, pages, 9)?;
     let mut handle: Handle<N, R> = Mailbox::over(alloc, sender);
     ask_each(text, &mut handle)?;
     spell_share(text, &handle)?;
@@ -147,10 +180,13 @@ fn what_is_asked_stands_in_the_share(rt: HostRuntime) -> Result<(), Fail> {
     let mut text = String::new(alloc);
     recorded_asked::<Brand, _>(&mut text, rt, Pages::new())?;
     let mut wanted = String::new(alloc);
-    write!(wanted, "Ok Ok Ok Ok Ok Ok\nshare 0 false\n{PUT}none\n")?;
     write!(
         wanted,
-        "Closed Closed Closed Closed Closed Closed\nshare 0 true\n{PUT}"
+        "Ok Ok Ok Ok Ok Ok Ok Ok Ok\nshare 0 false\n{PUT}none\n"
+    )?;
+    write!(
+        wanted,
+        "Closed Closed Closed Closed Closed Closed Closed Closed Closed\nshare 0 true\n{PUT}"
     )?;
     assert_eq!(rt; text.as_str(), wanted.as_str());
     Ok(())
@@ -163,7 +199,7 @@ fn unrecorded_asked<R: Wait + Copy + Drop + Send + 'static>(
     task: &MockTask,
 ) -> Result<(), Fail> {
     let alloc = *text.allocator();
-    let (sender, mut receiver) = new::<Key, u16, Targets, All, R>(rt, alloc, 8)?;
+    let (sender, mut receiver) = new::<Key, u16, Targets, All, R>(rt, alloc, 9)?;
     let mut handle: Handle<_, R> = Mailbox::over(alloc, sender);
     ask_each(text, &mut handle)?;
     spell_share(text, &handle)?;
@@ -179,7 +215,10 @@ fn what_is_asked_is_taken(rt: HostRuntime) -> Result<(), Fail> {
     let mut text = String::new(alloc);
     unrecorded_asked(&mut text, rt, &task)?;
     let mut wanted = String::new(alloc);
-    write!(wanted, "Ok Ok Ok Ok Ok Ok\nnone\n{PUT}pending\nend\n")?;
+    write!(
+        wanted,
+        "Ok Ok Ok Ok Ok Ok Ok Ok Ok\nnone\n{PUT}pending\nend\n"
+    )?;
     assert_eq!(rt; text.as_str(), wanted.as_str());
     Ok(())
 }
