@@ -491,6 +491,70 @@ fn the_last_attempt_is_given_once(rt: HostRuntime) -> Result<(), Fail> {
     assert_seen(&rt, alloc, &table, play(alloc, actor, &table)?)
 }
 
+/// A fetch of these keys, each for the subscriber 10.
+fn fetch_of(alloc: Global, keys: &[u8]) -> Result<PlainEvent, Fault> {
+    let mut items = Vec::new(alloc);
+    for key in keys {
+        items.push(FetchKey {
+            key: *key,
+            subscribers: NonEmptyVec::new(alloc, (10, 7))?,
+            metadata: (),
+        })?;
+    }
+    Ok(Event::Fetch(items))
+}
+
+/// What is seen of a new actor where these keys are fetched at once.
+fn fetched_at_once(alloc: Global, keys: &[u8]) -> Result<Vec<Seen>, Fault> {
+    let mut actor: Plain = Actor::new(alloc, 100);
+    let mut seen = Vec::new(alloc);
+    note_answer(actor.step(at(0, fetch_of(alloc, keys)?)), &mut seen)?;
+    look(&actor, &mut seen)?;
+    Ok(seen)
+}
+
+/// A key that is asked for, under this attempt.
+fn asked(key: u8, attempt: u64) -> Seen {
+    Seen::Row(key, (10, 7), Phase::Asked { attempt })
+}
+
+#[test]
+fn fetches_of_each_length(rt: HostRuntime) -> Result<(), Fail> {
+    let none = [Seen::Taken, Seen::Due(None)];
+    let one = [Seen::Taken, Seen::Start(0, 1), asked(1, 0), Seen::Due(None)];
+    let three = [
+        Seen::Taken,
+        Seen::Start(0, 3),
+        Seen::Start(1, 1),
+        Seen::Start(2, 2),
+        asked(1, 1),
+        asked(2, 2),
+        asked(3, 0),
+        Seen::Due(None),
+    ];
+    for (keys, seen) in [
+        ([].as_slice(), none.as_slice()),
+        ([1].as_slice(), one.as_slice()),
+        ([3, 1, 2].as_slice(), three.as_slice()),
+    ] {
+        let given = fetched_at_once(rt.alloc(), keys)?;
+        assert_eq!(rt; given.as_slice(), seen, "of {keys:?}");
+    }
+    Ok(())
+}
+
+#[test]
+fn runs_of_no_input_and_of_one(rt: HostRuntime) -> Result<(), Fail> {
+    let none: [Step; 1] = [(0, Do::Look, &[Seen::Due(None)])];
+    run_shows(&rt, rt.alloc(), &none)?;
+    let row = Seen::Row(1, (10, 7), Phase::Asked { attempt: 0 });
+    let one: [Step; 2] = [
+        (0, Do::Fetch(1, (10, 7)), &[Seen::Start(0, 1)]),
+        (0, Do::Look, &[row, Seen::Due(None)]),
+    ];
+    run_shows(&rt, rt.alloc(), &one)
+}
+
 /// Keeps every subscriber.
 #[derive(Drop)]
 struct Everyone;
