@@ -9,3 +9,5 @@ mod actor;
 mod laws;
 #[cfg(test)]
 mod mocks;
+#[cfg(test)]
+mod subscribers;
