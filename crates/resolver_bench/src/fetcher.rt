@@ -3,10 +3,6 @@
 //! Each call of the fetcher stands in a function by itself, which is not inlined, so that its instructions can
 //! be counted by its name.
 
-ghost use Rattle.std.specs.Prelude.{◌≡◌, ◌<◌, ◌^◌, false, is_some};
-ghost use Rattle.resolver_base.specs.Priorities.{has_item};
-ghost use Rattle.resolver_request.specs.Requests.{is_asked};
-
 use crate::fault::Fault;
 use crate::workload::scattered;
 use resolver::base::{Check, NonEmptyVec};
@@ -55,21 +51,12 @@ pub fn block(fetcher: &mut Node, peers: Vec<u16>) -> Result<(), Fault> {
     Ok(fetcher.set_blocked(peers)?)
 }
 
-/// Has a key wait that is in no phase.
+/// Has a key wait that is in no phase. That it is in none takes two look-ups.
+#[inline(never)]
 pub fn wait(fetcher: &mut Node, key: u64) -> Result<(), Fault> {
     if fetcher.is_scanning() || fetcher.is_waiting(&key) || fetcher.is_asked(&key) {
         return Err(Fault::Refused);
     }
-    put(fetcher, key)
-}
-
-/// Has a key wait.
-#[inline(never)]
-fn put(fetcher: &mut Node, key: u64) -> Result<(), Fault>
-    requires closed { is_some fetcher.old.scan ≡ false }
-    requires not_waiting { has_item u64.Ord.cmp fetcher.old.waiting key ≡ false }
-    requires not_asked { is_asked u64.Ord.cmp fetcher.old.asked key ≡ false }
-{
     Ok(fetcher.add_ready(key, 0)?)
 }
 
