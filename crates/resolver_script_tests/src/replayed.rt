@@ -359,14 +359,17 @@ fn lines_that_are_traced(rt: HostRuntime) -> Result<(), Fail> {
     let mut input = BufReader::new(rt.alloc(), TWO_FETCHES)?;
     let ended = run(&traces, rt.alloc(), &mut input, &mut output);
     assert_eq!(rt; ended, Ok(Ending::End));
-    let lines = traces.into_lines().into_vec();
-    let said = lines.iter().map(|line| line.as_str());
-    assert!(rt;
-        said.eq([
-            "[TRACE resolver_script::replay] line 1",
-            "[TRACE resolver_script::replay] line 2",
-            "[TRACE resolver_script::replay] line 4",
-        ])
+    let mut said = String::new(rt.alloc());
+    for line in traces.into_lines().as_slice() {
+        said.push_str(line.as_str())?;
+        said.push('\n')?;
+    }
+    assert_eq!(rt;
+        said.as_str(),
+        "[TRACE resolver_script::replay] line 1
+[TRACE resolver_script::replay] line 2
+[TRACE resolver_script::replay] line 4
+"
     );
     Ok(())
 }
