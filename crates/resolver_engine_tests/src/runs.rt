@@ -175,10 +175,21 @@ fn look(engine: &Plain, seen: &mut Vec<Seen>) -> Result<(), Fault> {
     Ok(())
 }
 
-/// What an engine that is called 9, with a timeout of 50 and a delay of 10, shows of these in one
-/// run, and of its rows after it.
-fn run_all(alloc: Global, given: &[Given]) -> Result<Vec<Seen>, Fault> {
-    let mut seen = Vec::new(alloc);
+/// What an engine shows of these in one run, and of its rows after it.
+fn run_on(
+    engine: &mut Plain,
+    alloc: Global,
+    given: &[Given],
+    seen: &mut Vec<Seen>,
+) -> Result<(), Fault> {
+    for answer in engine.run(inputs_of(alloc, given)?)?.as_slice() {
+        note_answer(answer, seen)?;
+    }
+    look(engine, seen)
+}
+
+/// The same of a new engine, that is called 9, with a timeout of 50 and a delay of 10.
+fn run_all(alloc: Global, given: &[Given], seen: &mut Vec<Seen>) -> Result<(), Fault> {
     let config = Config {
         me: Some(9),
         fetch_timeout: 50,
@@ -186,11 +197,7 @@ fn run_all(alloc: Global, given: &[Given]) -> Result<Vec<Seen>, Fault> {
         priority_requests: false,
     };
     let mut engine: Plain = Core::new(alloc, config, false);
-    for answer in engine.run(inputs_of(alloc, given)?)?.as_slice() {
-        note_answer(answer, &mut seen)?;
-    }
-    look(&engine, &mut seen)?;
-    Ok(seen)
+    run_on(&mut engine, alloc, given, seen)
 }
 
 fn assert_run(
@@ -199,7 +206,8 @@ fn assert_run(
     given: &[Given],
     expected: &[Seen],
 ) -> Result<(), Fail> {
-    let seen = run_all(alloc, given)?;
+    let mut seen = Vec::new(alloc);
+    run_all(alloc, given, &mut seen)?;
     assert_eq!(rt; seen.as_slice(), expected);
     Ok(())
 }
