@@ -410,12 +410,22 @@ fn has_peer(alloc: Global, fetcher: &mut Many) -> Result<(), Fault> {
 }
 
 /// So many keys of one peer wait, and each is tried once.
+fn tries_all(
+    rt: &impl Abort,
+    alloc: Global,
+    fetcher: &mut Many,
+    count: u16,
+) -> Result<Option<u128>, Fault> {
+    has_peer(alloc, fetcher)?;
+    waits_each(fetcher, count)?;
+    limits_each(rt, fetcher, count)?;
+    Ok(wake_up_many(fetcher))
+}
+
+/// The same of a new fetcher.
 fn tries_each(rt: &impl Abort, alloc: Global, count: u16) -> Result<Option<u128>, Fault> {
     let mut fetcher = Fetcher::new(alloc, config());
-    has_peer(alloc, &mut fetcher)?;
-    waits_each(&mut fetcher, count)?;
-    limits_each(rt, &mut fetcher, count)?;
-    Ok(wake_up_many(&fetcher))
+    tries_all(rt, alloc, &mut fetcher, count)
 }
 
 // A scan that looked from the first key on after each one would not end in time.
