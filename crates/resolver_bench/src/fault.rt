@@ -9,7 +9,7 @@ use thiserror::Error;
 
 #[derive(Clone, Copy, Debug, Error, PartialEq, Eq)]
 pub enum Fault {
-    #[error("no number of keys or peers")]
+    #[error("no number of keys")]
     Size,
     #[error("memory")]
     Memory,
