@@ -1,7 +1,7 @@
 -- Each key of a table has subscribers in their order, whatever is done to it.
 use Rattle.std.proofs.Common.{◌≡◌, ◌<◌, ℕ, Bool, true, false, not, cond, List, [], ◌∷◌, Option, None, Some, IfSome, is_some, length, filter, arith, rules, refl, sym, ap, ◌∙◌, Bor}
 use Rattle.std.proofs.lemmas.Grind.{common_steps}
-use Rattle.std.specs.Option.{option_copied}
+use Rattle.std.specs.Option.{MatchOption, option_copied}
 use Rattle.std.specs.Cmp.{IsTotalOrder}
 use Rattle.std.specs.List.{AllByRecursion}
 use Rattle.std.specs.List.Sorted.{IsStrictlySortedBy}
@@ -106,13 +106,13 @@ module _ {K S : Type 0} (cmp : S → S → Ordering) where
       ] in
       split (test e.0) found
 
-  -- a key that is there takes some subscribers
-  pub all-attached : IsTotalOrder cmp → (test : K → Bool) (d new : List (K × List (S × ℕ))) (ss : List (S × ℕ)) (o : Option (List (S × ℕ)))
-      → lookup test d ≡ o → is_some o ≡ true → IfSome o (λ ts. new ≡ set_value test d (attached_all cmp ts ss))
+  -- a key takes some subscribers if it is there, and nothing changes else
+  pub all-offered : IsTotalOrder cmp → (test : K → Bool) (d new : List (K × List (S × ℕ))) (ss : List (S × ℕ)) (A B : Type 0) (o : Option (List (S × ℕ)))
+      → lookup test d ≡ o → MatchOption o (A × (new ≡ d)) (λ ts. B × (new ≡ set_value test d (attached_all cmp ts ss)))
       → AreListed cmp d → AreListed cmp new
-  all-attached total test d new ss None found there is h = cc
-  all-attached total test d new ss (Some ts) found there is h =
-      rw is (all-set test d _ (attached_all-listed cmp total ts ss (listed-of test d ts h found)) h)
+  all-offered total test d new ss A B None found is h = rw is.1 h
+  all-offered total test d new ss A B (Some ts) found is h =
+      rw is.1 (all-set test d _ (attached_all-listed cmp total ts ss (listed-of test d ts h found)) h)
 
   -- a key that is found has subscribers in their order
   pub listed-found : (test : K → Bool) (d : List (K × List (S × ℕ))) (o : Option (Bor (List (S × ℕ))))

@@ -1,5 +1,6 @@
 -- Subscribers that are put into an ordered map, and taken back.
 use Rattle.std.proofs.Common.{◌≡◌, ◌+◌, ◌∙◌, sym, ap, refl, ℕ, true, false, cond, List, [], ◌∷◌, ◌++◌, Some, is_some, append_assoc, arith, length, get_or, suc}
+use Rattle.std.proofs.lemmas.List.{append-nil}
 use Rattle.std.specs.Cmp.{IsTotalOrder}
 use Rattle.std.specs.List.{AllAdjacentBelow, AllByRecursion}
 use Rattle.std.specs.List.Sorted.{IsStrictlySortedBy}
@@ -8,7 +9,7 @@ use Rattle.std.specs.BTreeMap.{insert_entry, is_at}
 use Rattle.std.specs.Ordering.{is_eq, match_ordering, ordering_reverse}
 use Rattle.std.specs.declared.cmp.Ordering.{Ordering}
 use Rattle.std.specs.declared.cmp.Ordering.TheVariants.{Less, Equal, Greater}
-use Rattle.resolver_base.specs.Subscribers.{attached}
+use Rattle.resolver_base.specs.Subscribers.{attached, attached_all}
 use Rattle.resolver_demand.specs.Undone.{without_each}
 
 module _ {S : Type 0} (cmp : S → S → Ordering) where
@@ -81,6 +82,29 @@ module _ {S : Type 0} (cmp : S → S → Ordering) (total : IsTotalOrder cmp) wh
   pub placed-next : (list es rest : List (S × ℕ)) (s : S × ℕ) → es ++ s ∷ rest ≡ list → IsStrictlySortedBy cmp (keys_of list) → insert_entry cmp es s.0 s.1 ++ rest ≡ list
   placed-next list es rest s is h =
       ap (λ some. some ++ rest) (inserted-last es rest s (rw is h)) ∙ append_assoc es (s ∷ []) rest ∙ is
+
+  attached-last : (es rest : List (S × ℕ)) (s : S × ℕ) → IsStrictlySortedBy cmp (keys_of (es ++ s ∷ rest)) → attached cmp es s ≡ es ++ s ∷ []
+  unfolding IsStrictlySortedBy
+  attached-last [] rest s h = refl
+  attached-last (e ∷ es) rest s h =
+      let below : cmp e.0 s.0 ≡ Less = first e.0 es h.0 in
+      let above : cmp s.0 e.0 ≡ Greater = total.antisymm s.0 e.0 ∙ ap ordering_reverse below in
+      rw above (ap (λ more. e ∷ more) (attached-last es rest s h.1)) where
+        first : (k : S) (es : List (S × ℕ)) → AllByRecursion (λ y. cmp k y ≡ Less) (keys_of (es ++ s ∷ rest)) → cmp k s.0 ≡ Less
+        first k [] all = all.0
+        first k (x ∷ es) all = first k es all.1
+
+  -- of a list in order, those that are left go behind those so far
+  attached_all-last : (es rest list : List (S × ℕ)) → es ++ rest ≡ list → IsStrictlySortedBy cmp (keys_of list) → attached_all cmp es rest ≡ list
+  attached_all-last es [] list is h = sym (append-nil es) ∙ is
+  attached_all-last es (s ∷ rest) list is h =
+      let placed : attached cmp es s ≡ es ++ s ∷ [] = attached-last es rest s (rw is h) in
+      ap (λ some. attached_all cmp some rest) placed
+      ∙ attached_all-last (es ++ s ∷ []) rest list (append_assoc es (s ∷ []) rest ∙ is) h
+
+  -- a list in order, attached to none, is what it was
+  pub attached-ordered-all : (list : List (S × ℕ)) → IsStrictlySortedBy cmp (keys_of list) → attached_all cmp [] list ≡ list
+  attached-ordered-all list h = attached_all-last [] list list refl h
 
   -- where each is below the next one, they stand in their order
   pub sorted-from-adjacent : (ts : List (S × ℕ)) → AllAdjacentBelow (λ s t. cmp s.0 t.0 ≡ Less) ts (length ts) → IsStrictlySortedBy cmp (keys_of ts)

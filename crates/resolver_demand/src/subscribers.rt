@@ -7,7 +7,7 @@ mod listed;
 mod many;
 mod named;
 
-ghost use Rattle.std.specs.Prelude.{◌≡◌, ◌<◌, ◌↔◌, not, [], length, IsTrue, IfOk, OnOk, OnErr, IfErr, IfSome};
+ghost use Rattle.std.specs.Prelude.{◌≡◌, ◌<◌, ◌↔◌, not, [], length, false, None, Some, is_some, IsTrue, IfOk, OnOk, OnErr, IfErr, IfSome, MatchOption};
 ghost use Rattle.std.specs.Option.{option_copied};
 ghost use Rattle.std.specs.Map.Iter.{ShowsInOrder, deref_pair};
 ghost use Rattle.resolver_demand.specs.declared.subscribers.listed.Subscribers.{Subscribers};
@@ -96,14 +96,50 @@ impl<K: Ord + Drop, S: Ord + Drop> Tracker<K, S> {
         ensures err { OnErr result (self.new ≡ self.old) }
         ensures only { IfErr result (λ fault. fault ≡ OutOfMemory) }
     {
-        if self.demand.contains_key(&key) {
-            attach_to(self.alloc, &mut self.demand, &key, subscribers.into_vec())?;
+        let Some(subscribers) = self.attach(&key, subscribers)? else {
             return Ok(false);
-        }
-        let mut fresh = Subscribers::new(self.alloc);
-        fresh.attach_all(self.alloc, subscribers.into_vec())?;
-        self.demand.insert(key, fresh)?;
+        };
+        self.insert_new(key, subscribers)?;
         Ok(true)
+    }
+
+    /// Adds subscribers of a key that is there, with one look-up, or hands them back where nobody
+    /// waits for the key. A subscriber that is there keeps its mark. Where memory is wanting,
+    /// nothing changes.
+    pub fn attach(
+        &mut self,
+        key: &K,
+        subscribers: NonEmptyVec<(S, u64)>,
+    ) -> Result<Option<NonEmptyVec<(S, u64)>>, Fault>
+    where
+        S: Clone,
+        requires subscribers_clone { (x y : S) → S.is_clone x y → y ≡ x }
+        ensures ok { IfOk result (λ rest. MatchOption rest
+            (self.new ≡ asked_one (names K.cmp S.cmp) self.old (key.now, subscribers))
+            (λ back. (back ≡ subscribers) × (self.new ≡ self.old))) }
+        ensures there { IfOk result (λ rest. not (is_some rest)
+            ≡ is_asked (names K.cmp S.cmp) self.old key.now) }
+        ensures err { OnErr result (self.new ≡ self.old) }
+        ensures only { IfErr result (λ fault. fault ≡ OutOfMemory) }
+    {
+        Ok(attach_to(self.alloc, &mut self.demand, key, subscribers)?)
+    }
+
+    /// Adds a key that isn't there, with one look-up, and its subscribers. Where memory is wanting,
+    /// nothing changes.
+    pub fn insert_new(&mut self, key: K, subscribers: NonEmptyVec<(S, u64)>) -> Result<(), Fault>
+    where
+        S: Clone,
+        requires subscribers_clone { (x y : S) → S.is_clone x y → y ≡ x }
+        requires absent { is_asked (names K.cmp S.cmp) self.old key ≡ false }
+        ensures ok { OnOk result
+            (self.new ≡ asked_one (names K.cmp S.cmp) self.old (key, subscribers)) }
+        ensures err { OnErr result (self.new ≡ self.old) }
+        ensures only { IfErr result (λ fault. fault ≡ OutOfMemory) }
+    {
+        let fresh = Subscribers::fresh(self.alloc, subscribers.into_vec())?;
+        self.demand.insert(key, fresh)?;
+        Ok(())
     }
 
     /// Removes a key with its subscribers, and answers whether it was there.
@@ -246,25 +282,27 @@ impl<K: Ord + Faithful + Drop, S: Ord + Faithful + Drop> Clone for Tracker<K, S>
     }
 }
 
-/// Attaches subscribers to a key that is there.
+/// Attaches subscribers to a key that is there, or hands them back.
 fn attach_to<K: Ord, S: Ord + Clone + Drop>(
     alloc: Global,
     demand: &mut BTreeMap<K, Subscribers<S>>,
     key: &K,
-    more: Vec<(S, u64)>,
-) -> Result<(), AllocError>
+    more: NonEmptyVec<(S, u64)>,
+) -> Result<Option<NonEmptyVec<(S, u64)>>, AllocError>
     requires subscribers_clone { (x y : S) → S.is_clone x y → y ≡ x }
     requires listed { AreListed S.cmp demand.old.entries }
-    ensures ok { OnOk result (IfSome (get K.cmp demand.old key.now)
-        (λ subscribers. demand.new.entries
+    ensures ok { IfOk result (λ rest. MatchOption (get K.cmp demand.old key.now)
+        ((rest ≡ Some more) × (demand.new.entries ≡ demand.old.entries))
+        (λ subscribers. (rest ≡ None) × (demand.new.entries
         ≡ set_value (is_at (K.cmp key.now)) demand.old.entries
-        (attached_all S.cmp subscribers more.items))) }
+        (attached_all S.cmp subscribers more)))) }
     ensures err { OnErr result (demand.new.entries ≡ demand.old.entries) }
 {
-    if let Some(subscribers) = demand.get_mut(key) {
-        subscribers.attach_all(alloc, more)?;
-    }
-    Ok(())
+    let Some(subscribers) = demand.get_mut(key) else {
+        return Ok(Some(more));
+    };
+    subscribers.attach_all(alloc, more.into_vec())?;
+    Ok(None)
 }
 
 /// Removes subscribers of a key.

@@ -1,6 +1,6 @@
 //! The numbered map: tracked keys, and open deliveries by their numbers.
 
-ghost use Rattle.std.specs.Prelude.{◌≡◌, Bool, ◌+◌, ◌^◌, ◌<◌, ◌≤◌, ◌↔◌, [], not, length, true, false, None, Some, IsTrue, IsSome, IfOk, OnOk, OnErr, IfErr, Err};
+ghost use Rattle.std.specs.Prelude.{◌≡◌, Bool, ◌+◌, ◌^◌, ◌<◌, ◌≤◌, ◌↔◌, [], not, length, true, false, None, Some, IsTrue, IsSome, IfOk, OnOk, OnErr, IfErr, Err, if◌then◌else◌, option_and_then};
 ghost use Rattle.std.specs.Option.{option_copied, option_map};
 ghost use Rattle.std.specs.Fn.{FnReturnsAt};
 ghost use Rattle.std.specs.Ordering.{nat_cmp};
@@ -8,15 +8,15 @@ ghost use Rattle.std.specs.List.Sorted.{IsStrictlySortedBy};
 ghost use Rattle.std.specs.Map.{keys_of, lookup};
 ghost use Rattle.std.specs.Map.Iter.{ShowsInOrder, deref_pair};
 ghost use Rattle.resolver_demand.specs.declared.delivery.entry.Entry.{Entry};
-ghost use Rattle.std.specs.BTreeMap.{get, is_at};
-ghost use Rattle.resolver_demand.specs.Entries.{accepted, changed_at, ended, numbered, with_response, with_state};
+ghost use Rattle.std.specs.BTreeMap.{get, insert_entry, is_at};
+ghost use Rattle.resolver_demand.specs.Entries.{accepted, changed_at, ended, is_number, numbered, with_response, with_state};
 ghost use Rattle.resolver_base.specs.declared.base.fault.Fault.TheVariants.{OutOfMemory, Exhausted};
 
 use crate::delivery::completion::{Aborted, Completion};
 use crate::delivery::entry::{Entry, Open, Response};
 use resolver_base::base::{Fault, Numbers};
 use resolver_base::root::{Delivery, Outcome};
-use std::alloc::Global;
+use std::alloc::{AllocError, Global};
 use std::collections::BTreeMap;
 use std::collections::btree_map::Iter;
 use std::marker::Model;
@@ -83,13 +83,24 @@ impl<K: Ord + Drop, S: Drop, V: Drop, Context: Drop, State: Drop> Entries<K, S, 
         if self.keys.contains_key(&key) {
             return Ok(false);
         }
+        self.insert_new(key, state)?;
+        Ok(true)
+    }
+
+    /// Tracks a key that isn't there, with one look-up. Where memory is wanting, nothing changes.
+    pub fn insert_new(&mut self, key: K, state: State) -> Result<(), Fault>
+        requires absent { is_tracked K.cmp self.old key ≡ false }
+        ensures ok { OnOk result (self.new ≡ inserted K.cmp key state self.old) }
+        ensures err { OnErr result (self.new ≡ self.old) }
+        ensures only { IfErr result (λ fault. fault ≡ OutOfMemory) }
+    {
         let fresh = Entry {
             number: None,
             response: None,
             state,
         };
         self.keys.insert(key, fresh)?;
-        Ok(true)
+        Ok(())
     }
 
     /// Whether a key is tracked.
@@ -106,6 +117,14 @@ impl<K: Ord + Drop, S: Drop, V: Drop, Context: Drop, State: Drop> Entries<K, S, 
         ensures was_there { result ≡ is_tracked K.cmp self.old key.now }
     {
         self.keys.remove(key).is_some()
+    }
+
+    /// Lets a key go, as `remove` does, and answers what was kept of it, if it was tracked.
+    pub fn take(&mut self, key: &K) -> Option<Entry<V, Context, State>>
+        ensures after { self.new ≡ removed K.cmp key.now self.old }
+        ensures entry { result ≡ entry_of K.cmp self.old key.now }
+    {
+        self.keys.remove(key)
     }
 
     /// Lets all keys go, and answers how many there were.
@@ -176,10 +195,7 @@ impl<K: Ord + Drop, S: Drop, V: Drop, Context: Drop, State: Drop> Entries<K, S, 
             context,
             accepted: false,
         };
-        self.going.insert(number, begun)?;
-        if let Some(begun) = self.going.get(&number) {
-            hold_new(&mut self.keys, &begun.delivery.key, number, response);
-        }
+        begin_new(&mut self.keys, &mut self.going, number, begun, response)?;
         self.numbers.take();
         Ok(number)
     }
@@ -207,10 +223,7 @@ impl<K: Ord + Drop, S: Drop, V: Drop, Context: Drop, State: Drop> Entries<K, S, 
             context: response.context.clone()?,
             accepted: response.accepted,
         };
-        self.going.insert(number, begun)?;
-        if let Some(begun) = self.going.get(&number) {
-            hold(&mut self.keys, &begun.delivery.key, number);
-        }
+        begin(&mut self.keys, &mut self.going, number, begun)?;
         self.numbers.take();
         Ok(number)
     }
@@ -292,34 +305,59 @@ impl<K: Ord + Drop, S: Drop, V: Drop, Context: Drop, State: Drop> Entries<K, S, 
     }
 }
 
-/// A key's delivery in progress has this number, and carries a new response.
-fn hold_new<K: Ord, V: Drop, Context: Drop, State>(
+/// Opens a delivery of a new response, which is its key's delivery in progress from now on. Where
+/// memory is wanting, nothing changes.
+fn begin_new<K: Ord, S: Drop, V: Drop, Context: Drop, State>(
     keys: &mut BTreeMap<K, Entry<V, Context, State>>,
-    key: &K,
+    going: &mut BTreeMap<u64, Open<K, S, Context>>,
     number: u64,
+    begun: Open<K, S, Context>,
     response: Response<V, Context>,
-)
-    ensures { keys.new.entries ≡ changed_at (is_at (K.cmp key.now)) (get K.cmp keys.old key.now)
-        (λ e. numbered number (with_response (Some response) e)) keys.old.entries }
+) -> Result<(), AllocError>
+where
+    K: Drop,
+    requires tracked { IsSome (get K.cmp keys.old begun.delivery.key) }
+    ensures held { OnOk result (keys.new.entries ≡ changed_at (is_at (K.cmp begun.delivery.key))
+        (get K.cmp keys.old begun.delivery.key)
+        (λ e. numbered number (with_response (Some response) e)) keys.old.entries) }
+    ensures opened { OnOk result
+        (going.new.entries ≡ insert_entry nat_cmp going.old.entries number begun) }
+    ensures err_keys { OnErr result (keys.new.entries ≡ keys.old.entries) }
+    ensures err_going { OnErr result (going.new.entries ≡ going.old.entries) }
 {
-    if let Some(entry) = keys.get_mut(key) {
-        entry.number = Some(number);
-        entry.response = Some(response);
-    }
+    let Some(entry) = keys.get_mut(&begun.delivery.key) else {
+        unreachable!()
+    };
+    going.insert(number, begun)?;
+    entry.number = Some(number);
+    entry.response = Some(response);
+    Ok(())
 }
 
-/// A key's delivery in progress has this number.
-fn hold<K: Ord, V, Context, State>(
+/// Opens a delivery, which is its key's delivery in progress from now on. Where memory is wanting,
+/// nothing changes.
+fn begin<K: Ord, S: Drop, V: Drop, Context: Drop, State>(
     keys: &mut BTreeMap<K, Entry<V, Context, State>>,
-    key: &K,
+    going: &mut BTreeMap<u64, Open<K, S, Context>>,
     number: u64,
-)
-    ensures { keys.new.entries ≡ changed_at (is_at (K.cmp key.now)) (get K.cmp keys.old key.now)
-        (numbered number) keys.old.entries }
+    begun: Open<K, S, Context>,
+) -> Result<(), AllocError>
+where
+    K: Drop,
+    requires tracked { IsSome (get K.cmp keys.old begun.delivery.key) }
+    ensures held { OnOk result (keys.new.entries ≡ changed_at (is_at (K.cmp begun.delivery.key))
+        (get K.cmp keys.old begun.delivery.key) (numbered number) keys.old.entries) }
+    ensures opened { OnOk result
+        (going.new.entries ≡ insert_entry nat_cmp going.old.entries number begun) }
+    ensures err_keys { OnErr result (keys.new.entries ≡ keys.old.entries) }
+    ensures err_going { OnErr result (going.new.entries ≡ going.old.entries) }
 {
-    if let Some(entry) = keys.get_mut(key) {
-        entry.number = Some(number);
-    }
+    let Some(entry) = keys.get_mut(&begun.delivery.key) else {
+        unreachable!()
+    };
+    going.insert(number, begun)?;
+    entry.number = Some(number);
+    Ok(())
 }
 
 fn put_state<K: Ord, V, Context, State: Drop>(
@@ -358,13 +396,25 @@ fn discard<K: Ord, V: Drop, Context: Drop, State>(
     }
 }
 
-fn end<K: Ord, V, Context, State>(keys: &mut BTreeMap<K, Entry<V, Context, State>>, key: &K)
-    ensures { keys.new.entries ≡ changed_at (is_at (K.cmp key.now)) (get K.cmp keys.old key.now)
-        ended keys.old.entries }
+/// A key's delivery in progress is over, if it has this number. Answers whether it has.
+fn end<K: Ord, V, Context, State>(
+    keys: &mut BTreeMap<K, Entry<V, Context, State>>,
+    key: &K,
+    number: u64,
+) -> bool
+    ensures had { result ≡ is_number (option_and_then (λ e. e.number) (get K.cmp keys.old key.now)) number }
+    ensures ended { keys.new.entries ≡ if result
+        then changed_at (is_at (K.cmp key.now)) (get K.cmp keys.old key.now) ended keys.old.entries
+        else keys.old.entries }
 {
-    if let Some(entry) = keys.get_mut(key) {
-        entry.number = None;
+    let Some(entry) = keys.get_mut(key) else {
+        return false;
+    };
+    if entry.number != Some(number) {
+        return false;
     }
+    entry.number = None;
+    true
 }
 
 impl<K: Ord + Drop, S: Drop, V: Drop, Context: Drop, State: Drop> Entries<K, S, V, Context, State> {
@@ -383,10 +433,7 @@ impl<K: Ord + Drop, S: Drop, V: Drop, Context: Drop, State: Drop> Entries<K, S, 
         let Some(open) = self.going.remove(&number) else {
             return Err(Aborted {});
         };
-        let canceled = self.number(&open.delivery.key) != Some(number);
-        if !canceled {
-            end(&mut self.keys, &open.delivery.key);
-        }
+        let canceled = !end(&mut self.keys, &open.delivery.key, number);
         if canceled && verdict.is_none() {
             return Err(Aborted {});
         }

@@ -1,6 +1,8 @@
 //! A few subscribers, in a list.
 
-ghost use Rattle.std.specs.Prelude.{◌≡◌, ◌≤◌, nat_lt, filter, insert, length, IfOk, OnOk, OnErr, MatchOption};
+ghost use Rattle.std.specs.Prelude.{◌≡◌, ◌≤◌, nat_lt, filter, insert, length, IfOk, IsTrue, OnOk, OnErr, MatchOption};
+ghost use Rattle.std.specs.List.Sorted.{IsStrictlySortedBy};
+ghost use Rattle.std.specs.Map.{keys_of};
 ghost use Rattle.std.specs.List.{list_any};
 ghost use Rattle.resolver_base.specs.Subscribers.{attached, attached_all, without};
 
@@ -41,6 +43,19 @@ fn place_of<S: Ord>(list: &[(S, u64)], one: &(S, u64)) -> Option<usize>
         }
     }
     Some(list.len())
+}
+
+/// Whether these stand in their order, each once.
+pub(super) fn ascends<S: Ord>(list: &[(S, u64)]) -> bool
+    ensures { IsTrue result → IsStrictlySortedBy S.cmp (keys_of list.now) }
+{
+    for i in 1..list.len() {
+        match list[i - 1].0.cmp(&list[i].0) {
+            Ordering::Less => {}
+            _ => return false,
+        }
+    }
+    true
 }
 
 /// Removes the named ones.

@@ -93,6 +93,21 @@ impl<S: Ord> Subscribers<S> {
 }
 
 impl<S: Ord + Clone + Drop> Subscribers<S> {
+    /// These, each at its place. A few that stand in their order already are not copied.
+    pub(super) fn fresh(alloc: Global, list: Vec<(S, u64)>) -> Result<Self, AllocError>
+        requires subscribers_clone { (x y : S) → S.is_clone x y → y ≡ x }
+        ensures { IfOk result (λ fresh. fresh ≡ attached_all S.cmp [] list.items) }
+    {
+        if list.capacity() <= FEW && few::ascends(list.as_slice()) {
+            return Ok(Subscribers {
+                form: Form::Few(list),
+            });
+        }
+        let mut fresh = Subscribers::new(alloc);
+        fresh.attach_all(alloc, list)?;
+        Ok(fresh)
+    }
+
     /// Puts each of these at its place. One that is there keeps its mark. Where memory is
     /// wanting, nothing changes.
     ///

@@ -1,7 +1,7 @@
 use Rattle.std.proofs.Common.{◌≡◌, ◌||◌, drop}
 use Rattle.std.specs.BTreeSet.{contains}
 use Rattle.resolver_base.specs.Subscribers.{is_among}
-use Rattle.resolver_demand.proofs.subscribers.named.Named.new.Given as goal
+use Rattle.resolver_demand.proofs.subscribers.named.indexed.Given as goal
 
 -- a subscriber is in the index or among those that are left, where it is named
 abbrev pub invariant-loop-one : goal.invariant-loop-one
