@@ -116,7 +116,7 @@ impl<K: Ord + Drop, S: Drop, V: Drop, Context: Drop, State: Drop> Entries<K, S, 
         ensures after { self.new ≡ removed K.cmp key.now self.old }
         ensures was_there { result ≡ is_tracked K.cmp self.old key.now }
     {
-        self.keys.remove(key).is_some()
+        self.take(key).is_some()
     }
 
     /// Lets a key go, as `remove` does, and answers what was kept of it, if it was tracked.
