@@ -19,7 +19,7 @@ use Rattle.resolver_base.specs.declared.base.fault.Fault.TheVariants as faults
 use Rattle.resolver_base.specs.declared.root.Outcome.{Outcome}
 use Rattle.resolver_base.specs.declared.root.Outcome.TheVariants.{Invalid, Resolved, Unresolved, Ignored}
 use Rattle.resolver_base.specs.declared.root.Resolution.TheVariants.{Complete, Partial}
-use Rattle.resolver_demand.specs.Entries.{changed, changed_at, state_of, with_state, with_response, ended, numbered, accepted, removed, completed, completed_from, completion, completion_of, is_live, is_number, number_of, response_of, is_accepted, redelivered, begun_again, response_changed}
+use Rattle.resolver_demand.specs.Entries.{changed, changed_at, state_of, with_response, ended, numbered, accepted, removed, completed, completed_from, completion, completion_of, is_live, is_number, number_of, response_of, is_accepted, redelivered, begun_again, response_changed}
 use Rattle.resolver_demand.specs.declared.delivery.entry.Response.{Response}
 use Rattle.resolver_demand.specs.declared.delivery.entry.Open.{Open}
 use Rattle.resolver_base.specs.declared.root.Delivery.{Delivery}

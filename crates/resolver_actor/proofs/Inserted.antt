@@ -1,5 +1,5 @@
 -- A new key taken out again.
-use Rattle.std.proofs.Common.{◌≡◌, refl, Bool, true, List, [], ◌∷◌, Option, None, Some, cond}
+use Rattle.std.proofs.Common.{◌≡◌, refl, true, List, [], ◌∷◌, None, Some, cond}
 use Rattle.std.specs.Map.{lookup, remove_entry}
 use Rattle.std.specs.BTreeMap.{insert_entry, is_at}
 use Rattle.std.specs.Ordering.{is_eq, match_ordering}

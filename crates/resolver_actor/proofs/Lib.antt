@@ -1,4 +1,5 @@
 pub mod Led
+pub mod Hashed
 pub mod DueFirst
 pub mod Going
 pub mod Running

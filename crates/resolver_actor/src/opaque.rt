@@ -3,6 +3,7 @@
 //! `Actor` is the machine: it takes inputs with their moments and answers with effects.
 
 mod actor;
+mod by_attempt;
 mod rows;
 mod stages;
 

@@ -2,12 +2,13 @@
 
 ghost use Rattle.std.specs.Prelude.{◌≡◌, ◌<◌, ◌^◌, ◌++◌, ◌∷◌, [], None, IfErr, IfOk, IfSome, IsSome, OnOk, map};
 ghost use Rattle.std.specs.Map.{keys_of};
-ghost use Rattle.resolver_demand.specs.Entries.{number_of, response_of, state_of};
+ghost use Rattle.resolver_demand.specs.Entries.{is_accepted, number_of, response_of, state_of};
 ghost use Rattle.resolver_actor.specs.declared.opaque.actor.Effect.TheVariants.{Deliver};
 ghost use Rattle.resolver_actor.specs.OpaqueActor.{AreCached};
 ghost use Rattle.resolver_actor.specs.OpaqueFound.{IsRefusal, flagged, handed_again};
 ghost use Rattle.resolver_actor.specs.OpaqueStages.{IsAsked};
 ghost use Rattle.resolver_machine.specs.Steps.{stops};
+ghost use Rattle.resolver_machine.specs.Verdicts.{ruling};
 
 use super::rows::{Row, call_off_all, call_off_each, forget_each, listed};
 use super::stages::Stages;
@@ -317,10 +318,9 @@ impl<K: Ord + Clone, V: Clone, S: Ord + Clone, Q: Predicate<K, S> + Drop> Actor<
             subscribers,
             ..
         } = item;
-        if self.demand.contains(&key) {
-            self.demand.insert(key, subscribers)?;
+        let Some(subscribers) = self.demand.attach(&key, subscribers)? else {
             return Ok(());
-        }
+        };
         self.start_new(key, subscribers, effects)
     }
 
@@ -339,7 +339,7 @@ impl<K: Ord + Clone, V: Clone, S: Ord + Clone, Q: Predicate<K, S> + Drop> Actor<
     {
         let wanted = key.clone()?;
         let tracked = key.clone()?;
-        self.demand.insert(wanted, subscribers)?;
+        self.demand.insert_new(wanted, subscribers)?;
         match self.stages.ask(tracked) {
             Ok(attempt) => Ok(effects.push(Effect::Start { attempt, key })?),
             Err(fault) => {
@@ -438,7 +438,7 @@ impl<K: Ord + Clone, V: Clone, S: Ord + Clone, Q: Predicate<K, S> + Drop> Actor<
             return Ok(());
         }
         let Delivery { key, subscribers } = completion.delivery;
-        match rule_on(outcome, self.stages.entries().response_accepted(&key)) {
+        match ruling_of(&self.stages, outcome, &key) {
             Ruling::Serve { accepted } => {
                 let Some(subscribers) = self.demand.remove_delivered(&key, &subscribers)? else {
                     self.stages.remove(&key);
@@ -535,6 +535,25 @@ fn hand_out_again<K: Ord + Clone + Drop, V: Clone + Drop, S: Clone + Drop>(
         value,
     })?;
     Ok(())
+}
+
+/// The ruling on a verdict for a key. Whether its response was accepted is looked up only where the
+/// ruling depends on it.
+fn ruling_of<K: Ord + Drop, V: Drop, S: Drop>(
+    stages: &Stages<K, S, V>,
+    outcome: Option<Outcome>,
+    key: &K,
+) -> Ruling
+    ensures { result ≡ ruling (is_accepted K.cmp stages.now.entries key.now) outcome }
+{
+    match outcome {
+        None | Some(Outcome::Invalid) => {
+            rule_on(outcome, stages.entries().response_accepted(key))
+        }
+        Some(Outcome::Resolved(_)) | Some(Outcome::Unresolved) | Some(Outcome::Ignored) => {
+            rule_on(outcome, false)
+        }
+    }
 }
 
 /// Notes that a key's cached response is right, if it is.

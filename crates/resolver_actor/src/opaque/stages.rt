@@ -1,6 +1,6 @@
 //! The demanded keys of the actor, by what was done last for them.
 
-ghost use Rattle.std.specs.Prelude.{◌≡◌, ◌+◌, ◌<◌, ◌^◌, ℕ, [], Some, None, false, find, if◌then◌else◌, IfErr, IfOk, IfSome, IsSome, IsTrue, OnErr, OnOk, option_and_then};
+ghost use Rattle.std.specs.Prelude.{◌≡◌, ◌+◌, ◌<◌, ◌^◌, ℕ, [], Some, None, false, find, if◌then◌else◌, IfErr, IfOk, IfSome, IsSome, IsTrue, OnErr, OnOk, option_and_then, option_map};
 ghost use Rattle.std.specs.BTreeMap.{is_at};
 ghost use Rattle.std.specs.Map.{keys_of, lookup};
 ghost use Rattle.std.specs.Option.{option_copied};
@@ -12,12 +12,12 @@ ghost use Rattle.resolver_actor.specs.OpaqueOverdue.{by_due, due_of, first_key};
 ghost use Rattle.resolver_actor.specs.OpaqueStages.{IsAsked, attempt_in, resting, stands_under, unstaged};
 ghost use Rattle.resolver_base.specs.declared.base.fault.Fault.TheVariants.{OutOfMemory};
 
+use super::by_attempt::ByAttempt;
 use super::rows::{Keys, Phase, Stage, listed_phase};
 use resolver_base::base::{Fault, Numbers, PrioritySet};
 use resolver_base::root::{Delivery, Outcome};
-use resolver_demand::delivery::{Aborted, Completion, Entries};
+use resolver_demand::delivery::{Aborted, Completion, Entries, Entry};
 use std::alloc::Global;
-use std::collections::BTreeMap;
 use std::marker::Model;
 
 /// What is kept of the demanded keys beside their subscribers, and the keys by their attempts.
@@ -28,7 +28,7 @@ use std::marker::Model;
 pub struct Stages<K: Ord, S, V> {
     entries: Keys<K, S, V>,
     /// Each key that was asked for last, by its attempt.
-    asked: BTreeMap<u64, K>,
+    asked: ByAttempt<K>,
     /// Each key that waits, by its due.
     retries: PrioritySet<K, u128>,
     attempts: Numbers,
@@ -44,7 +44,7 @@ impl<K: Ord, S, V> Model for Stages<K, S, V> {
       next_attempt = a.attempts;
     } };
 
-    ghost invariant = { λ a. IsLed K.cmp a.attempts a.asked.entries a.entries.keys
+    ghost invariant = { λ a. IsLed K.cmp a.attempts a.asked a.entries.keys
         × AreDue K.cmp a.retries a.entries.keys };
 }
 
@@ -55,7 +55,7 @@ impl<K: Ord + Drop, S: Drop, V: Drop> Stages<K, S, V> {
     {
         Stages {
             entries: Entries::new(alloc),
-            asked: BTreeMap::new(alloc),
+            asked: ByAttempt::new(alloc),
             retries: PrioritySet::new(alloc),
             attempts,
         }
@@ -116,9 +116,9 @@ impl<K: Ord + Drop, S: Drop, V: Drop> Stages<K, S, V> {
         let attempt = self.attempts.peek().ok_or(Fault::Exhausted)?;
         let led = key.clone()?;
         self.asked.insert(attempt, led)?;
-        let asked = self.entries.insert_state(key, Stage::Asked { attempt });
+        let asked = self.entries.insert_new(key, Stage::Asked { attempt });
         if let Err(fault) = asked {
-            self.asked.remove(&attempt);
+            self.asked.remove(attempt);
             return Err(fault);
         }
         self.attempts.take();
@@ -184,9 +184,9 @@ impl<K: Ord + Drop, S: Drop, V: Drop> Stages<K, S, V> {
     pub fn remove(&mut self, key: &K)
         ensures { self.new ≡ record self.old { entries = removed K.cmp key.now self.old.entries } }
     {
-        leave(&mut self.asked, &self.entries, key);
+        let taken = self.entries.take(key);
+        leave_taken(&mut self.asked, &taken);
         self.retries.remove(key);
-        self.entries.remove(key);
     }
 
     /// Lets all keys go, and closes all deliveries. Numbers and attempts go on.
@@ -258,16 +258,29 @@ impl<K: Ord + Drop, S: Drop, V: Drop> Stages<K, S, V> {
 
 /// The attempt under which a key stands leads nowhere from now on.
 fn leave<K: Ord + Drop, S: Drop, V: Drop>(
-    asked: &mut BTreeMap<u64, K>,
+    asked: &mut ByAttempt<K>,
     entries: &Keys<K, S, V>,
     key: &K,
 )
-    ensures { (attempt : ℕ) → lookup (is_at (nat_cmp attempt)) asked.new.entries
+    ensures { (attempt : ℕ) → lookup (is_at (nat_cmp attempt)) asked.new
         ≡ if stands_under attempt (state_of K.cmp entries.now key.now) then None
-        else lookup (is_at (nat_cmp attempt)) asked.old.entries }
+        else lookup (is_at (nat_cmp attempt)) asked.old }
 {
     if let Some(attempt) = attempt_of(entries, key) {
-        asked.remove(&attempt);
+        asked.remove(attempt);
+    }
+}
+
+/// The attempt under which a key stood leads nowhere from now on.
+fn leave_taken<K: Drop, V>(asked: &mut ByAttempt<K>, taken: &Option<Entry<V, (), Stage>>)
+    ensures { (attempt : ℕ) → lookup (is_at (nat_cmp attempt)) asked.new
+        ≡ if stands_under attempt (option_map (λ e. e.state) taken.now) then None
+        else lookup (is_at (nat_cmp attempt)) asked.old }
+{
+    if let Some(entry) = taken {
+        if let Stage::Asked { attempt } = entry.state {
+            asked.remove(attempt);
+        }
     }
 }
 

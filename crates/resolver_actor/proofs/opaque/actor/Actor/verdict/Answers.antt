@@ -1,9 +1,7 @@
 use Rattle.std.proofs.Common.{◌∙◌, sym, ap, refl}
 use Rattle.std.proofs.lemmas.Cmp.{eq_by_cmp_equiv}
 use Rattle.resolver_base.specs.Names.{names}
-use Rattle.resolver_demand.specs.Entries.{is_accepted}
 use Rattle.resolver_actor.specs.OpaqueActor.{status_of}
-use Rattle.resolver_machine.specs.Verdicts.{ruling}
 use Rattle.resolver_actor.proofs.Closing.{live, aborted_goes, canceled_goes, was-open, response-left, number-left, agree-left, retire_goes, retry_goes, served_goes, agree-gone, agree-served, agree-serve, serve_result}
 use Rattle.resolver_actor.proofs.Going.{agree-waited, waited_goes}
 use Rattle.resolver_actor.proofs.opaque.actor.Actor.verdict.Goals as goal
@@ -38,7 +36,7 @@ returns-in_default-2-clause-goes g c =
     let done = rw c.in-Ok.is at c.completed.ensures.answer in
     let l = live (names g.K.Ord.cmp g.S.Ord.cmp) c.self.inside.demand c.self.inside.stages.entries c.self.invariant.agree c.self.inside.stages.next_attempt c.self.inside.delay (status_of c.self.inside.status) c.args.now c.args.number c.args.outcome c.completed.new.self.entries c.in-Ok.completion done c.if-completion.false in
     let rest = sym c.in_default-2.is ∙ c.in_ok-subscribers-in-Serve.ensures.rest in
-    rw (← c.self.view_is, c.in_ok-subscribers-in-Serve.ensures.ok, c.remove.ensures, c.completed.ensures.attempts) (served_goes (names g.K.Ord.cmp g.S.Ord.cmp) c.self.inside.demand c.self.inside.stages.entries c.self.invariant.agree c.self.inside.stages.next_attempt c.self.inside.delay (status_of c.self.inside.status) c.args.now c.args.number c.args.outcome c.in-Ok.completion c.completed.new.self.entries l c.in-Serve.accepted c.args.effects.now.items (sym c.in-Serve.is ∙ (c.rule_on.ensures ∙ ap (λ b. ruling b c.args.outcome) (c.response_accepted.ensures ∙ ap (λ d. is_accepted g.K.Ord.cmp d c.in-Ok.completion.delivery.key) c.entries.ensures))) rest)
+    rw (← c.self.view_is, c.in_ok-subscribers-in-Serve.ensures.ok, c.remove.ensures, c.completed.ensures.attempts) (served_goes (names g.K.Ord.cmp g.S.Ord.cmp) c.self.inside.demand c.self.inside.stages.entries c.self.invariant.agree c.self.inside.stages.next_attempt c.self.inside.delay (status_of c.self.inside.status) c.args.now c.args.number c.args.outcome c.in-Ok.completion c.completed.new.self.entries l c.in-Serve.accepted c.args.effects.now.items (sym c.in-Serve.is ∙ c.ruling_of.ensures) rest)
 
 pub hand_out_again-requires-clause-cached : goal.hand_out_again-requires-clause-cached
 hand_out_again-requires-clause-cached g c =
@@ -89,7 +87,7 @@ returns-in-Some-clause-goes g c =
     let l = live (names g.K.Ord.cmp g.S.Ord.cmp) c.self.inside.demand c.self.inside.stages.entries c.self.invariant.agree c.self.inside.stages.next_attempt c.self.inside.delay (status_of c.self.inside.status) c.args.now c.args.number c.args.outcome c.completed.new.self.entries c.in-Ok.completion done c.if-completion.false in
     let rest = sym c.in-Some.is ∙ c.in_ok-subscribers-in-Serve.ensures.rest in
     rw (← c.self.view_is, c.hand_out_again.ensures.attempts, c.completed.ensures.attempts)
-    (serve_result (names g.K.Ord.cmp g.S.Ord.cmp) c.self.inside.demand c.self.inside.stages.entries c.self.invariant.agree c.self.inside.stages.next_attempt c.self.inside.delay (status_of c.self.inside.status) c.args.now c.args.number c.args.outcome c.in-Ok.completion c.completed.new.self.entries l c.in-Serve.accepted c.in-Some.subscribers c.args.effects.now.items c.hand_out_again.new.effects.items c.remove_delivered.new.self c.hand_out_again.new.stages.entries c.hand_out_again.result (sym c.in-Serve.is ∙ (c.rule_on.ensures ∙ ap (λ b. ruling b c.args.outcome) (c.response_accepted.ensures ∙ ap (λ d. is_accepted g.K.Ord.cmp d c.in-Ok.completion.delivery.key) c.entries.ensures))) rest c.in_ok-subscribers-in-Serve.ensures.ok
+    (serve_result (names g.K.Ord.cmp g.S.Ord.cmp) c.self.inside.demand c.self.inside.stages.entries c.self.invariant.agree c.self.inside.stages.next_attempt c.self.inside.delay (status_of c.self.inside.status) c.args.now c.args.number c.args.outcome c.in-Ok.completion c.completed.new.self.entries l c.in-Serve.accepted c.in-Some.subscribers c.args.effects.now.items c.hand_out_again.new.effects.items c.remove_delivered.new.self c.hand_out_again.new.stages.entries c.hand_out_again.result (sym c.in-Serve.is ∙ c.ruling_of.ensures) rest c.in_ok-subscribers-in-Serve.ensures.ok
     c.hand_out_again.ensures.ok c.hand_out_again.ensures.told c.hand_out_again.ensures.room c.hand_out_again.ensures.only)
 
 pub returns-in-Some-clause-memory : goal.returns-in-Some-clause-memory
@@ -102,7 +100,7 @@ returns-in-Retry-clause-goes g c =
     let l = live (names g.K.Ord.cmp g.S.Ord.cmp) c.self.inside.demand c.self.inside.stages.entries c.self.invariant.agree c.self.inside.stages.next_attempt c.self.inside.delay (status_of c.self.inside.status) c.args.now c.args.number c.args.outcome c.completed.new.self.entries c.in-Ok.completion done c.if-completion.false in
     rw (← c.self.view_is)
     (waited_goes (names g.K.Ord.cmp g.S.Ord.cmp) c.self.inside.demand c.completed.new.self c.wait.new.self c.in-Ok.completion.delivery.key _ c.wait.result c.wait.ensures.ok _ c.args.effects.now.items c.self.inside.delay (status_of c.self.inside.status) c.wait.ensures.only
-    (rw c.completed.ensures.attempts (retry_goes (names g.K.Ord.cmp g.S.Ord.cmp) c.self.inside.demand c.self.inside.stages.entries c.self.invariant.agree c.self.inside.stages.next_attempt c.self.inside.delay (status_of c.self.inside.status) c.args.now c.args.number c.args.outcome c.in-Ok.completion c.completed.new.self.entries l _ c.args.effects.now.items refl (sym c.in-Retry.is ∙ (c.rule_on.ensures ∙ ap (λ b. ruling b c.args.outcome) (c.response_accepted.ensures ∙ ap (λ d. is_accepted g.K.Ord.cmp d c.in-Ok.completion.delivery.key) c.entries.ensures))))))
+    (rw c.completed.ensures.attempts (retry_goes (names g.K.Ord.cmp g.S.Ord.cmp) c.self.inside.demand c.self.inside.stages.entries c.self.invariant.agree c.self.inside.stages.next_attempt c.self.inside.delay (status_of c.self.inside.status) c.args.now c.args.number c.args.outcome c.in-Ok.completion c.completed.new.self.entries l _ c.args.effects.now.items refl (sym c.in-Retry.is ∙ c.ruling_of.ensures))))
 
 pub returns-in-Retry-clause-memory : goal.returns-in-Retry-clause-memory
 returns-in-Retry-clause-memory g c = λ wants.
@@ -112,4 +110,4 @@ pub returns-in-Retire-clause-goes : goal.returns-in-Retire-clause-goes
 returns-in-Retire-clause-goes g c =
     let done = rw c.in-Ok.is at c.completed.ensures.answer in
     let l = live (names g.K.Ord.cmp g.S.Ord.cmp) c.self.inside.demand c.self.inside.stages.entries c.self.invariant.agree c.self.inside.stages.next_attempt c.self.inside.delay (status_of c.self.inside.status) c.args.now c.args.number c.args.outcome c.completed.new.self.entries c.in-Ok.completion done c.if-completion.false in
-    rw (← c.self.view_is, c.remove-in-Retire.ensures.after, c.remove-in-Retire-2.ensures, c.completed.ensures.attempts) (retire_goes (names g.K.Ord.cmp g.S.Ord.cmp) c.self.inside.demand c.self.inside.stages.entries c.self.invariant.agree c.self.inside.stages.next_attempt c.self.inside.delay (status_of c.self.inside.status) c.args.now c.args.number c.args.outcome c.in-Ok.completion c.completed.new.self.entries l c.args.effects.now.items (sym c.in-Retire.is ∙ (c.rule_on.ensures ∙ ap (λ b. ruling b c.args.outcome) (c.response_accepted.ensures ∙ ap (λ d. is_accepted g.K.Ord.cmp d c.in-Ok.completion.delivery.key) c.entries.ensures))))
+    rw (← c.self.view_is, c.remove-in-Retire.ensures.after, c.remove-in-Retire-2.ensures, c.completed.ensures.attempts) (retire_goes (names g.K.Ord.cmp g.S.Ord.cmp) c.self.inside.demand c.self.inside.stages.entries c.self.invariant.agree c.self.inside.stages.next_attempt c.self.inside.delay (status_of c.self.inside.status) c.args.now c.args.number c.args.outcome c.in-Ok.completion c.completed.new.self.entries l c.args.effects.now.items (sym c.in-Retire.is ∙ c.ruling_of.ensures))

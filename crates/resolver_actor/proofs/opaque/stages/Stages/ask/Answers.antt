@@ -11,23 +11,23 @@ pub invariant_of-self-in-Err : goal.invariant_of-self-in-Err
 invariant_of-self-in-Err g c =
     let is_next : c.in_ok-attempt.attempt ≡ c.self.inside.attempts = search rules in
     let led : c.in_ok-led.led ≡ c.args.key = c.requires.keys_clone _ _ c.in_ok-led.ensures.cases in
-    let put : (a : ℕ) → lookup (is_at (nat_cmp a)) c.insert.new.self.entries ≡ cond (is_at (nat_cmp c.self.inside.attempts) a) (Some c.args.key) (lookup (is_at (nat_cmp a)) c.self.inside.asked.entries) =
-    λ a. c.in_ok-insert.ensures.updates.0 a ∙ (ap (λ (n : ℕ). cond (is_at (nat_cmp n) a) (Some c.in_ok-led.led) (lookup (is_at (nat_cmp a)) c.self.inside.asked.entries)) is_next ∙ ap (λ k. cond (is_at (nat_cmp c.self.inside.attempts) a) (Some k) (lookup (is_at (nat_cmp a)) c.self.inside.asked.entries)) led) in
-    let gone : (a : ℕ) → lookup (is_at (nat_cmp a)) c.remove.new.self.entries ≡ cond (is_at (nat_cmp c.self.inside.attempts) a) None (lookup (is_at (nat_cmp a)) c.insert.new.self.entries) =
-    λ a. c.remove.ensures.updates.0 a ∙ ap (λ (n : ℕ). cond (is_at (nat_cmp n) a) None (lookup (is_at (nat_cmp a)) c.insert.new.self.entries)) is_next in
+    let put : (a : ℕ) → lookup (is_at (nat_cmp a)) c.insert.new.self ≡ cond (is_at (nat_cmp c.self.inside.attempts) a) (Some c.args.key) (lookup (is_at (nat_cmp a)) c.self.inside.asked) =
+    λ a. c.in_ok-insert.ensures.ok a ∙ (ap (λ (n : ℕ). cond (is_at (nat_cmp n) a) (Some c.in_ok-led.led) (lookup (is_at (nat_cmp a)) c.self.inside.asked)) is_next ∙ ap (λ k. cond (is_at (nat_cmp c.self.inside.attempts) a) (Some k) (lookup (is_at (nat_cmp a)) c.self.inside.asked)) led) in
+    let gone : (a : ℕ) → lookup (is_at (nat_cmp a)) c.remove.new.self ≡ cond (is_at (nat_cmp c.self.inside.attempts) a) None (lookup (is_at (nat_cmp a)) c.insert.new.self) =
+    λ a. c.remove.ensures a ∙ ap (λ (n : ℕ). cond (is_at (nat_cmp n) a) None (lookup (is_at (nat_cmp a)) c.insert.new.self)) is_next in
     rw c.in-Err.ensures.err
-    (led-undone g.met.K.Ord.total (eq_by_cmp_equiv g.met.K.Ord.total) c.args.key c.self.inside.attempts c.self.inside.asked.entries c.insert.new.self.entries c.remove.new.self.entries c.self.inside.entries.keys c.self.invariant.0 put gone, c.self.invariant.1)
+    (led-undone g.met.K.Ord.total (eq_by_cmp_equiv g.met.K.Ord.total) c.args.key c.self.inside.attempts c.self.inside.asked c.insert.new.self c.remove.new.self c.self.inside.entries.keys c.self.invariant.0 put gone, c.self.invariant.1)
 
 pub invariant_of-self-2 : goal.invariant_of-self-2
 invariant_of-self-2 g c =
     let is_next : c.in_ok-attempt.attempt ≡ c.self.inside.attempts = search rules in
     let led : c.in_ok-led.led ≡ c.args.key = c.requires.keys_clone _ _ c.in_ok-led.ensures.cases in
-    let put : (a : ℕ) → lookup (is_at (nat_cmp a)) c.insert.new.self.entries ≡ cond (is_at (nat_cmp c.self.inside.attempts) a) (Some c.args.key) (lookup (is_at (nat_cmp a)) c.self.inside.asked.entries) =
-    λ a. c.in_ok-insert.ensures.updates.0 a ∙ (ap (λ (n : ℕ). cond (is_at (nat_cmp n) a) (Some c.in_ok-led.led) (lookup (is_at (nat_cmp a)) c.self.inside.asked.entries)) is_next ∙ ap (λ k. cond (is_at (nat_cmp c.self.inside.attempts) a) (Some k) (lookup (is_at (nat_cmp a)) c.self.inside.asked.entries)) led) in
+    let put : (a : ℕ) → lookup (is_at (nat_cmp a)) c.insert.new.self ≡ cond (is_at (nat_cmp c.self.inside.attempts) a) (Some c.args.key) (lookup (is_at (nat_cmp a)) c.self.inside.asked) =
+    λ a. c.in_ok-insert.ensures.ok a ∙ (ap (λ (n : ℕ). cond (is_at (nat_cmp n) a) (Some c.in_ok-led.led) (lookup (is_at (nat_cmp a)) c.self.inside.asked)) is_next ∙ ap (λ k. cond (is_at (nat_cmp c.self.inside.attempts) a) (Some k) (lookup (is_at (nat_cmp a)) c.self.inside.asked)) led) in
     let counted : c.take.new.self ≡ c.self.inside.attempts + 1 = search rules in
     let absent = rw (← c.self.view_is) at c.requires.absent in
     let none = absent-kept g.K.Ord.cmp c.args.key c.self.inside.entries.keys absent in
     rw (counted, c.in_default.ensures.ok, absent, is_next) (
-      led-asked g.met.K.Ord.total (eq_by_cmp_equiv g.met.K.Ord.total) c.args.key c.self.inside.attempts c.self.inside.asked.entries c.insert.new.self.entries c.self.inside.entries.keys c.self.invariant.0 none put,
+      led-asked g.met.K.Ord.total (eq_by_cmp_equiv g.met.K.Ord.total) c.args.key c.self.inside.attempts c.self.inside.asked c.insert.new.self c.self.inside.entries.keys c.self.invariant.0 none put,
       due-asked g.met.K.Ord.total (eq_by_cmp_equiv g.met.K.Ord.total) c.args.key c.self.inside.retries c.self.inside.entries.keys c.self.invariant.1 c.self.inside.attempts none,
     )
