@@ -17,6 +17,11 @@ use std::test::Fail;
 /// A peer, and what it took: elapsed time and bytes.
 type Source = (Letter, u128, u64);
 
+/// What a poll gives.
+type Polled = Poll<Result<Completion<Letter, u8, Source>, Aborted>>;
+
+type Mocked = mocks::Consumer<Letter, Bytes, u8>;
+
 const COMPLETE: Outcome = Outcome::Resolved(Resolution::Complete);
 
 fn delivery(alloc: Global, key: u8) -> Result<Delivery<Letter, u8>, Fail> {
@@ -59,10 +64,7 @@ where
 }
 
 /// Writes what a poll gives.
-fn spell(
-    text: &mut String,
-    polled: Poll<Result<Completion<Letter, u8, Source>, Aborted>>,
-) -> Result<(), Fail> {
+fn spell(text: &mut String, polled: Polled) -> Result<(), Fail> {
     match polled {
         Poll::Ready(Ok(completion)) => writeln!(
             text,
@@ -78,8 +80,6 @@ fn spell(
     Ok(())
 }
 
-type Mocked = mocks::Consumer<Letter, Bytes, u8>;
-
 /// Answers the first delivery of a key that was removed meanwhile.
 fn removed_before_its_verdict(
     alloc: Global,
@@ -92,7 +92,7 @@ fn removed_before_its_verdict(
     if !tracker.remove(&Letter(1)) {
         return Err(Fail::from("a key that isn't tracked"));
     }
-    match task.enter(|cx| tracker.poll_completion(cx)) {
+    match polled_mocked(task, tracker) {
         Poll::Ready(Ok(completion)) => Ok(completion),
         _ => Err(Fail::from("no completion")),
     }
@@ -132,17 +132,14 @@ fn deliver_three(alloc: Global, tracker: &mut Tracker<Slow, Source, ()>) -> Resu
     Ok(())
 }
 
-/// Writes what the next poll gives.
-fn spell_next<C>(
-    text: &mut String,
-    task: &MockTask,
-    tracker: &mut Tracker<C, Source, ()>,
-) -> Result<(), Fail>
-where
-    C: Consumer<Key = Letter, Value = Bytes, Subscriber = u8> + Drop,
-    C::Outcome: Drop,
-{
-    spell(text, task.enter(|cx| tracker.poll_completion(cx)))
+/// What the next poll gives.
+fn polled_slow(task: &MockTask, tracker: &mut Tracker<Slow, Source, ()>) -> Polled {
+    task.enter(|cx| tracker.poll_completion(cx))
+}
+
+/// What the next poll gives.
+fn polled_mocked(task: &MockTask, tracker: &mut Tracker<Mocked, Source, ()>) -> Polled {
+    task.enter(|cx| tracker.poll_completion(cx))
 }
 
 /// Of three deliveries the second is judged, the first dropped, and the third canceled.
@@ -152,18 +149,18 @@ fn judge_three(
     judges: &mut mpsc::UnboundedReceiver<oneshot::Sender<Outcome>>,
     tracker: &mut Tracker<Slow, Source, ()>,
 ) -> Result<(), Fail> {
-    spell_next(text, task, tracker)?;
+    spell(text, polled_slow(task, tracker))?;
     let first = next_judge(task, judges)?;
     let second = next_judge(task, judges)?;
     let third = next_judge(task, judges)?;
     let _ = second.send(COMPLETE);
-    spell_next(text, task, tracker)?;
+    spell(text, polled_slow(task, tracker))?;
     drop(first);
-    spell_next(text, task, tracker)?;
+    spell(text, polled_slow(task, tracker))?;
     tracker.remove(&Letter(3));
-    spell_next(text, task, tracker)?;
+    spell(text, polled_slow(task, tracker))?;
     writeln!(text, "third canceled {}", third.is_canceled())?;
-    spell_next(text, task, tracker)
+    spell(text, polled_slow(task, tracker))
 }
 
 #[test]
@@ -199,7 +196,7 @@ fn accept_and_redeliver(
         "delivery {}",
         deliver(alloc, tracker, 1, (Letter(4), 0, 1))?
     )?;
-    spell_next(text, task, tracker)?;
+    spell(text, polled_mocked(task, tracker))?;
     spell_response(text, tracker)?;
     accept(tracker)?;
     spell_response(text, tracker)?;
@@ -208,7 +205,7 @@ fn accept_and_redeliver(
         text,
         Poll::Ready(tracker.completed(1, Some(Outcome::Ignored))),
     )?;
-    spell_next(text, task, tracker)?;
+    spell(text, polled_mocked(task, tracker))?;
     tracker.discard_response(&Letter(1));
     spell_response(text, tracker)
 }
