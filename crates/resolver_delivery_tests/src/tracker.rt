@@ -78,18 +78,32 @@ fn spell(
     Ok(())
 }
 
+type Mocked = mocks::Consumer<Letter, Bytes, u8>;
+
+/// Answers the first delivery of a key that was removed meanwhile.
+fn removed_before_its_verdict(
+    alloc: Global,
+    task: &MockTask,
+    tracker: &mut Tracker<Mocked, Source, ()>,
+) -> Result<Completion<Letter, u8, Source>, Fail> {
+    if !tracker.insert(Letter(1))? || deliver(alloc, tracker, 1, (Letter(4), 0, 1))? != 0 {
+        return Err(Fail::from("a key that isn't new"));
+    }
+    if !tracker.remove(&Letter(1)) {
+        return Err(Fail::from("a key that isn't tracked"));
+    }
+    match task.enter(|cx| tracker.poll_completion(cx)) {
+        Poll::Ready(Ok(completion)) => Ok(completion),
+        _ => Err(Fail::from("no completion")),
+    }
+}
+
 #[test]
 fn inflight_completion(rt: HostRuntime) -> Result<(), Fail> {
     let alloc = rt.alloc();
     let task = MockTask::new(&rt)?;
-    let consumer: mocks::Consumer<Letter, Bytes, u8> = mocks::Consumer::dummy(alloc)?;
-    let mut tracker: Tracker<_, Source, ()> = Tracker::new(alloc, consumer);
-    assert!(rt; tracker.insert(Letter(1))?);
-    assert_eq!(rt; deliver(alloc, &mut tracker, 1, (Letter(4), 0, 1))?, 0);
-    assert!(rt; tracker.remove(&Letter(1)));
-    let Poll::Ready(Ok(completion)) = task.enter(|cx| tracker.poll_completion(cx)) else {
-        return Err(Fail::from("no completion"));
-    };
+    let mut tracker = Tracker::new(alloc, Mocked::dummy(alloc)?);
+    let completion = removed_before_its_verdict(alloc, &task, &mut tracker)?;
     assert!(rt; completion.canceled);
     assert_eq!(rt; completion.context, (Letter(4), 0, 1));
     assert_eq!(rt; completion.outcome, Some(COMPLETE));
@@ -109,41 +123,110 @@ fn next_judge(
     }
 }
 
+/// Has three keys delivered.
+fn deliver_three(alloc: Global, tracker: &mut Tracker<Slow, Source, ()>) -> Result<(), Fail> {
+    for key in 1..4 {
+        tracker.insert(Letter(key))?;
+        let _ = deliver(alloc, tracker, key, (Letter(4), 0, 1))?;
+    }
+    Ok(())
+}
+
+/// Writes what the next poll gives.
+fn spell_next<C>(
+    text: &mut String,
+    task: &MockTask,
+    tracker: &mut Tracker<C, Source, ()>,
+) -> Result<(), Fail>
+where
+    C: Consumer<Key = Letter, Value = Bytes, Subscriber = u8> + Drop,
+    C::Outcome: Drop,
+{
+    spell(text, task.enter(|cx| tracker.poll_completion(cx)))
+}
+
 /// Of three deliveries the second is judged, the first dropped, and the third canceled.
+fn judge_three(
+    text: &mut String,
+    task: &MockTask,
+    judges: &mut mpsc::UnboundedReceiver<oneshot::Sender<Outcome>>,
+    tracker: &mut Tracker<Slow, Source, ()>,
+) -> Result<(), Fail> {
+    spell_next(text, task, tracker)?;
+    let first = next_judge(task, judges)?;
+    let second = next_judge(task, judges)?;
+    let third = next_judge(task, judges)?;
+    let _ = second.send(COMPLETE);
+    spell_next(text, task, tracker)?;
+    drop(first);
+    spell_next(text, task, tracker)?;
+    tracker.remove(&Letter(3));
+    spell_next(text, task, tracker)?;
+    writeln!(text, "third canceled {}", third.is_canceled())?;
+    spell_next(text, task, tracker)
+}
+
 #[test]
 fn verdicts_come_in_any_order(rt: HostRuntime) -> Result<(), Fail> {
     let alloc = rt.alloc();
     let task = MockTask::new(&rt)?;
     let mut text = String::new(alloc);
     let (sender, mut judges) = mpsc::unbounded(alloc)?;
-    let mut tracker: Tracker<_, Source, ()> = Tracker::new(
+    let slow = Slow {
         alloc,
-        Slow {
-            alloc,
-            judges: sender,
-        },
-    );
-    for key in 1..4 {
-        tracker.insert(Letter(key))?;
-        let _ = deliver(alloc, &mut tracker, key, (Letter(4), 0, 1))?;
-    }
-    spell(&mut text, task.enter(|cx| tracker.poll_completion(cx)))?;
-    let first = next_judge(&task, &mut judges)?;
-    let second = next_judge(&task, &mut judges)?;
-    let third = next_judge(&task, &mut judges)?;
-    let _ = second.send(COMPLETE);
-    spell(&mut text, task.enter(|cx| tracker.poll_completion(cx)))?;
-    drop(first);
-    spell(&mut text, task.enter(|cx| tracker.poll_completion(cx)))?;
-    tracker.remove(&Letter(3));
-    spell(&mut text, task.enter(|cx| tracker.poll_completion(cx)))?;
-    assert!(rt; third.is_canceled());
-    spell(&mut text, task.enter(|cx| tracker.poll_completion(cx)))?;
+        judges: sender,
+    };
+    let mut tracker = Tracker::new(alloc, slow);
+    deliver_three(alloc, &mut tracker)?;
+    judge_three(&mut text, &task, &mut judges, &mut tracker)?;
     assert_eq!(rt;
         text.as_str(),
-        "pending\n2 Some(Resolved(Complete)) canceled false accepted false\n1 None canceled false accepted false\naborted\npending\n"
+        "pending\n2 Some(Resolved(Complete)) canceled false accepted false\n1 None canceled false accepted false\naborted\nthird canceled true\npending\n"
     );
     Ok(())
+}
+
+/// Delivers the value of key 1, accepts it, hands it out again and discards it, and writes what is answered.
+fn accept_and_redeliver(
+    alloc: Global,
+    text: &mut String,
+    task: &MockTask,
+    tracker: &mut Tracker<Mocked, Source, ()>,
+) -> Result<(), Fail> {
+    tracker.insert(Letter(1))?;
+    writeln!(
+        text,
+        "delivery {}",
+        deliver(alloc, tracker, 1, (Letter(4), 0, 1))?
+    )?;
+    spell_next(text, task, tracker)?;
+    spell_response(text, tracker)?;
+    accept(tracker)?;
+    spell_response(text, tracker)?;
+    writeln!(text, "delivery {}", redeliver(alloc, tracker, 1)?)?;
+    spell(
+        text,
+        Poll::Ready(tracker.completed(1, Some(Outcome::Ignored))),
+    )?;
+    spell_next(text, task, tracker)?;
+    tracker.discard_response(&Letter(1));
+    spell_response(text, tracker)
+}
+
+/// Accepts the response of key 1.
+fn accept(tracker: &mut Tracker<Mocked, Source, ()>) -> Result<(), Fail> {
+    if tracker.entries().response(&Letter(1)).is_none() {
+        return Err(Fail::from("a key without a response"));
+    }
+    tracker.accept_response(&Letter(1));
+    Ok(())
+}
+
+/// Writes whether key 1 has a response, and whether that was accepted.
+fn spell_response(text: &mut String, tracker: &Tracker<Mocked, Source, ()>) -> Result<(), Fail> {
+    let has = tracker.entries().response(&Letter(1)).is_some();
+    let accepted = tracker.response_accepted(&Letter(1));
+    Ok(writeln!(text, "response {has} accepted {accepted}")?)
 }
 
 #[test]
@@ -151,44 +234,40 @@ fn an_accepted_response_is_handed_out_again(rt: HostRuntime) -> Result<(), Fail>
     let alloc = rt.alloc();
     let task = MockTask::new(&rt)?;
     let mut text = String::new(alloc);
-    let consumer: mocks::Consumer<Letter, Bytes, u8> = mocks::Consumer::dummy(alloc)?;
-    let mut tracker: Tracker<_, Source, ()> = Tracker::new(alloc, consumer);
-    tracker.insert(Letter(1))?;
-    assert_eq!(rt; deliver(alloc, &mut tracker, 1, (Letter(4), 0, 1))?, 0);
-    spell(&mut text, task.enter(|cx| tracker.poll_completion(cx)))?;
-    assert!(rt; !tracker.response_accepted(&Letter(1)));
-    if tracker.entries().response(&Letter(1)).is_none() {
-        return Err(Fail::from("a key without a response"));
-    }
-    tracker.accept_response(&Letter(1));
-    assert!(rt; tracker.response_accepted(&Letter(1)));
-    assert_eq!(rt; redeliver(alloc, &mut tracker, 1)?, 1);
-    let answered = tracker.completed(1, Some(Outcome::Ignored));
-    spell(&mut text, Poll::Ready(answered))?;
-    spell(&mut text, task.enter(|cx| tracker.poll_completion(cx)))?;
-    tracker.discard_response(&Letter(1));
-    assert!(rt; tracker.entries().response(&Letter(1)).is_none());
+    let mut tracker = Tracker::new(alloc, Mocked::dummy(alloc)?);
+    accept_and_redeliver(alloc, &mut text, &task, &mut tracker)?;
     assert_eq!(rt;
         text.as_str(),
-        "1 Some(Resolved(Complete)) canceled false accepted false\n1 Some(Ignored) canceled false accepted true\npending\n"
+        "delivery 0\n1 Some(Resolved(Complete)) canceled false accepted false\nresponse true accepted false\nresponse true accepted true\ndelivery 1\n1 Some(Ignored) canceled false accepted true\npending\nresponse false accepted false\n"
     );
+    Ok(())
+}
+
+/// Gives keys states, and writes what is answered.
+fn give_states(text: &mut String, tracker: &mut Tracker<Mocked, Source, u32>) -> Result<(), Fail> {
+    let first = tracker.insert_state(Letter(1), 20)?;
+    let second = tracker.insert_state(Letter(1), 30)?;
+    writeln!(
+        text,
+        "{first} {second} {:?}",
+        tracker.state(&Letter(1)).copied()
+    )?;
+    for key in 2..5 {
+        tracker.insert_state(Letter(key), 40)?;
+    }
+    let kept = tracker.retain(|key| key.0 != 2);
+    writeln!(text, "{kept} {}", tracker.contains(&Letter(2)))?;
+    let drained = tracker.drain();
+    writeln!(text, "{drained} {}", tracker.contains(&Letter(1)))?;
     Ok(())
 }
 
 #[test]
 fn keys_have_a_state(rt: HostRuntime) -> Result<(), Fail> {
     let alloc = rt.alloc();
-    let consumer: mocks::Consumer<Letter, Bytes, u8> = mocks::Consumer::dummy(alloc)?;
-    let mut tracker: Tracker<_, Source, u32> = Tracker::new(alloc, consumer);
-    assert!(rt; tracker.insert_state(Letter(1), 20)?);
-    assert!(rt; !tracker.insert_state(Letter(1), 30)?);
-    assert_eq!(rt; tracker.state(&Letter(1)).copied(), Some(20));
-    for key in 2..5 {
-        tracker.insert_state(Letter(key), 40)?;
-    }
-    assert_eq!(rt; tracker.retain(|key| key.0 != 2), 1);
-    assert!(rt; !tracker.contains(&Letter(2)));
-    assert_eq!(rt; tracker.drain(), 3);
-    assert!(rt; !tracker.contains(&Letter(1)));
+    let mut text = String::new(alloc);
+    let mut tracker = Tracker::new(alloc, Mocked::dummy(alloc)?);
+    give_states(&mut text, &mut tracker)?;
+    assert_eq!(rt; text.as_str(), "true false Some(20)\n1 false\n3 false\n");
     Ok(())
 }

@@ -18,9 +18,12 @@ type Over = Result<Completion<u16, u16, u64>, Aborted>;
 #[derive(Clone, Copy)]
 enum Call {
     Insert(u16),
+    /// This key isn't there.
+    InsertNew(u16),
     /// Each key below this one is put, and those that are new are counted.
     InsertBelow(u16),
     Remove(u16),
+    Take(u16),
     /// The value 5 is handed out for this key, in this context.
     Deliver(u16, u64),
     /// The response of this key is handed out again.
@@ -54,6 +57,13 @@ fn insert(entries: &mut Tracked, key: u16) -> Result<bool, Fault> {
     entries.insert(key)
 }
 
+fn insert_new(entries: &mut Tracked, key: u16) -> Result<(), Fail> {
+    if entries.contains(&key) {
+        return Err(Fail::from("a key that is there"));
+    }
+    Ok(entries.insert_new(key, ())?)
+}
+
 fn insert_below(entries: &mut Tracked, end: u16) -> Result<u16, Fault> {
     let mut count = 0u16;
     for key in 0..end {
@@ -66,6 +76,16 @@ fn insert_below(entries: &mut Tracked, end: u16) -> Result<u16, Fault> {
 
 fn remove(entries: &mut Tracked, key: u16) -> bool {
     entries.remove(&key)
+}
+
+/// The number of a key's delivery and the value of its response, where there was the key.
+fn take(entries: &mut Tracked, key: u16) -> Option<(Option<u64>, Option<u8>)> {
+    let entry = entries.take(&key)?;
+    let value = match entry.response {
+        Some(response) => Some(response.value),
+        None => None,
+    };
+    Some((entry.number, value))
 }
 
 fn contains(entries: &Tracked, key: u16) -> bool {
@@ -189,8 +209,10 @@ fn change(text: &mut String, entries: &mut Tracked, call: Call) -> Result<(), Fa
     let alloc = *text.allocator();
     match call {
         Call::Insert(key) => spell_flag(text, insert(entries, key)?)?,
+        Call::InsertNew(key) => insert_new(entries, key)?,
         Call::InsertBelow(end) => write!(text, " {}", insert_below(entries, end)?)?,
         Call::Remove(key) => spell_flag(text, remove(entries, key))?,
+        Call::Take(key) => write!(text, " {:?}", take(entries, key))?,
         Call::Deliver(key, of) => write!(text, " {}", deliver(entries, alloc, key, of)?)?,
         Call::Redeliver(key) => write!(text, " {}", redeliver(entries, alloc, key)?)?,
         Call::Accept(key) => accept(entries, key)?,
@@ -410,6 +432,27 @@ fn clears_all_but_the_numbers(rt: HostRuntime) -> Result<(), Fail> {
     assert_eq!(rt;
         told(rt.alloc(), &calls)?.as_str(),
         " true 0 Some(Some(0)) None None None true 1"
+    );
+    Ok(())
+}
+
+#[test]
+fn gives_what_was_kept_of_a_key(rt: HostRuntime) -> Result<(), Fail> {
+    let calls = [
+        Call::InsertNew(1),
+        Call::InsertNew(2),
+        Call::Deliver(1, 40),
+        Call::Take(1),
+        Call::Look(Look::Contains(1)),
+        Call::Take(1),
+        Call::InsertNew(1),
+        Call::Take(2),
+        Call::Look(Look::Keys),
+        Call::Look(Look::Number(1)),
+    ];
+    assert_eq!(rt;
+        told(rt.alloc(), &calls)?.as_str(),
+        " 0 Some((Some(0), Some(5))) false None Some((None, None)) 1 None"
     );
     Ok(())
 }

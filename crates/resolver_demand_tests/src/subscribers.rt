@@ -37,6 +37,9 @@ type List<'a> = &'a [(u16, u64)];
 #[derive(Clone, Copy)]
 enum Call<'a> {
     Insert(u16, List<'a>),
+    Attach(u16, List<'a>),
+    /// This key isn't there.
+    InsertNew(u16, List<'a>),
     Pending(u16),
     Delivered(u16, List<'a>),
     /// Keeps the even subscribers.
@@ -85,6 +88,29 @@ fn insert(alloc: Global, tracker: &mut Demand, key: u16, subscribers: List) -> R
     Ok(tracker.insert(key, list(alloc, subscribers)?)?)
 }
 
+/// Attaches subscribers to a key, and gives those that are handed back.
+fn attach(
+    alloc: Global,
+    tracker: &mut Demand,
+    key: u16,
+    subscribers: List,
+) -> Result<Option<NonEmptyVec<(u16, u64)>>, Fail> {
+    Ok(tracker.attach(&key, list(alloc, subscribers)?)?)
+}
+
+fn insert_new(
+    alloc: Global,
+    tracker: &mut Demand,
+    key: u16,
+    subscribers: List,
+) -> Result<(), Fail> {
+    let subscribers = list(alloc, subscribers)?;
+    if tracker.contains(&key) {
+        return Err(Fail::from("a key that is there"));
+    }
+    Ok(tracker.insert_new(key, subscribers)?)
+}
+
 fn pending(tracker: &Demand, key: u16) -> Result<Option<NonEmptyVec<(u16, u64)>>, Fault> {
     tracker.pending(&key)
 }
@@ -115,6 +141,8 @@ fn make(text: &mut String, tracker: &mut Demand, call: Call) -> Result<(), Fail>
     let alloc = *text.allocator();
     match call {
         Call::Insert(key, list) => spell_flag(text, insert(alloc, tracker, key, list)?),
+        Call::Attach(key, list) => spell_some(text, attach(alloc, tracker, key, list)?),
+        Call::InsertNew(key, list) => insert_new(alloc, tracker, key, list),
         Call::Pending(key) => spell_some(text, pending(tracker, key)?),
         Call::Delivered(key, list) => spell_some(text, delivered(alloc, tracker, key, list)?),
         Call::Retain => spell_keys(text, retain(tracker)?.as_slice()),
@@ -224,6 +252,27 @@ fn tracker_all_delivered(rt: HostRuntime) -> Result<(), Fail> {
     assert_eq!(rt;
         told(rt.alloc(), &calls)?.as_str(),
         " true\n nobody\n false\n nobody\n"
+    );
+    Ok(())
+}
+
+#[test]
+fn tracker_takes_a_new_key_or_attaches(rt: HostRuntime) -> Result<(), Fail> {
+    let calls = [
+        Call::Attach(1, &[(12, 7), (10, 7)]),
+        Call::Contains(1),
+        Call::InsertNew(1, &[(12, 7), (10, 7)]),
+        Call::InsertNew(2, &[(20, 1), (21, 2), (22, 3)]),
+        Call::Attach(1, &[(10, 8), (11, 8)]),
+        Call::Attach(2, &[(19, 4), (22, 5), (23, 6)]),
+        Call::Pending(1),
+        Call::Pending(2),
+        Call::InsertNew(3, &[(30, 1), (30, 2)]),
+        Call::Pending(3),
+    ];
+    assert_eq!(rt;
+        told(rt.alloc(), &calls)?.as_str(),
+        " 12:7 10:7\n false\n\n\n nobody\n nobody\n 10:7 11:8 12:7\n 19:4 20:1 21:2 22:3 23:6\n\n 30:1\n"
     );
     Ok(())
 }
