@@ -1,7 +1,5 @@
 //! Effects and rows as lines.
 
-ghost use Rattle.std.specs.Prelude.{◌≤◌, ◌<◌, length};
-
 pub mod opaque;
 pub mod peers;
 
@@ -76,33 +74,12 @@ fn subscribers<W: Write>(output: &mut W, subscribers: &[(u16, u64)]) -> io::Resu
 fn bytes<W: Write>(output: &mut W, bytes: &[u8]) -> io::Result<()> {
     output.write_all(b" x")?;
     for some in bytes.chunks(CHUNK) {
-        let digits = hexadecimal(some);
-        output.write_all(&digits[..2 * some.len()])?;
+        let mut room = [0; 2 * CHUNK];
+        let digits = &mut room[..2 * some.len()];
+        let _ = hex::encode_to_slice(some, digits);
+        output.write_all(digits)?;
     }
     Ok(())
-}
-
-/// Two hexadecimal digits for each of a few bytes.
-fn hexadecimal(bytes: &[u8]) -> [u8; 2 * CHUNK]
-    requires { length bytes.now ≤ 16 }
-{
-    let mut digits = [0; 2 * CHUNK];
-    for (i, byte) in bytes.iter().enumerate() {
-        digits[2 * i] = digit(*byte / 16);
-        digits[2 * i + 1] = digit(*byte % 16);
-    }
-    digits
-}
-
-/// A hexadecimal digit.
-fn digit(number: u8) -> u8
-    requires { number < 16 }
-{
-    if number < 10 {
-        b'0' + number
-    } else {
-        b'a' + (number - 10)
-    }
 }
 
 /// Prints a demanded key, and its subscribers with their marks, joined by commas.
