@@ -5,10 +5,14 @@ pub mod peers;
 
 use crate::endings::{Fault, written};
 use bytes::Bytes;
+use itoa::Buffer;
 use resolver::p2p::mocks::Key;
 use resolver::{Delivery, base};
 use std::io;
 use std::io::Write;
+
+/// So many bytes are printed at once.
+const CHUNK: usize = 16;
 
 /// Prints a refusal as one line.
 pub fn refusal<W: Write>(output: &mut W, fault: base::Fault) -> Result<(), Fault> {
@@ -33,31 +37,47 @@ fn deliver<W: Write>(
     delivery: &Delivery<Key, u16>,
     value: &Bytes,
 ) -> io::Result<()> {
-    write!(output, "deliver {number} {} ", delivery.key.0)?;
+    word_and_number(output, b"deliver ", number)?;
+    word_and_number(output, b" ", u64::from(delivery.key.0))?;
     subscribers(output, delivery.subscribers.as_slice())?;
-    write!(output, " ")?;
     bytes(output, value.as_slice())?;
     if response != number {
-        write!(output, " again {response}")?;
+        word_and_number(output, b" again ", response)?;
     }
-    writeln!(output)
+    output.write_all(b"\n")
 }
 
-/// Prints the subscribers' names, joined by commas.
+/// Prints a word and a number behind it.
+fn word_and_number<W: Write>(output: &mut W, word: &[u8], number: u64) -> io::Result<()> {
+    output.write_all(word)?;
+    let mut digits = Buffer::new();
+    output.write_all(digits.format(number).as_bytes())
+}
+
+/// Prints a word and a number behind it as one line.
+fn line_of_number<W: Write>(output: &mut W, word: &[u8], number: u64) -> io::Result<()> {
+    word_and_number(output, word, number)?;
+    output.write_all(b"\n")
+}
+
+/// Prints the subscribers' names, joined by commas, behind a space.
 fn subscribers<W: Write>(output: &mut W, subscribers: &[(u16, u64)]) -> io::Result<()> {
-    let mut comma = "";
+    let mut before: &[u8] = b" ";
     for (subscriber, _) in subscribers {
-        write!(output, "{comma}{subscriber}")?;
-        comma = ",";
+        word_and_number(output, before, u64::from(*subscriber))?;
+        before = b",";
     }
     Ok(())
 }
 
-/// Prints bytes as `x` and hexadecimal digits.
+/// Prints bytes as `x` and hexadecimal digits, behind a space.
 fn bytes<W: Write>(output: &mut W, bytes: &[u8]) -> io::Result<()> {
-    write!(output, "x")?;
-    for byte in bytes {
-        write!(output, "{byte:02x}")?;
+    output.write_all(b" x")?;
+    for some in bytes.chunks(CHUNK) {
+        let mut room = [0; 2 * CHUNK];
+        let digits = &mut room[..2 * some.len()];
+        let _ = hex::encode_to_slice(some, digits);
+        output.write_all(digits)?;
     }
     Ok(())
 }

@@ -163,13 +163,19 @@ fn read_fields(alloc: Global, fields: &mut Fields<'_>) -> Result<Command, Unread
 
 /// What a line says that begins with this word.
 fn read_command(alloc: Global, word: &str, fields: &mut Fields<'_>) -> Result<Command, Unread> {
+    if let Some(said) = of_both_machines(alloc, word, fields)? {
+        return Ok(Command::Happens(said));
+    }
+    if let Some(said) = of_sources(alloc, word, fields)? {
+        return Ok(Command::Happens(said));
+    }
     if let Some(command) = of_the_script(word, fields)? {
         return Ok(command);
     }
     if let Some(answer) = of_scans(word, fields)? {
         return Ok(Command::Answers(answer));
     }
-    match read_said(alloc, word, fields)? {
+    match of_peers(alloc, word, fields)? {
         Some(said) => Ok(Command::Happens(said)),
         None => Err(Unread::Unreadable(Why::NoWord)),
     }
@@ -196,15 +202,4 @@ fn read_timing(fields: &mut Fields<'_>) -> Result<Timing, Unread> {
     let timeout = timeout(fields.next())?;
     let delay = moment(fields.next())?.nanoseconds;
     Ok(Timing { me, timeout, delay })
-}
-
-/// What a line says that happened, if its word says so.
-fn read_said(alloc: Global, word: &str, fields: &mut Fields<'_>) -> Result<Option<Said>, Unread> {
-    if let Some(said) = of_both_machines(alloc, word, fields)? {
-        return Ok(Some(said));
-    }
-    if let Some(said) = of_sources(alloc, word, fields)? {
-        return Ok(Some(said));
-    }
-    of_peers(alloc, word, fields)
 }

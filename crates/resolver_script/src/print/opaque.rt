@@ -1,6 +1,6 @@
 //! Effects and rows of the actor, which fetches from an opaque source, as lines.
 
-use crate::print::{deliver, demand};
+use crate::print::{deliver, demand, line_of_number, word_and_number};
 use bytes::Bytes;
 use resolver::opaque::{Effect, Phase, Row};
 use resolver::p2p::mocks::Key;
@@ -10,15 +10,18 @@ use std::io::Write;
 /// Prints an effect as one line.
 pub fn effect<W: Write>(output: &mut W, effect: &Effect<Key, Bytes, u16>) -> io::Result<()> {
     match effect {
-        Effect::Start { attempt, key } => writeln!(output, "start {attempt} {}", key.0),
-        Effect::Abort { attempt } => writeln!(output, "abort {attempt}"),
+        Effect::Start { attempt, key } => {
+            word_and_number(output, b"start ", *attempt)?;
+            line_of_number(output, b" ", u64::from(key.0))
+        }
+        Effect::Abort { attempt } => line_of_number(output, b"abort ", *attempt),
         Effect::Deliver {
             number,
             response,
             delivery,
             value,
         } => deliver(output, *number, *response, delivery, value),
-        Effect::Cancel { number } => writeln!(output, "cancel {number}"),
+        Effect::Cancel { number } => line_of_number(output, b"cancel ", *number),
     }
 }
 

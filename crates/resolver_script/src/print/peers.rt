@@ -38,7 +38,7 @@ fn question<W: Write>(output: &mut W, ask: &Ask<Key, Peer>) -> io::Result<()> {
 }
 
 fn reply<W: Write>(output: &mut W, peer: Peer, message: &[u8]) -> io::Result<()> {
-    write!(output, "reply {peer} ")?;
+    write!(output, "reply {peer}")?;
     bytes(output, message)?;
     writeln!(output)
 }
