@@ -11,9 +11,6 @@ use resolver::{Delivery, base};
 use std::io;
 use std::io::Write;
 
-/// So many bytes are printed at once.
-const CHUNK: usize = 16;
-
 /// Prints a refusal as one line.
 pub fn refusal<W: Write>(output: &mut W, fault: base::Fault) -> Result<(), Fault> {
     let number = fault.number();
@@ -73,11 +70,10 @@ fn subscribers<W: Write>(output: &mut W, subscribers: &[(u16, u64)]) -> io::Resu
 /// Prints bytes as `x` and hexadecimal digits, behind a space.
 fn bytes<W: Write>(output: &mut W, bytes: &[u8]) -> io::Result<()> {
     output.write_all(b" x")?;
-    for some in bytes.chunks(CHUNK) {
-        let mut room = [0; 2 * CHUNK];
-        let digits = &mut room[..2 * some.len()];
-        let _ = hex::encode_to_slice(some, digits);
-        output.write_all(digits)?;
+    for byte in bytes {
+        let mut digits = [0; 2];
+        let _ = hex::encode_to_slice([*byte], &mut digits);
+        output.write_all(&digits)?;
     }
     Ok(())
 }
