@@ -233,6 +233,46 @@ fn asks_for_the_second(rt: &impl Abort, alloc: Global, fetcher: &mut Node) -> Re
     goes_on(rt, alloc, fetcher, &calls)
 }
 
+/// The first key is tried again: all four peers are at hand again, and peer 6 is asked.
+fn asks_for_the_first(rt: &impl Abort, alloc: Global, fetcher: &mut Node) -> Result<(), Fault> {
+    let calls = [
+        (Call::Phase(2), Seen::Phase(None, Some((5, 6)))),
+        (Call::Phase(1), Seen::Phase(Some((5, false)), None)),
+        begins(7, 4),
+        drawn(0, Seen::Draw(8)),
+        drawn(2, Seen::Check(4)),
+        clear(requests(4, 6, 1)),
+        sent(false, Seen::Draw(4)),
+        drawn(0, Seen::Draw(7)),
+        drawn(6, Seen::Check(8)),
+        until(20, Seen::Draw(4)),
+        drawn(0, Seen::Draw(6)),
+        drawn(2, Seen::Check(6)),
+        clear(requests(6, 7, 1)),
+        sent(true, Seen::Over),
+        (Call::Phase(1), Seen::Phase(None, Some((7, 6)))),
+    ];
+    goes_on(rt, alloc, fetcher, &calls)
+}
+
+/// Both keys are asked for, one after the other.
+fn asks_for_both(rt: &impl Abort, alloc: Global, fetcher: &mut Node) -> Result<(), Fault> {
+    asks_for_the_second(rt, alloc, fetcher)?;
+    asks_for_the_first(rt, alloc, fetcher)
+}
+
+/// The same of a new fetcher.
+fn two_keys(rt: &impl Abort, alloc: Global) -> Result<(), Fault> {
+    let mut fetcher = Fetcher::new(alloc, config());
+    asks_for_both(rt, alloc, &mut fetcher)
+}
+
+#[test]
+fn a_second_key_has_all_peers_again(rt: HostRuntime) -> Result<(), Fail> {
+    two_keys(&rt, rt.alloc())?;
+    Ok(())
+}
+
 /// A request is over after three seconds, and a retry waits for one.
 fn in_seconds(alloc: Global) -> Node {
     let second = u128::from(SECOND);
@@ -284,6 +324,51 @@ fn has_no_time(rt: &impl Abort, alloc: Global, fetcher: &mut Node) -> Result<(),
     goes_on(rt, alloc, fetcher, &calls)
 }
 
+/// Peer 4 is drawn with what it weighs since, and peer 6 once it has responded with nothing.
+fn weighs_less(rt: &impl Abort, alloc: Global, fetcher: &mut Node) -> Result<(), Fault> {
+    let later = 5 * SECOND;
+    let moment = u128::from(later);
+    let calls = [
+        waits(3, 4 * SECOND),
+        begins(4 * SECOND, 4),
+        drawn(0, Seen::Draw(9)),
+        drawn(2, Seen::Check(6)),
+        until(moment, Seen::Draw(4)),
+        drawn(0, Seen::Draw(2)),
+        drawn(1, Seen::Check(4)),
+        until(moment + 1, Seen::Draw(4)),
+        drawn(0, Seen::Draw(1)),
+        drawn(0, Seen::Check(2)),
+        until(moment + 2, Seen::Over),
+        wakes(moment),
+        responds(6, 0),
+        weighs(6, Some(4)),
+        begins(later, 4),
+        drawn(0, Seen::Draw(6)),
+        drawn(5, Seen::Check(6)),
+    ];
+    goes_on(rt, alloc, fetcher, &calls)
+}
+
+/// Peer 4 is charged twice, and is drawn by what is left.
+fn changes_weights(rt: &impl Abort, alloc: Global, fetcher: &mut Node) -> Result<(), Fault> {
+    has_no_data(rt, alloc, fetcher)?;
+    has_no_time(rt, alloc, fetcher)?;
+    weighs_less(rt, alloc, fetcher)
+}
+
+/// The same of a new fetcher.
+fn changed_weights(rt: &impl Abort, alloc: Global) -> Result<(), Fault> {
+    let mut fetcher = in_seconds(alloc);
+    changes_weights(rt, alloc, &mut fetcher)
+}
+
+#[test]
+fn weights_change_between_scans(rt: HostRuntime) -> Result<(), Fail> {
+    changed_weights(&rt, rt.alloc())?;
+    Ok(())
+}
+
 /// Peer 3 is the local one.
 fn of_peer_three(alloc: Global) -> Node {
     let config = Config {
@@ -329,6 +414,44 @@ fn draws_around(rt: &impl Abort, alloc: Global, fetcher: &mut Node) -> Result<()
     goes_on(rt, alloc, fetcher, &calls)
 }
 
+/// Peer 5 comes back with what it responded, and peer 2 responds while it is blocked.
+fn draws_among_others(rt: &impl Abort, alloc: Global, fetcher: &mut Node) -> Result<(), Fault> {
+    let calls = [
+        (Call::Blocked(&[2, 6]), Seen::Done),
+        responds(2, 9),
+        weighs(2, Some(0)),
+        weighs(5, Some(71)),
+        begins(10, 5),
+        drawn(0, Seen::Draw(80)),
+        drawn(6, Seen::Check(5)),
+        until(20, Seen::Draw(5)),
+        drawn(4, Seen::Draw(3)),
+        drawn(2, Seen::Check(7)),
+        until(30, Seen::Draw(5)),
+        drawn(0, Seen::Draw(6)),
+        drawn(2, Seen::Check(4)),
+    ];
+    goes_on(rt, alloc, fetcher, &calls)
+}
+
+/// Peers are drawn around one that is blocked, and then among others.
+fn draws_between(rt: &impl Abort, alloc: Global, fetcher: &mut Node) -> Result<(), Fault> {
+    draws_around(rt, alloc, fetcher)?;
+    draws_among_others(rt, alloc, fetcher)
+}
+
+/// The same of a new fetcher.
+fn drawn_between(rt: &impl Abort, alloc: Global) -> Result<(), Fault> {
+    let mut fetcher = of_peer_three(alloc);
+    draws_between(rt, alloc, &mut fetcher)
+}
+
+#[test]
+fn peers_of_no_weight_between(rt: HostRuntime) -> Result<(), Fail> {
+    drawn_between(&rt, rt.alloc())?;
+    Ok(())
+}
+
 /// Peers that weigh 2, 5 and 3 are known, and the second is asked for key 1 under the id 5. Then it
 /// leaves the set.
 fn leaves_while_asked(rt: &impl Abort, alloc: Global, fetcher: &mut Node) -> Result<(), Fault> {
@@ -348,6 +471,51 @@ fn leaves_while_asked(rt: &impl Abort, alloc: Global, fetcher: &mut Node) -> Res
         weighs(4, None),
     ];
     goes_on(rt, alloc, fetcher, &calls)
+}
+
+/// Those that stay keep their scores, and peer 4 comes back without one.
+fn comes_back(rt: &impl Abort, alloc: Global, fetcher: &mut Node) -> Result<(), Fault> {
+    let calls = [
+        waits(2, 1),
+        begins(1, 4),
+        drawn(0, Seen::Draw(5)),
+        drawn(2, Seen::Check(6)),
+        until(8, Seen::Draw(4)),
+        drawn(0, Seen::Draw(2)),
+        drawn(1, Seen::Check(2)),
+        until(9, Seen::Over),
+        wakes(8),
+        (Call::Peers(&[4, 2, 6]), Seen::Done),
+        weighs(4, Some(1)),
+        begins(2, 4),
+        drawn(0, Seen::Draw(6)),
+        drawn(2, Seen::Check(4)),
+        clear(requests(4, 6, 2)),
+        sent(true, Seen::Over),
+        (
+            Call::Response { peer: 4, at: 3 },
+            Seen::Answered(Some((1, 3))),
+        ),
+    ];
+    goes_on(rt, alloc, fetcher, &calls)
+}
+
+/// Peer 4 leaves the set, and comes back.
+fn leaves_and_comes_back(rt: &impl Abort, alloc: Global, fetcher: &mut Node) -> Result<(), Fault> {
+    leaves_while_asked(rt, alloc, fetcher)?;
+    comes_back(rt, alloc, fetcher)
+}
+
+/// The same of a new fetcher.
+fn left_and_back(rt: &impl Abort, alloc: Global) -> Result<(), Fault> {
+    let mut fetcher = Fetcher::new(alloc, config());
+    leaves_and_comes_back(rt, alloc, &mut fetcher)
+}
+
+#[test]
+fn peers_that_leave_and_come_back(rt: HostRuntime) -> Result<(), Fail> {
+    left_and_back(&rt, rt.alloc())?;
+    Ok(())
 }
 
 #[test]
