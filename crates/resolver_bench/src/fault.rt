@@ -9,7 +9,7 @@ use thiserror::Error;
 
 #[derive(Clone, Copy, Debug, Error, PartialEq, Eq)]
 pub enum Fault {
-    #[error("no number of keys")]
+    #[error("no number of keys or peers")]
     Size,
     #[error("memory")]
     Memory,

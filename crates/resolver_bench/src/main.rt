@@ -1,14 +1,17 @@
-//! `resolver-bench` drives the opaque actor, the engine's core and a full mailbox with many keys, and one
-//! key with many subscribers, and prints how many steps that took and what they had. With a number
-//! of keys as its argument, and of that key's subscribers, it prints nanoseconds a step too. It is no
-//! part of the product.
+//! `resolver-bench` drives the opaque actor, the engine's core, a fetcher and a full mailbox with many keys, one
+//! key with many subscribers, and an index with many places, and prints how many steps that took and what they
+//! had. With a number of keys as its argument, and of that key's subscribers, it prints nanoseconds a step too;
+//! with a number of peers as a second argument it drives only what knows peers. It is no part of the product.
 #![tactic(auto)]
 
 mod actor;
 mod engine;
 mod fault;
+mod fetcher;
+mod index;
 mod mailbox;
 mod name;
+mod scans;
 mod spent;
 mod tracker;
 mod workload;
@@ -20,10 +23,14 @@ use std::env::Env;
 use std::process::ExitCode;
 use std::random::RandomSource;
 use std::rt::Clock;
+use std::str::FromStr;
 use std::sync::Wait;
 
 /// How many keys there are where no argument says it.
 const FEW: u64 = 100;
+
+/// How many peers there are, in turn, where no argument says it.
+const PEERS: [u16; 3] = [16, 256, 4_096];
 
 fn main(rt: HostRuntime) -> ExitCode {
     match run(&rt) {
@@ -38,37 +45,73 @@ fn main(rt: HostRuntime) -> ExitCode {
 fn run<R: AllocGlobal + Clock + Env + Print + Wait + RandomSource + Copy + Drop>(
     rt: &R,
 ) -> Result<(), Fault> {
-    let size = asked_size(rt)?;
+    let (size, peers) = asked(rt)?;
     let keys = size.unwrap_or(FEW);
-    for one in &actor::run(rt, keys)? {
-        print(rt, one, size.is_some())?;
+    match peers {
+        Some(count) => run_peers(rt, keys, count, true),
+        None => run_all(rt, keys, size.is_some()),
     }
-    for one in &mailbox::run(*rt, keys)? {
-        print(rt, one, size.is_some())?;
-    }
-    for one in &tracker::run(rt, keys)? {
-        print(rt, one, size.is_some())?;
-    }
-    for peers in [16, 256] {
-        println!(rt; "with {peers} peers:")?;
-        for one in &engine::run(rt, keys, peers)? {
-            print(rt, one, size.is_some())?;
-        }
+}
+
+/// Drives all, and what knows peers with few and with many of them.
+fn run_all<R: AllocGlobal + Clock + Print + Wait + RandomSource + Copy + Drop>(
+    rt: &R,
+    keys: u64,
+    with_time: bool,
+) -> Result<(), Fault> {
+    print_all(rt, &actor::run(rt, keys)?, with_time)?;
+    print_all(rt, &mailbox::run(*rt, keys)?, with_time)?;
+    print_all(rt, &tracker::run(rt, keys)?, with_time)?;
+    for count in PEERS {
+        run_peers(rt, keys, count, with_time)?;
     }
     Ok(())
 }
 
-/// The number of keys that the first argument says, if there is one.
-fn asked_size(rt: &(impl AllocGlobal + Env)) -> Result<Option<u64>, Fault> {
+/// Drives what knows peers, with so many of them.
+fn run_peers(
+    rt: &(impl AllocGlobal + Clock + Print),
+    keys: u64,
+    peers: u16,
+    with_time: bool,
+) -> Result<(), Fault> {
+    println!(rt; "with {peers} peers:")?;
+    print_all(rt, &engine::run(rt, keys, peers)?, with_time)?;
+    print_all(rt, &scans::run(rt, keys, peers)?, with_time)?;
+    print_all(rt, &index::run(rt, keys, peers)?, with_time)
+}
+
+/// The numbers of keys and of peers that the arguments say, where they do.
+fn asked(rt: &(impl AllocGlobal + Env)) -> Result<(Option<u64>, Option<u16>), Fault> {
     let mut arguments = env::args(rt)?;
     let _ = arguments.next();
-    match arguments.next() {
-        None => Ok(None),
-        Some(digits) => match digits.parse::<u64>() {
-            Ok(size) => Ok(Some(size)),
-            Err(_) => Err(Fault::Size),
-        },
+    let keys = match arguments.next() {
+        Some(digits) => Some(number(&digits)?),
+        None => None,
+    };
+    let peers = match arguments.next() {
+        Some(digits) => Some(number(&digits)?),
+        None => None,
+    };
+    Ok((keys, peers))
+}
+
+/// The number that these digits write.
+fn number<T: FromStr>(digits: &str) -> Result<T, Fault>
+where
+    T::Err: Drop,
+{
+    match digits.parse::<T>() {
+        Ok(number) => Ok(number),
+        Err(_) => Err(Fault::Size),
     }
+}
+
+fn print_all(rt: &impl Print, all: &[Spent], with_time: bool) -> Result<(), Fault> {
+    for one in all {
+        print(rt, one, with_time)?;
+    }
+    Ok(())
 }
 
 fn print(rt: &impl Print, spent: &Spent, with_time: bool) -> Result<(), Fault> {

@@ -14,6 +14,18 @@ pub enum Kind {
     Attach,
     Together,
     Merge,
+    Ready,
+    Idle,
+    Wake,
+    Scan,
+    Respond,
+    Round,
+    Aimed,
+    Limit,
+    Anew,
+    Index,
+    Pick,
+    Set,
 }
 
 impl Kind {
@@ -24,6 +36,10 @@ impl Kind {
             Kind::Wait | Kind::Ask => "effects",
             Kind::Put | Kind::Take => "fetches",
             Kind::Attach | Kind::Together | Kind::Merge => "subscribers",
+            Kind::Ready | Kind::Wake => "keys",
+            Kind::Idle | Kind::Limit => "questions",
+            Kind::Scan | Kind::Respond | Kind::Round | Kind::Aimed | Kind::Anew => "requests",
+            Kind::Index | Kind::Pick | Kind::Set => "places",
         }
     }
 
@@ -41,12 +57,24 @@ impl Kind {
             Kind::Attach => "attach",
             Kind::Together => "attach together",
             Kind::Merge => "merge",
+            Kind::Ready => "ready",
+            Kind::Idle => "scan, all blocked",
+            Kind::Wake => "wake-up",
+            Kind::Scan => "scan",
+            Kind::Respond => "respond",
+            Kind::Round => "round",
+            Kind::Aimed => "scan for a key with targets",
+            Kind::Limit => "peer in vain",
+            Kind::Anew => "scan of new peers",
+            Kind::Index => "index",
+            Kind::Pick => "pick",
+            Kind::Set => "set",
         }
     }
 }
 
-/// What the steps of one kind took, and how many effects, fetches of the mailbox, or subscribers of a key
-/// they had.
+/// What the steps of one kind took, and how many effects, fetches of the mailbox, subscribers of a key, or
+/// whatever else its kind counts they had.
 #[derive(Clone, Copy, Debug)]
 pub struct Spent {
     pub kind: Kind,
