@@ -1,6 +1,6 @@
 //! What an engine's core takes, as lines of a script for `resolver-replay`, and what such a script has.
 
-use crate::pair::make_pair;
+use crate::pair::{Pair, make_pair};
 use crate::twin::Happened;
 use resolver::base::Check;
 use resolver::p2p::FetchKey;
@@ -12,7 +12,7 @@ use resolver_fakes::acts::Act;
 use resolver_fakes::names::Peer;
 use resolver_fakes::seen::{Hex, Wrong};
 use resolver_fakes::world::Setting;
-use std::alloc::{AllocError, AllocGlobal};
+use std::alloc::{AllocError, AllocGlobal, Global};
 use std::fmt::Write;
 use std::random::RandomSource;
 use std::sync::Wait;
@@ -132,16 +132,24 @@ checked clear
 sent refused
 ";
 
+/// What the core took as these were done.
+fn script_of<R>(alloc: Global, pair: &mut Pair<R>, acts: &[Act<'_>]) -> Result<String, Fail>
+where
+    R: Wait + Copy + Drop + Send + 'static,
+{
+    for act in acts {
+        pair.act(*act)?;
+    }
+    Ok(String::from_str(alloc, pair.twin.script.as_str())?)
+}
+
 fn write_script<R>(rt: R, acts: &[Act<'_>]) -> Result<String, Fail>
 where
     R: Wait + RandomSource + AllocGlobal + Copy + Drop + Send + 'static,
 {
     let refused = Wrong::Sends { first: 4, count: 1 };
     let mut pair = make_pair(rt, Setting::with(refused), None)?;
-    for act in acts {
-        pair.act(*act)?;
-    }
-    Ok(String::from_str(rt.alloc(), pair.twin.script.as_str())?)
+    script_of(rt.alloc(), &mut pair, acts)
 }
 
 #[test]

@@ -243,11 +243,18 @@ where
     make_pair(rt, setting, None)
 }
 
-/// Prints what the core of an engine that went wrong took, as a script for `resolver-replay`.
-fn print_script<R: Print + Copy + Drop>(rt: R, seed: u64, one: &mut Twin, two: &Twin) {
-    let is_first = !matches!(wrong(one), Ok(None));
-    let script = if is_first { &one.script } else { &two.script };
-    let _ = println!(rt; "# seed {seed}\n{}", script.as_str());
+/// Prints what a core took, as a script for `resolver-replay`.
+fn print_script<R: Print + Copy + Drop>(rt: R, seed: u64, script: &str) {
+    let _ = println!(rt; "# seed {seed}\n{script}");
+}
+
+/// Prints the script of the first of the two that went wrong.
+fn print_wrong<R: Print + Copy + Drop>(rt: R, seed: u64, one: &mut Twin, two: &Twin) {
+    if matches!(wrong(one), Ok(None)) {
+        print_script(rt, seed, two.script.as_str());
+    } else {
+        print_script(rt, seed, one.script.as_str());
+    }
 }
 
 /// The rest of a run: the second engine, and what both do. Where it goes wrong a script is printed.
@@ -263,7 +270,7 @@ where
     };
     let ended = go_all(one, &mut two, &mut course);
     if ended.is_err() {
-        print_script(rt, seed, &mut one.twin, &two.twin);
+        print_wrong(rt, seed, &mut one.twin, &two.twin);
     }
     ended
 }
