@@ -1,0 +1,178 @@
+//! Checks that say Until, and sends that are refused: for each place of these in a run that fetches three
+//! keys from three peers.
+
+use crate::pair::{Pair, make_pair};
+use crate::twin::{Counts, Twin};
+use resolver::{Outcome, Resolution};
+use resolver_fakes::acts::Act;
+use resolver_fakes::seen::Wrong;
+use resolver_fakes::world::Setting;
+use std::alloc::AllocGlobal;
+use std::random::RandomSource;
+use std::sync::Wait;
+use std::test::Fail;
+
+/// What a run is like.
+#[derive(Clone, Copy)]
+struct Plan {
+    /// How many checks or sends go wrong, from the Nth on.
+    count: u64,
+    /// What the draws follow from, which are all 0 where there is no seed.
+    seed: Option<u64>,
+    /// Whether each key is asked of a peer of its own alone, or of all three.
+    is_targeted: bool,
+}
+
+/// One and several that go wrong, with peers of their own and common ones, and with several draws.
+const PLANS: [(u64, Option<u64>, bool); 8] = [
+    (1, None, false),
+    (1, None, true),
+    (1, Some(1), false),
+    (1, Some(1), true),
+    (9, None, false),
+    (9, None, true),
+    (9, Some(1), false),
+    (9, Some(1), true),
+];
+
+/// What goes wrong from this one on: checks that say this moment, or sends.
+fn wrong(first: u64, count: u64, until: Option<u64>) -> Wrong {
+    match until {
+        Some(until) => Wrong::Checks {
+            first,
+            count,
+            until,
+        },
+        None => Wrong::Sends { first, count },
+    }
+}
+
+/// Three peers, and three keys by one message.
+fn open<R: Wait + Copy + Drop + Send + 'static>(
+    pair: &mut Pair<R>,
+    is_targeted: bool,
+) -> Result<(), Fail> {
+    pair.act(Act::Peers(1, &[3, 4, 5, 9]))?;
+    if is_targeted {
+        return pair.act(Act::FetchFrom(&[(1, 3), (2, 4), (3, 5)]));
+    }
+    pair.act(Act::Fetch(&[(1, 10), (2, 10), (3, 10)]))
+}
+
+/// The key itself, in response to the request for it, if there is one, and its verdict.
+fn complete<R: Wait + Copy + Drop + Send + 'static>(
+    pair: &mut Pair<R>,
+    key: u8,
+) -> Result<(), Fail> {
+    pair.reply(key, &[1, 1, key])?;
+    pair.act(Act::Judge(Outcome::Resolved(Resolution::Complete)))
+}
+
+/// What happens in the tenth moment of this number: a key is answered, another's peer has none, and
+/// the third's runs out of time. Later all are answered, for longer than nine refusals take.
+fn go_on<R: Wait + Copy + Drop + Send + 'static>(
+    pair: &mut Pair<R>,
+    tenth: u64,
+) -> Result<(), Fail> {
+    pair.act(Act::At(tenth.saturating_mul(10)))?;
+    match tenth {
+        2 => complete(pair, 1),
+        3 => pair.reply(2, &[2]),
+        10..=21 => {
+            complete(pair, 1)?;
+            complete(pair, 2)?;
+            complete(pair, 3)
+        }
+        _ => Ok(()),
+    }
+}
+
+/// Fails unless every key was delivered once.
+fn judge(twin: &mut Twin) -> Result<(), Fail> {
+    twin.delivered.sort()?;
+    if twin.delivered.as_slice() != [(1, 10), (2, 10), (3, 10)].as_slice() {
+        return Err("a key was not delivered once".into());
+    }
+    if !twin.rows()?.is_empty() || twin.counts.credits != 3 {
+        return Err("a key is left, or a response without its credit".into());
+    }
+    Ok(())
+}
+
+/// The run, after which every key was delivered once. Gives what was counted.
+fn play<R: Wait + Copy + Drop + Send + 'static>(
+    pair: &mut Pair<R>,
+    is_targeted: bool,
+) -> Result<Counts, Fail> {
+    open(pair, is_targeted)?;
+    for tenth in 1..22_u64 {
+        go_on(pair, tenth)?;
+    }
+    judge(&mut pair.twin)?;
+    Ok(pair.twin.counts)
+}
+
+/// A run in which this one and those behind it go wrong. Gives what was counted.
+fn run<R>(rt: R, plan: Plan, wrong: Wrong) -> Result<Counts, Fail>
+where
+    R: Wait + RandomSource + AllocGlobal + Copy + Drop + Send + 'static,
+{
+    let setting = Setting {
+        me: 9,
+        wrong,
+        seed: plan.seed,
+    };
+    let eligible = if plan.is_targeted { 1 } else { 3 };
+    let mut pair = make_pair(rt, setting, Some(eligible))?;
+    play(&mut pair, plan.is_targeted)
+}
+
+/// The run for every N that it meets, of which there are five at the least.
+fn every_n<R>(rt: R, plan: Plan, until: Option<u64>) -> Result<(), Fail>
+where
+    R: Wait + RandomSource + AllocGlobal + Copy + Drop + Send + 'static,
+{
+    for first in 1..1000_u64 {
+        let counts = run(rt, plan, wrong(first, plan.count, until))?;
+        let met = if until.is_some() {
+            counts.checks
+        } else {
+            counts.sends
+        };
+        if met < first {
+            return if first > 5 {
+                Ok(())
+            } else {
+                Err("a run that hardly asks".into())
+            };
+        }
+    }
+    Err("a run without an end".into())
+}
+
+/// The same for every plan.
+fn every_plan<R>(rt: R, until: Option<u64>) -> Result<(), Fail>
+where
+    R: Wait + RandomSource + AllocGlobal + Copy + Drop + Send + 'static,
+{
+    for (count, seed, is_targeted) in PLANS {
+        let plan = Plan {
+            count,
+            seed,
+            is_targeted,
+        };
+        every_n(rt, plan, until)?;
+    }
+    Ok(())
+}
+
+#[test]
+fn the_nth_check_says_until(rt: HostRuntime) -> Result<(), Fail> {
+    every_plan(rt, Some(15))?;
+    every_plan(rt, Some(45))
+}
+
+#[test]
+fn the_nth_send_is_refused(rt: HostRuntime) -> Result<(), Fail> {
+    every_plan(rt, None)
+}

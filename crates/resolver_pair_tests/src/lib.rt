@@ -1,0 +1,16 @@
+//! Tests of loops beside twins: a second core is given by hand what a loop takes from its sources, and is to ask
+//! and to await the same.
+#![tactic(auto)]
+
+#[cfg(test)]
+mod failing;
+#[cfg(test)]
+mod pair;
+#[cfg(test)]
+mod scan;
+#[cfg(test)]
+mod script;
+#[cfg(test)]
+mod twin;
+#[cfg(test)]
+mod two_engines;

@@ -1,0 +1,469 @@
+//! A second core, which is given by hand what the loop takes from its sources: it asks fakes of its own.
+
+use crate::scan::{Scan, Shown, Stage, list_rows};
+use crate::script::{write_answer, write_event};
+use bytes::Bytes;
+use futures::channel::mpsc;
+use resolver::base::{Check, Draws, Fault, Sender};
+use resolver::ingress::FetchKey;
+use resolver::p2p::effects::Effect;
+use resolver::p2p::fetcher::{Answer, Ask, Config};
+use resolver::p2p::inputs::{Event, Happening, Input};
+use resolver::p2p::mocks::Key;
+use resolver::p2p::{Core, FetchKey as Wanted};
+use resolver::{Delivery, Outcome};
+use resolver_fakes::acts::{Act, fetches, targeted};
+use resolver_fakes::lent::{Dice, Wire};
+use resolver_fakes::names::{Below, Peer};
+use resolver_fakes::seen::{Seen, Told};
+use resolver_fakes::world::{Setting, peers};
+use std::alloc::{AllocError, Global};
+use std::collections::VecDeque;
+use std::fmt::Write;
+use std::test::Fail;
+
+pub type Happened = Event<Key, Peer, u16, Below>;
+
+type Done = Effect<Key, Peer, u16>;
+
+/// More than a scan asks.
+const ASKS: u64 = 10_000;
+
+/// More events than are due at once.
+const DUE: u64 = 10_000;
+
+/// What the twin counts.
+#[derive(Clone, Copy)]
+pub struct Counts {
+    pub fetches: u64,
+    pub checks: u64,
+    pub sends: u64,
+    pub credits: u64,
+    /// The responses that were handed out.
+    pub responses: u64,
+}
+
+/// What is asked, and what it is asked.
+#[derive(Drop)]
+pub struct Fakes {
+    wire: Wire,
+    dice: Dice,
+    told: Told,
+    pub seen: mpsc::UnboundedReceiver<Seen>,
+}
+
+/// A core as a world's engine has it, and what is open in it.
+#[derive(Drop)]
+pub struct Twin {
+    pub alloc: Global,
+    pub setting: Setting,
+    core: Core<Key, Peer, u16, Below>,
+    pub fakes: Fakes,
+    /// Whether the loop asked or awaited something else.
+    pub differs: bool,
+    now: u64,
+    /// How many peers each key may be asked of, where scans are to be judged.
+    eligible: Option<usize>,
+    scan: Scan,
+    /// Those that have no verdict.
+    pub deliveries: VecDeque<u64>,
+    /// Those that the producer hasn't answered, with their keys.
+    pub serves: VecDeque<(u64, Key)>,
+    /// What was sent and accepted.
+    pub sent: VecDeque<(Peer, Bytes)>,
+    /// The keys and subscribers that were handed out.
+    pub delivered: Vec<(u8, u16)>,
+    pub counts: Counts,
+    /// What it took, as a script for `resolver-replay`.
+    pub script: String,
+}
+
+/// A step, as a call that promises nothing.
+fn step(
+    core: &mut Core<Key, Peer, u16, Below>,
+    input: Input<Key, Peer, u16, Below>,
+) -> Result<Vec<Done>, Fault> {
+    core.step(input)
+}
+
+/// When a request's time is over and when it is time to look for keys to ask for, as a call that promises
+/// nothing.
+fn deadlines(core: &Core<Key, Peer, u16, Below>) -> (Option<u128>, Option<u128>) {
+    (core.get_active_deadline(), core.get_pending_deadline())
+}
+
+/// A core with a timeout of 50 and a delay of 10, as a call that promises nothing.
+fn make_core(alloc: Global, me: u8) -> Core<Key, Peer, u16, Below> {
+    let configuration = Config {
+        me: Some(Peer(me)),
+        fetch_timeout: 50,
+        retry_delay: 10,
+        priority_requests: false,
+    };
+    Core::new(alloc, configuration, false)
+}
+
+fn make_fakes(alloc: Global, setting: Setting) -> Result<Fakes, Fault> {
+    let (told, seen) = mpsc::unbounded(alloc)?;
+    let wire = Wire::new(told.clone()?, setting.wrong);
+    let dice = setting.dice(told.clone()?);
+    Ok(Fakes {
+        wire,
+        dice,
+        told,
+        seen,
+    })
+}
+
+/// The line that opens an engine which is called so.
+fn begin_script(alloc: Global, me: u8) -> Result<String, AllocError> {
+    let mut script = String::new(alloc);
+    writeln!(script, "p2p {me} 50 10")?;
+    Ok(script)
+}
+
+fn is_due(deadline: Option<u128>, now: u64) -> bool {
+    match deadline {
+        Some(at) => at <= now as u128,
+        None => false,
+    }
+}
+
+fn happens(now: u64, event: Happened) -> Input<Key, Peer, u16, Below> {
+    Input::Happens(Happening {
+        now: now as u128,
+        event,
+    })
+}
+
+/// A number below this one. Scans ask for none below 0.
+fn draw(dice: &mut Dice, bound: u128) -> u128 {
+    if bound == 0 {
+        return 0;
+    }
+    dice.below(bound)
+}
+
+/// Lists the subscribers of a delivery with its key.
+fn list(delivered: &mut Vec<(u8, u16)>, delivery: &Delivery<Key, u16>) -> Result<(), AllocError> {
+    for (subscriber, _) in delivery.subscribers.iter() {
+        delivered.push((delivery.key.0, *subscriber))?;
+    }
+    Ok(())
+}
+
+/// The bytes of a message: its id, and what follows.
+pub fn message(alloc: Global, id: u64, bytes: &[u8]) -> Result<Vec<u8>, Fault> {
+    let mut message = Vec::new(alloc);
+    message.extend_from_slice(&id.to_be_bytes())?;
+    message.extend_from_slice(bytes)?;
+    Ok(message)
+}
+
+/// Keys that any peer may be asked for.
+fn wanted(alloc: Global, wants: &[(u8, u16)]) -> Result<Vec<Wanted<Key, Peer, u16>>, Fault> {
+    let mut items = Vec::new(alloc);
+    for fetch in fetches(alloc, wants)? {
+        items.push(FetchKey::from_fetch(alloc, fetch)?)?;
+    }
+    Ok(items)
+}
+
+/// Keys that one peer each may be asked for.
+fn wanted_from(alloc: Global, wants: &[(u8, u8)]) -> Result<Vec<Wanted<Key, Peer, u16>>, Fault> {
+    let mut items = Vec::new(alloc);
+    for (fetch, peers) in targeted(alloc, wants)? {
+        let mut item: Wanted<Key, Peer, u16> = FetchKey::from_fetch(alloc, fetch)?;
+        item.metadata = Some(peers);
+        items.push(item)?;
+    }
+    Ok(items)
+}
+
+/// The event that this becomes, of those that need nothing of the twin.
+fn event_of(alloc: Global, act: Act<'_>) -> Result<Happened, Fail> {
+    Ok(match act {
+        Act::Peers(index, numbers) => Event::PeerSet {
+            index,
+            peers: peers(alloc, numbers)?,
+        },
+        Act::Fetch(wants) => Event::Fetch(wanted(alloc, wants)?),
+        Act::FetchFrom(wants) => Event::Fetch(wanted_from(alloc, wants)?),
+        Act::Net(peer, bytes) => Event::Net {
+            peer: Peer(peer),
+            bytes: Bytes::copy_from_slice(alloc, bytes)?,
+        },
+        _ => return Err("a twin takes no such act".into()),
+    })
+}
+
+impl Twin {
+    /// The twin of a world's engine. Its scans are judged where the peers of each key are counted.
+    pub fn new(alloc: Global, setting: Setting, eligible: Option<usize>) -> Result<Twin, Fail> {
+        let fakes = make_fakes(alloc, setting)?;
+        let script = begin_script(alloc, setting.me)?;
+        Ok(Twin {
+            alloc,
+            setting,
+            core: make_core(alloc, setting.me),
+            fakes,
+            differs: false,
+            now: 0,
+            eligible,
+            scan: Scan::new(alloc, 0, 0, Vec::new(alloc)),
+            deliveries: VecDeque::new(alloc),
+            serves: VecDeque::new(alloc),
+            sent: VecDeque::new(alloc),
+            delivered: Vec::new(alloc),
+            counts: Counts {
+                fetches: 0,
+                checks: 0,
+                sends: 0,
+                credits: 0,
+                responses: 0,
+            },
+            script,
+        })
+    }
+
+    /// The demanded keys.
+    pub fn rows(&self) -> Result<Vec<Shown>, Fault> {
+        list_rows(self.alloc, &self.core)
+    }
+
+    /// The earlier of the two deadlines, where a clock can reach it.
+    pub fn awaited(&self) -> Option<u128> {
+        let (active, pending) = deadlines(&self.core);
+        let active = active.unwrap_or(u128::MAX);
+        let pending = pending.unwrap_or(u128::MAX);
+        let earlier = if pending < active { pending } else { active };
+        if earlier < 1 << 94 {
+            Some(earlier)
+        } else {
+            None
+        }
+    }
+
+    /// The id and the peer of the request for a key.
+    pub fn asked(&self, key: u8) -> Result<Option<(u64, u8)>, Fault> {
+        let rows = self.rows()?;
+        for row in rows.as_slice() {
+            if let Stage::Asked { id, peer, .. } = row.stage {
+                if row.key == key {
+                    return Ok(Some((id, peer)));
+                }
+            }
+        }
+        Ok(None)
+    }
+
+    /// Whether no key is wanted: none waits, is asked for or is judged.
+    pub fn is_idle(&self) -> bool {
+        let (active, pending) = deadlines(&self.core);
+        active.is_none() && pending.is_none() && self.deliveries.is_empty()
+    }
+
+    /// Sends, and says whether it is accepted.
+    fn send(&mut self, peer: Peer, bytes: Bytes, priority: bool) -> Result<bool, Fault> {
+        let copy = bytes.clone()?;
+        let is_accepted = self.fakes.wire.send(&peer, bytes, priority).is_accepted();
+        if is_accepted {
+            self.sent.push_back((peer, copy))?;
+        }
+        Ok(is_accepted)
+    }
+
+    fn check(&mut self, peer: Peer) -> Result<Check, Fault> {
+        self.counts.checks = self.counts.checks.saturating_add(1);
+        let check = self.fakes.wire.check(&peer);
+        self.scan.note_check(peer, check)?;
+        Ok(check)
+    }
+
+    fn request(&mut self, peer: Peer, id: u64, key: Key, priority: bool) -> Result<bool, Fault> {
+        self.counts.sends = self.counts.sends.saturating_add(1);
+        let message = message(self.alloc, id, &[0, key.0])?;
+        let is_accepted = self.send(peer, Bytes::from_vec(message)?, priority)?;
+        if is_accepted {
+            self.scan.note_sent(key.0, id, peer.0);
+        }
+        Ok(is_accepted)
+    }
+
+    fn answer(&mut self, ask: Ask<Key, Peer>) -> Result<Answer, Fault> {
+        match ask {
+            Ask::Draw(bound) => Ok(Answer::Drawn(draw(&mut self.fakes.dice, bound))),
+            Ask::Check(peer) => Ok(Answer::Checked(self.check(peer)?)),
+            Ask::Request {
+                peer,
+                id,
+                key,
+                priority,
+            } => Ok(Answer::Sent(self.request(peer, id, key, priority)?)),
+        }
+    }
+
+    fn deliver(
+        &mut self,
+        number: u64,
+        delivery: Delivery<Key, u16>,
+        value: Bytes,
+    ) -> Result<(), Fault> {
+        self.deliveries.push_back(number)?;
+        list(&mut self.delivered, &delivery)?;
+        let _ = self
+            .fakes
+            .told
+            .unbounded_send(Seen::Delivered(delivery, value));
+        Ok(())
+    }
+
+    fn produce(&mut self, serve: u64, key: Key) -> Result<(), Fault> {
+        self.serves.push_back((serve, key))?;
+        let _ = self.fakes.told.unbounded_send(Seen::Produced(key));
+        Ok(())
+    }
+
+    /// Carries an effect out, and gives the answer to what it asks.
+    fn carry_out(&mut self, effect: Done) -> Result<Option<Answer>, Fault> {
+        match effect {
+            Effect::Ask(ask) => return Ok(Some(self.answer(ask)?)),
+            Effect::Deliver {
+                number,
+                response,
+                delivery,
+                value,
+            } => {
+                if number == response {
+                    self.counts.responses = self.counts.responses.saturating_add(1);
+                }
+                self.deliver(number, delivery, value)?;
+            }
+            Effect::Cancel { .. } => {}
+            Effect::Produce { serve, key } => self.produce(serve, key)?,
+            Effect::Reply {
+                peer,
+                bytes,
+                priority,
+            } => {
+                self.send(peer, bytes, priority)?;
+            }
+            Effect::Credit { .. } => {
+                self.counts.credits = self.counts.credits.saturating_add(1);
+            }
+            Effect::Block { response: _, peer } => {
+                let _ = self.fakes.told.unbounded_send(Seen::Blocked(peer));
+            }
+        }
+        Ok(None)
+    }
+
+    fn carry_out_all(&mut self, effects: Vec<Done>) -> Result<Option<Answer>, Fault> {
+        let mut answer = None;
+        for effect in effects {
+            answer = self.carry_out(effect)?;
+        }
+        Ok(answer)
+    }
+
+    fn take_answer(&mut self, answer: Answer) -> Result<Vec<Done>, Fail> {
+        write_answer(&mut self.script, answer)?;
+        Ok(step(&mut self.core, Input::Answers(answer))?)
+    }
+
+    /// Answers what a scan asks.
+    fn answer_all(&mut self, first: Vec<Done>) -> Result<(), Fail> {
+        let mut effects = first;
+        for _ in 0..ASKS {
+            let Some(answer) = self.carry_out_all(effects)? else {
+                return Ok(());
+            };
+            effects = self.take_answer(answer)?;
+        }
+        Err("a scan without an end".into())
+    }
+
+    /// A scan may begin, which is written down where scans are to be judged.
+    fn begin_scan(&mut self) -> Result<(), Fault> {
+        if let Some(eligible) = self.eligible {
+            self.scan = Scan::new(self.alloc, self.now, eligible, self.rows()?);
+        }
+        Ok(())
+    }
+
+    fn judge_scan(&self) -> Result<(), Fail> {
+        if self.eligible.is_none() {
+            return Ok(());
+        }
+        let (_, pending) = deadlines(&self.core);
+        self.scan.judge(self.rows()?.as_slice(), pending)
+    }
+
+    /// Takes an event, and answers what its scan asks.
+    fn take(&mut self, event: Happened) -> Result<(), Fail> {
+        write_event(&mut self.script, &event)?;
+        let effects = step(&mut self.core, happens(self.now, event))?;
+        self.begin_scan()?;
+        self.answer_all(effects)?;
+        self.judge_scan()
+    }
+
+    /// What is due.
+    fn due(&self) -> Option<Happened> {
+        let (active, pending) = deadlines(&self.core);
+        if is_due(active, self.now) {
+            return Some(Event::ActiveDue);
+        }
+        if is_due(pending, self.now) {
+            return Some(Event::PendingDue);
+        }
+        None
+    }
+
+    fn settle(&mut self) -> Result<(), Fail> {
+        for _ in 0..DUE {
+            let Some(event) = self.due() else {
+                return Ok(());
+            };
+            self.take(event)?;
+        }
+        Err("there is always something due".into())
+    }
+
+    /// The consumer says this of the first delivery that has no verdict, if there is one.
+    fn judge(&mut self, outcome: Outcome) -> Result<(), Fail> {
+        let Some(number) = self.deliveries.pop_front() else {
+            return Ok(());
+        };
+        self.take(Event::Verdict {
+            number,
+            outcome: Some(outcome),
+        })
+    }
+
+    /// The producer has these bytes for the first request that it hasn't answered, if there is one.
+    fn serve(&mut self, bytes: &[u8]) -> Result<(), Fail> {
+        let Some((serve, _)) = self.serves.pop_front() else {
+            return Ok(());
+        };
+        let value = Some(Bytes::copy_from_slice(self.alloc, bytes)?);
+        self.take(Event::Served { serve, value })
+    }
+
+    fn go_to(&mut self, moment: u64) -> Result<(), Fail> {
+        self.now = moment;
+        writeln!(self.script, "at {moment}")?;
+        Ok(())
+    }
+
+    /// Takes this, and what is due then.
+    pub fn act(&mut self, act: Act<'_>) -> Result<(), Fail> {
+        match act {
+            Act::Judge(outcome) => self.judge(outcome)?,
+            Act::Serve(bytes) => self.serve(bytes)?,
+            Act::At(moment) => self.go_to(moment)?,
+            _ => self.take(event_of(self.alloc, act)?)?,
+        }
+        self.settle()
+    }
+}

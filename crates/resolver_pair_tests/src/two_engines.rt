@@ -1,0 +1,345 @@
+//! Two engines over one network in memory, which serve each other keys while their peer sets change and
+//! every seventh send is refused.
+
+use crate::pair::{Pair, make_pair};
+use crate::twin::Twin;
+use resolver::base::{Draws, Fault, Seeded};
+use resolver::{Outcome, Resolution};
+use resolver_fakes::acts::Act;
+use resolver_fakes::seen::Wrong;
+use resolver_fakes::world::Setting;
+use std::alloc::AllocGlobal;
+use std::io::Print;
+use std::random::RandomSource;
+use std::sync::Wait;
+use std::test::Fail;
+
+/// How many names of keys there are.
+const KEYS: u64 = 250;
+
+/// How many fetches each engine makes: of each key four times, for two subscribers of its own each time.
+const FETCHES: u64 = 4 * 2 * KEYS;
+
+/// How many of its fetches wait at once, at the most.
+const OPEN: u64 = 128;
+
+/// How many things of a kind an engine does in a step, at the most.
+const BATCH: u64 = 16;
+
+/// More steps than a run takes.
+const STEPS: u64 = 20_000;
+
+/// How far a run has come.
+#[derive(Drop)]
+struct Course {
+    now: u64,
+    /// The index of the last peer sets.
+    index: u64,
+    draws: Seeded,
+}
+
+/// The key and the subscriber of the next fetch, if one may be made: each key is wanted by one subscriber, and then
+/// by a second one.
+fn next_fetch(twin: &Twin) -> Option<(u8, u16)> {
+    let fetches = twin.counts.fetches;
+    let open = fetches.saturating_sub(twin.delivered.len() as u64);
+    if fetches >= FETCHES || open >= OPEN {
+        return None;
+    }
+    let place = fetches % (2 * KEYS);
+    let round = fetches / (2 * KEYS) % 4;
+    let key = (place / 2 % 256) as u8;
+    let subscriber = (10 + 2 * round + place % 2) as u16;
+    Some((key, subscriber))
+}
+
+fn fetch<R: Wait + Copy + Drop + Send + 'static>(pair: &mut Pair<R>) -> Result<bool, Fail> {
+    let Some(wants) = next_fetch(&pair.twin) else {
+        return Ok(false);
+    };
+    pair.twin.counts.fetches = pair.twin.counts.fetches.saturating_add(1);
+    pair.act(Act::Fetch(&[wants]))?;
+    Ok(true)
+}
+
+/// The producer has the key itself as its value.
+fn serve<R: Wait + Copy + Drop + Send + 'static>(pair: &mut Pair<R>) -> Result<bool, Fail> {
+    let Some((_, key)) = pair.twin.serves.front() else {
+        return Ok(false);
+    };
+    let value = [key.0];
+    pair.act(Act::Serve(&value))?;
+    Ok(true)
+}
+
+/// The consumer takes what it was handed.
+fn judge<R: Wait + Copy + Drop + Send + 'static>(pair: &mut Pair<R>) -> Result<bool, Fail> {
+    if pair.twin.deliveries.is_empty() {
+        return Ok(false);
+    }
+    pair.act(Act::Judge(Outcome::Resolved(Resolution::Complete)))?;
+    Ok(true)
+}
+
+/// The next message of one engine is given to the other, if it is for it.
+fn pass<R: Wait + Copy + Drop + Send + 'static>(
+    from: &mut Pair<R>,
+    to: &mut Pair<R>,
+) -> Result<bool, Fail> {
+    let Some((peer, bytes)) = from.twin.sent.pop_front() else {
+        return Ok(false);
+    };
+    if peer.0 == to.twin.setting.me {
+        to.act(Act::Net(from.twin.setting.me, bytes.as_slice()))?;
+    }
+    Ok(true)
+}
+
+/// One of the two does one thing of this kind, if there is one.
+fn work<R: Wait + Copy + Drop + Send + 'static>(
+    me: &mut Pair<R>,
+    other: &mut Pair<R>,
+    kind: u128,
+) -> Result<bool, Fail> {
+    match kind {
+        0 => fetch(me),
+        1 | 2 | 3 => pass(other, me),
+        4 | 5 => serve(me),
+        _ => judge(me),
+    }
+}
+
+/// One of the two does several things of one kind.
+fn work_on<R: Wait + Copy + Drop + Send + 'static>(
+    me: &mut Pair<R>,
+    other: &mut Pair<R>,
+    kind: u128,
+) -> Result<(), Fail> {
+    for _ in 0..BATCH {
+        if !work(me, other, kind)? {
+            return Ok(());
+        }
+    }
+    Ok(())
+}
+
+/// Both take this.
+fn both<R: Wait + Copy + Drop + Send + 'static>(
+    one: &mut Pair<R>,
+    two: &mut Pair<R>,
+    act: Act<'_>,
+) -> Result<(), Fail> {
+    one.act(act)?;
+    two.act(act)
+}
+
+/// A number below this one, as a call that promises nothing.
+fn draw(draws: &mut Seeded, bound: u128) -> u128 {
+    if bound == 0 {
+        return 0;
+    }
+    draws.below(bound)
+}
+
+/// Peers that are drawn. 7 and 8 never answer.
+fn draw_peers(draws: &mut Seeded) -> &'static [u8] {
+    match draw(draws, 4) {
+        0 => &[],
+        1 => &[7, 8],
+        2 => &[1, 2, 7],
+        _ => &[1, 2],
+    }
+}
+
+/// A step of the draws. Every tenth changes the peers of both, and in some of the others time goes by.
+fn step<R: Wait + Copy + Drop + Send + 'static>(
+    one: &mut Pair<R>,
+    two: &mut Pair<R>,
+    course: &mut Course,
+    number: u64,
+) -> Result<(), Fail> {
+    if number % 10 == 0 {
+        let peers = draw_peers(&mut course.draws);
+        course.index = course.index.saturating_add(1);
+        return both(one, two, Act::Peers(course.index, peers));
+    }
+    match draw(&mut course.draws, 10) {
+        0 => {
+            course.now = course.now.saturating_add(7);
+            both(one, two, Act::At(course.now))
+        }
+        1..=5 => work_on(one, two, draw(&mut course.draws, 8)),
+        _ => work_on(two, one, draw(&mut course.draws, 8)),
+    }
+}
+
+/// Whether everything was fetched, and nothing is left to be done.
+fn is_over(twin: &Twin) -> bool {
+    twin.counts.fetches >= FETCHES && twin.is_idle()
+}
+
+/// Whether each of these, in their order, stands there once, and there are as many as were fetched.
+fn is_each_once(delivered: &[(u8, u16)]) -> bool {
+    for i in 1..delivered.len() {
+        if delivered[i - 1] == delivered[i] {
+            return false;
+        }
+    }
+    delivered.len() as u64 == FETCHES
+}
+
+/// What is wrong at the end, if anything is: each key is to be delivered once to each subscriber, no request
+/// to be left, and each response that was handed out to have earned one credit.
+fn wrong(twin: &mut Twin) -> Result<Option<&'static str>, Fault> {
+    twin.delivered.sort()?;
+    if twin.differs {
+        return Ok(Some("the loop asks or awaits something else than its twin"));
+    }
+    if !is_each_once(twin.delivered.as_slice()) {
+        return Ok(Some("a key was not delivered once to each subscriber"));
+    }
+    if !twin.rows()?.is_empty() || twin.awaited().is_some() {
+        return Ok(Some("a request is left"));
+    }
+    if twin.counts.credits != twin.counts.responses {
+        return Ok(Some("the credits are not the responses"));
+    }
+    Ok(None)
+}
+
+/// Fails where something is wrong at the end.
+fn judge_end(twin: &mut Twin) -> Result<(), Fail> {
+    match wrong(twin)? {
+        Some(why) => Err(why.into()),
+        None => Ok(()),
+    }
+}
+
+/// Steps by the draws, until nothing is left.
+fn go_all<R: Wait + Copy + Drop + Send + 'static>(
+    one: &mut Pair<R>,
+    two: &mut Pair<R>,
+    course: &mut Course,
+) -> Result<(), Fail> {
+    for number in 1..STEPS {
+        step(one, two, course, number)?;
+        if is_over(&one.twin) && is_over(&two.twin) {
+            break;
+        }
+    }
+    judge_end(&mut one.twin)?;
+    judge_end(&mut two.twin)
+}
+
+fn make_engine<R>(rt: R, me: u8, seed: u64) -> Result<Pair<R>, Fail>
+where
+    R: Wait + RandomSource + AllocGlobal + Copy + Drop + Send + 'static,
+{
+    let setting = Setting {
+        me,
+        wrong: Wrong::Sevenths,
+        seed: Some(seed),
+    };
+    make_pair(rt, setting, None)
+}
+
+/// Prints what a core took, as a script for `resolver-replay`.
+fn print_script<R: Print + Copy + Drop>(rt: R, seed: u64, script: &str) {
+    let _ = println!(rt; "# seed {seed}\n{script}");
+}
+
+/// Prints the script of the first of the two that went wrong.
+fn print_wrong<R: Print + Copy + Drop>(rt: R, seed: u64, one: &mut Twin, two: &Twin) {
+    if matches!(wrong(one), Ok(None)) {
+        print_script(rt, seed, two.script.as_str());
+    } else {
+        print_script(rt, seed, one.script.as_str());
+    }
+}
+
+/// The rest of a run: the second engine, and what both do. Where it goes wrong a script is printed.
+fn run_beside<R>(rt: R, one: &mut Pair<R>, seed: u64) -> Result<(), Fail>
+where
+    R: Print + Wait + RandomSource + AllocGlobal + Copy + Drop + Send + 'static,
+{
+    let mut two = make_engine(rt, 2, seed.wrapping_add(1000))?;
+    let mut course = Course {
+        now: 0,
+        index: 0,
+        draws: Seeded::new(seed.wrapping_add(2000)),
+    };
+    let ended = go_all(one, &mut two, &mut course);
+    if ended.is_err() {
+        print_wrong(rt, seed, &mut one.twin, &two.twin);
+    }
+    ended
+}
+
+fn run<R>(rt: R, seed: u64) -> Result<(), Fail>
+where
+    R: Print + Wait + RandomSource + AllocGlobal + Copy + Drop + Send + 'static,
+{
+    let mut one = make_engine(rt, 1, seed)?;
+    run_beside(rt, &mut one, seed)
+}
+
+/// Runs of ten seeds, from this one on.
+fn run_all<R>(rt: R, first: u64) -> Result<(), Fail>
+where
+    R: Print + Wait + RandomSource + AllocGlobal + Copy + Drop + Send + 'static,
+{
+    for seed in first..first.saturating_add(10) {
+        run(rt, seed)?;
+    }
+    Ok(())
+}
+
+#[test]
+fn seeds_from_0(rt: HostRuntime) -> Result<(), Fail> {
+    run_all(rt, 0)
+}
+
+#[test]
+fn seeds_from_10(rt: HostRuntime) -> Result<(), Fail> {
+    run_all(rt, 10)
+}
+
+#[test]
+fn seeds_from_20(rt: HostRuntime) -> Result<(), Fail> {
+    run_all(rt, 20)
+}
+
+#[test]
+fn seeds_from_30(rt: HostRuntime) -> Result<(), Fail> {
+    run_all(rt, 30)
+}
+
+#[test]
+fn seeds_from_40(rt: HostRuntime) -> Result<(), Fail> {
+    run_all(rt, 40)
+}
+
+#[test]
+fn seeds_from_50(rt: HostRuntime) -> Result<(), Fail> {
+    run_all(rt, 50)
+}
+
+#[test]
+fn seeds_from_60(rt: HostRuntime) -> Result<(), Fail> {
+    run_all(rt, 60)
+}
+
+#[test]
+fn seeds_from_70(rt: HostRuntime) -> Result<(), Fail> {
+    run_all(rt, 70)
+}
+
+#[test]
+fn seeds_from_80(rt: HostRuntime) -> Result<(), Fail> {
+    run_all(rt, 80)
+}
+
+#[test]
+fn seeds_from_90(rt: HostRuntime) -> Result<(), Fail> {
+    run_all(rt, 90)
+}
