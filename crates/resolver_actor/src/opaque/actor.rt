@@ -182,7 +182,8 @@ impl<K: Ord + Clone, V: Clone, S: Ord + Clone, Q: Predicate<K, S> + Drop> Actor<
     /// `OutOfMemory` and `Exhausted` fail the actor for good: each later step answers `Failed` and
     /// changes nothing, as after `End` each answers `Ended`. A verdict that is passed over takes no
     /// memory. A fetched value, a verdict and each key that `RetriesDue` asks for again take time
-    /// logarithmic in the demanded keys.
+    /// logarithmic in the demanded keys; an attempt's place in the table of attempts, which a key
+    /// asked for again takes too, costs as much on average, over many of them.
     pub fn step(&mut self, input: Input<K, V, S, Q>) -> Result<Vec<Effect<K, V, S>>, Fault>
         requires keys_clone { (x y : K) → K.is_clone x y → y ≡ x }
         requires values_clone { (x y : V) → V.is_clone x y → y ≡ x }
