@@ -22,7 +22,7 @@ only x y e = cc
 some-only : {X : Type 0} (x y : X) → Some x ≡ Some y → x ≡ y
 some-only x y e = cc
 
-abbrev by_deadline : ℕ × ℕ → ℕ × ℕ → Ordering
+abbrev pub by_deadline : ℕ × ℕ → ℕ × ℕ → Ordering
 by_deadline = pair_order nat_cmp nat_cmp
 
 -- two pairs are not both before one another

@@ -2,53 +2,86 @@
 use Rattle.std.proofs.Common.{◌≡◌, refl, ap, ◌∙◌, sym, ℕ, Bool, true, false, List, [], ◌∷◌, Option, None, Some, cond, option_map, is_some, arith}
 use Rattle.std.proofs.lemmas.Grind.{common_steps}
 use Rattle.std.proofs.lemmas.Bool.Decides.{nat_tests}
-use Rattle.std.proofs.lemmas.Cmp.{nat_cmp_total}
+use Rattle.std.proofs.lemmas.Cmp.{nat_cmp_total, tied_itself}
 use Rattle.std.specs.List.Sorted.{IsStrictlySortedBy}
 use Rattle.std.specs.Map.{keys_of}
 use Rattle.std.specs.Map.Calls.{RetainsPairs}
 use Rattle.std.proofs.lemmas.Map.Keys.{sorted_head, sorted_tail}
 use Rattle.std.specs.BTreeMap.{is_at}
-use Rattle.std.specs.Ordering.{nat_cmp}
-use Rattle.resolver_base.specs.Priorities.{listed, priorities_of, put, without, retained}
-use Rattle.resolver_base.proofs.Priorities.{priorities-put, priorities-without}
+use Rattle.std.specs.BTreeSet.{insert_key}
+use Rattle.std.specs.Set.{remove_key}
+use Rattle.std.specs.Ordering.{is_eq, nat_cmp}
+use Rattle.resolver_base.specs.Priorities.{listed, priorities_of, retained, without}
+use Rattle.resolver_base.proofs.Priorities.{priorities-insert, priorities-without, remove_key-without}
 use Rattle.resolver_request.specs.declared.requests.request.Request.{Request}
 use Rattle.resolver_request.specs.Requests.{AreTimed, request_of}
-use Rattle.resolver_request.proofs.Soonest.{behind, past-head}
+use Rattle.resolver_request.proofs.Soonest.{behind, by_deadline, past-head}
+
+-- the pair of an id that stands once is taken out
+taken-out : (id deadline : ℕ) (ds : List (ℕ × ℕ)) → priorities_of nat_cmp ds id ≡ deadline ∷ []
+    → remove_key (is_at (by_deadline (deadline, id))) ds ≡ without nat_cmp id ds
+taken-out id deadline ds stands =
+    remove_key-without nat_cmp_total nat_cmp_total id id deadline deadline ds (tied_itself nat_cmp_total id) (tied_itself nat_cmp_total deadline) stands
 
 module _ {K P : Type 0} where
+  -- a request's id stands once, at its deadline
+  timed-at-id : (id : ℕ) (r : Request K P) (asked : List (ℕ × Request K P)) (ds : List (ℕ × ℕ)) → AreTimed asked ds → request_of asked id ≡ Some r
+      → priorities_of nat_cmp ds id ≡ r.deadline ∷ []
+  timed-at-id id r asked ds timed there = timed.same id ∙ ap (λ o. listed (option_map (λ (s : Request K P). s.deadline) o)) there
+
+  -- an id without a request doesn't stand there
+  timed-at-none : (id : ℕ) (asked : List (ℕ × Request K P)) (ds : List (ℕ × ℕ)) → AreTimed asked ds → request_of asked id ≡ None → priorities_of nat_cmp ds id ≡ []
+  timed-at-none id asked ds timed none = timed.same id ∙ ap (λ o. listed (option_map (λ (s : Request K P). s.deadline) o)) none
+
+  -- the same requests are found
+  pub timed-same : (old new : List (ℕ × Request K P)) (ds : List (ℕ × ℕ)) → AreTimed old ds → IsStrictlySortedBy nat_cmp (keys_of new)
+      → ((q : ℕ) → request_of new q ≡ request_of old q) → AreTimed new ds
+  timed-same old new ds timed sorted updates = record {
+    ids = sorted;
+    same = λ q. timed.same q ∙ ap (λ o. listed (option_map (λ (s : Request K P). s.deadline) o)) (sym (updates q));
+  }
+
+  -- a request with a new id is put
   pub timed-put : (id : ℕ) (r : Request K P) (old new : List (ℕ × Request K P)) (ds : List (ℕ × ℕ)) → AreTimed old ds → IsStrictlySortedBy nat_cmp (keys_of new)
-      → ((q : ℕ) → request_of new q ≡ cond (is_at (nat_cmp id) q) (Some r) (request_of old q)) → AreTimed new (put nat_cmp nat_cmp ds (r.deadline, id))
-  timed-put id r old new ds timed sorted updates = record {
+      → request_of old id ≡ None → ((q : ℕ) → request_of new q ≡ cond (is_at (nat_cmp id) q) (Some r) (request_of old q))
+      → AreTimed new (insert_key by_deadline ds (r.deadline, id))
+  timed-put id r old new ds timed sorted none updates = record {
     ids = sorted;
     same = λ q.
-        let put = priorities-put nat_cmp_total nat_cmp_total (r.deadline, id) q ds in
+        let put = priorities-insert nat_cmp_total nat_cmp_total (r.deadline, id) q ds (timed-at-none id old ds timed none) in
         let before = timed.same q in
         let after = updates q in
         grind (arith, common_steps, put, before, after);
   }
 
-  pub timed-without : (id : ℕ) (old new : List (ℕ × Request K P)) (ds : List (ℕ × ℕ)) → AreTimed old ds → IsStrictlySortedBy nat_cmp (keys_of new)
-      → ((q : ℕ) → request_of new q ≡ cond (is_at (nat_cmp id) q) None (request_of old q)) → AreTimed new (without nat_cmp id ds)
-  timed-without id old new ds timed sorted updates = record {
+  -- a request is taken out
+  pub timed-without : (id : ℕ) (r : Request K P) (old new : List (ℕ × Request K P)) (ds : List (ℕ × ℕ)) → AreTimed old ds → IsStrictlySortedBy nat_cmp (keys_of new)
+      → request_of old id ≡ Some r → ((q : ℕ) → request_of new q ≡ cond (is_at (nat_cmp id) q) None (request_of old q))
+      → AreTimed new (remove_key (is_at (by_deadline (r.deadline, id))) ds)
+  timed-without id r old new ds timed sorted there updates = record {
     ids = sorted;
     same = λ q.
+        let out = ap (λ left. priorities_of nat_cmp left q) (taken-out id r.deadline ds (timed-at-id id r old ds timed there)) in
         let others = priorities-without nat_cmp_total id q ds in
         let before = timed.same q in
         let after = updates q in
-        grind (arith, common_steps, others, before, after);
+        grind (arith, common_steps, out, others, before, after);
   }
 
   -- a request that could not be put is taken out again
   pub timed-back : (id deadline : ℕ) (old : List (ℕ × Request K P)) (ds : List (ℕ × ℕ)) → AreTimed old ds → request_of old id ≡ None
-      → AreTimed old (without nat_cmp id (put nat_cmp nat_cmp ds (deadline, id)))
-  timed-back id deadline old ds timed new = record {
+      → AreTimed old (remove_key (is_at (by_deadline (deadline, id))) (insert_key by_deadline ds (deadline, id)))
+  timed-back id deadline old ds timed none = record {
     ids = timed.ids;
     same = λ q.
-        let others = priorities-without nat_cmp_total id q (put nat_cmp nat_cmp ds (deadline, id)) in
-        let put = priorities-put nat_cmp_total nat_cmp_total (deadline, id) q ds in
+        let gone = timed-at-none id old ds timed none in
+        let put = priorities-insert nat_cmp_total nat_cmp_total (deadline, id) q ds gone in
+        let stands : priorities_of nat_cmp (insert_key by_deadline ds (deadline, id)) id ≡ deadline ∷ [] =
+        priorities-insert nat_cmp_total nat_cmp_total (deadline, id) id ds gone ∙ ap (λ is. cond (is_eq is) (deadline ∷ []) (priorities_of nat_cmp ds id)) (tied_itself nat_cmp_total id) in
+        let out = ap (λ left. priorities_of nat_cmp left q) (taken-out id deadline (insert_key by_deadline ds (deadline, id)) stands) in
+        let others = priorities-without nat_cmp_total id q (insert_key by_deadline ds (deadline, id)) in
         let before = timed.same q in
-        let here = timed.same id in
-        grind (arith, common_steps, nat_tests, others, put, before, here, new);
+        grind (arith, common_steps, nat_tests, out, others, put, before, gone);
   }
 
 -- the pairs whose ids pass

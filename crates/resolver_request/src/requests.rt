@@ -14,9 +14,9 @@ ghost use Rattle.resolver_request.specs.Ids.{is_held, next_id};
 ghost use Rattle.resolver_request.specs.Requests.{IsTaken, ids_of, is_asked, request_for, request_of, soonest, taken_matching, taken_overdue, without_request};
 
 pub use request::{ID, Request};
-use resolver_base::base::{Fault, PrioritySet};
+use resolver_base::base::Fault;
 use std::alloc::Global;
-use std::collections::BTreeMap;
+use std::collections::{BTreeMap, BTreeSet};
 use std::marker::Model;
 
 /// The requests without an answer, by their ids. Contracts see them as a list in that order.
@@ -25,8 +25,8 @@ use std::marker::Model;
 #[derive(Debug, Drop)]
 pub struct Requests<K: Ord, P> {
     by_id: BTreeMap<ID, Request<K, P>>,
-    /// The same ids, by their deadlines.
-    deadlines: PrioritySet<ID, u128>,
+    /// The deadlines with the same ids, in order.
+    deadlines: BTreeSet<(u128, ID)>,
     /// The same ids, by the keys that are asked for.
     by_key: BTreeMap<K, ID>,
 }
@@ -40,7 +40,7 @@ impl<K: Ord, P> Model for Requests<K, P> {
 
     ghost view = { λ a. a.by_id.entries };
 
-    ghost invariant = { λ a. AreTimed a.by_id.entries a.deadlines
+    ghost invariant = { λ a. AreTimed a.by_id.entries a.deadlines.keys
         × AreNamed K.cmp a.by_id.entries a.by_key.entries };
 }
 
@@ -51,7 +51,7 @@ impl<K: Ord + Drop, P: Drop> Requests<K, P> {
     {
         Requests {
             by_id: BTreeMap::new(alloc),
-            deadlines: PrioritySet::new(alloc),
+            deadlines: BTreeSet::new(alloc),
             by_key: BTreeMap::new(alloc),
         }
     }
@@ -103,12 +103,12 @@ impl<K: Ord + Drop, P: Drop> Requests<K, P> {
     {
         let key = request.key.clone()?;
         self.by_key.insert(key, id)?;
-        if let Err(fault) = self.deadlines.put(id, request.deadline) {
+        if let Err(refused) = self.deadlines.insert((request.deadline, id)) {
             self.by_key.remove(&request.key);
-            return Err(fault);
+            return Err(refused.into());
         }
         if let Err(refused) = self.by_id.insert(id, request) {
-            self.deadlines.remove(&id);
+            self.deadlines.remove(&(refused.value.1.deadline, id));
             self.by_key.remove(&refused.value.1.key);
             return Err(Fault::OutOfMemory);
         }
@@ -120,8 +120,8 @@ impl<K: Ord + Drop, P: Drop> Requests<K, P> {
         ensures value { result ≡ request_of self.old id }
         ensures after { self.new ≡ without_request id self.old }
     {
-        self.deadlines.remove(&id);
         let request = self.by_id.remove(&id)?;
+        self.deadlines.remove(&(request.deadline, id));
         self.by_key.remove(&request.key);
         Some(request)
     }
@@ -143,7 +143,7 @@ impl<K: Ord + Drop, P: Drop> Requests<K, P> {
             { keeps(&keep, &request.key) },
         );
         let by_id = &self.by_id;
-        self.deadlines.retain(|id| by_id.contains_key(id));
+        self.deadlines.retain(|pair| by_id.contains_key(&pair.1));
         self.by_key.retain(|_, id| by_id.contains_key(&*id));
     }
 
