@@ -378,7 +378,17 @@ pub fn goes_on(
 
 /// Makes calls of a new fetcher, and compares what is seen at each.
 pub fn goes(rt: &impl Abort, alloc: Global, calls: &[(Call, Seen)]) -> Result<(), Fault> {
-    let mut fetcher = Fetcher::new(alloc, config());
+    goes_after(rt, alloc, 10, calls)
+}
+
+/// The same with another delay.
+pub fn goes_after(
+    rt: &impl Abort,
+    alloc: Global,
+    delay: u32,
+    calls: &[(Call, Seen)],
+) -> Result<(), Fault> {
+    let mut fetcher = Fetcher::new(alloc, delayed(delay));
     goes_on(rt, alloc, &mut fetcher, calls)
 }
 

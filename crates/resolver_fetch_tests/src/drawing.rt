@@ -73,22 +73,53 @@ fn crowd(alloc: Global) -> Result<Vec<u8>, Fault> {
     Ok(peers)
 }
 
-/// A fetcher that knows the peers from 1 to 200, each of the weight 1.
-fn among_many(alloc: Global) -> Result<Node, Fault> {
-    let mut fetcher = Fetcher::new(alloc, config());
+/// A fetcher knows the peers from 1 to 200 then, each of the weight 1.
+fn knows_many(alloc: Global, fetcher: &mut Node) -> Result<(), Fault> {
     let peers = crowd(alloc)?;
-    set_peers(alloc, &mut fetcher, &peers)?;
-    Ok(fetcher)
+    set_peers(alloc, fetcher, &peers)
 }
 
-/// A fetcher that knows the peers from 1 to 200, each of its own number's weight.
-fn among_weights(alloc: Global) -> Result<Node, Fault> {
-    let mut fetcher = among_many(alloc)?;
+/// Each of the peers from 1 to 200 has its own number's weight then.
+fn weighs_by_number(fetcher: &mut Node) {
     for bytes in 0..200_u8 {
         let bytes_more = u64::from(bytes);
-        recorded(&mut fetcher, bytes + 1, 1, u128::from(SECOND), bytes_more);
+        recorded(fetcher, bytes + 1, 1, u128::from(SECOND), bytes_more);
     }
-    Ok(fetcher)
+}
+
+/// Makes calls of a fetcher that knows many peers then.
+fn goes_on_among(
+    rt: &impl Abort,
+    alloc: Global,
+    fetcher: &mut Node,
+    calls: &[(Call, Seen)],
+) -> Result<(), Fault> {
+    knows_many(alloc, fetcher)?;
+    goes_on(rt, alloc, fetcher, calls)
+}
+
+/// The same of a new fetcher.
+fn goes_among(rt: &impl Abort, alloc: Global, calls: &[(Call, Seen)]) -> Result<(), Fault> {
+    let mut fetcher = Fetcher::new(alloc, config());
+    goes_on_among(rt, alloc, &mut fetcher, calls)
+}
+
+/// Makes calls of a fetcher that knows many peers then, each of its own number's weight.
+fn goes_on_by_weight(
+    rt: &impl Abort,
+    alloc: Global,
+    fetcher: &mut Node,
+    calls: &[(Call, Seen)],
+) -> Result<(), Fault> {
+    knows_many(alloc, fetcher)?;
+    weighs_by_number(fetcher);
+    goes_on(rt, alloc, fetcher, calls)
+}
+
+/// The same of a new fetcher.
+fn goes_by_weight(rt: &impl Abort, alloc: Global, calls: &[(Call, Seen)]) -> Result<(), Fault> {
+    let mut fetcher = Fetcher::new(alloc, config());
+    goes_on_by_weight(rt, alloc, &mut fetcher, calls)
 }
 
 #[test]
@@ -114,8 +145,7 @@ fn targets_among_many_peers(rt: HostRuntime) -> Result<(), Fail> {
         until(40, Seen::Over),
         wakes(20),
     ];
-    let mut fetcher = among_many(rt.alloc())?;
-    goes_on(&rt, rt.alloc(), &mut fetcher, &calls)?;
+    goes_among(&rt, rt.alloc(), &calls)?;
     Ok(())
 }
 
@@ -139,8 +169,7 @@ fn targets_drawn_by_place(rt: HostRuntime) -> Result<(), Fail> {
         until(18, Seen::Over),
         wakes(18),
     ];
-    let mut fetcher = among_many(rt.alloc())?;
-    goes_on(&rt, rt.alloc(), &mut fetcher, &calls)?;
+    goes_among(&rt, rt.alloc(), &calls)?;
     Ok(())
 }
 
@@ -165,8 +194,7 @@ fn many_peers_by_place(rt: HostRuntime) -> Result<(), Fail> {
         drawn(4, Seen::Draw(196)),
         drawn(195, Seen::Check(200)),
     ];
-    let mut fetcher = among_many(rt.alloc())?;
-    goes_on(&rt, rt.alloc(), &mut fetcher, &calls)?;
+    goes_among(&rt, rt.alloc(), &calls)?;
     Ok(())
 }
 
@@ -194,8 +222,7 @@ fn many_peers_by_weight(rt: HostRuntime) -> Result<(), Fail> {
         drawn(0, Seen::Draw(19_597)),
         drawn(0, Seen::Check(1)),
     ];
-    let mut fetcher = among_weights(rt.alloc())?;
-    goes_on(&rt, rt.alloc(), &mut fetcher, &calls)?;
+    goes_by_weight(&rt, rt.alloc(), &calls)?;
     Ok(())
 }
 

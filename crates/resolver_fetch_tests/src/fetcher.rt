@@ -1,7 +1,7 @@
 //! Keys that wait, scans, and what becomes of requests.
 
 use crate::calls::{
-    Call, Node, Seen, config, delayed, goes, goes_on, peers_of, pop_active, recorded, set_peers,
+    Call, Node, Seen, config, goes, goes_after, goes_on, peers_of, pop_active, recorded, set_peers,
     weight,
 };
 use resolver_base::base::{Check, Fault};
@@ -39,11 +39,21 @@ fn asks_peer(
 }
 
 /// Has peer 4 asked for key 1 under the id 5, at 30, and then makes calls.
+fn asks_and_goes_on(
+    rt: &impl Abort,
+    alloc: Global,
+    fetcher: &mut Node,
+    calls: &[(Call, Seen)],
+) -> Result<(), Fault> {
+    set_peers(alloc, fetcher, &[4])?;
+    asks_peer(rt, alloc, fetcher, 30, 1)?;
+    goes_on(rt, alloc, fetcher, calls)
+}
+
+/// The same of a new fetcher.
 fn asks_first(rt: &impl Abort, alloc: Global, calls: &[(Call, Seen)]) -> Result<(), Fault> {
     let mut fetcher = Fetcher::new(alloc, config());
-    set_peers(alloc, &mut fetcher, &[4])?;
-    asks_peer(rt, alloc, &mut fetcher, 30, 1)?;
-    goes_on(rt, alloc, &mut fetcher, calls)
+    asks_and_goes_on(rt, alloc, &mut fetcher, calls)
 }
 
 #[test]
@@ -252,8 +262,7 @@ fn fetcher_two_queues(rt: HostRuntime) -> Result<(), Fail> {
         (Call::Answer(Checked(Check::Until(8))), Seen::Over),
         (Call::WakeUp, Seen::At(Some(8))),
     ];
-    let mut fetcher = Fetcher::new(rt.alloc(), delayed(2));
-    goes_on(&rt, rt.alloc(), &mut fetcher, &calls)?;
+    goes_after(&rt, rt.alloc(), 2, &calls)?;
     Ok(())
 }
 
@@ -337,10 +346,15 @@ fn charges(rt: &impl Abort, alloc: Global, fetcher: &mut Node) -> Result<(), Fau
     Ok(())
 }
 
+/// The same of a new fetcher.
+fn charged(rt: &impl Abort, alloc: Global) -> Result<(), Fault> {
+    let mut fetcher = longest(alloc);
+    charges(rt, alloc, &mut fetcher)
+}
+
 #[test]
 fn charged_the_longest_time(rt: HostRuntime) -> Result<(), Fail> {
-    let mut fetcher = longest(rt.alloc());
-    charges(&rt, rt.alloc(), &mut fetcher)?;
+    charged(&rt, rt.alloc())?;
     Ok(())
 }
 
