@@ -19,11 +19,20 @@ type Step = Event<u64, u64, u16, All>;
 /// Takes every key through the actor, and ends it.
 pub fn run(rt: &(impl AllocGlobal + Clock), size: u64) -> Result<Vec<Spent>, Fault> {
     let mut actor = Actor::new(rt.alloc(), 0);
+    take_every(rt, &mut actor, size)
+}
+
+/// Takes steps of every kind, and measures them.
+fn take_every(
+    rt: &(impl AllocGlobal + Clock),
+    actor: &mut Worker,
+    size: u64,
+) -> Result<Vec<Spent>, Fault> {
     let mut spent = Vec::with_capacity(rt.alloc(), 4)?;
-    spent.push(take_all(rt, &mut actor, Kind::Fetch, size)?)?;
-    spent.push(take_all(rt, &mut actor, Kind::Answer, size)?)?;
-    spent.push(take_all(rt, &mut actor, Kind::Complete, size)?)?;
-    spent.push(take_all(rt, &mut actor, Kind::End, 1)?)?;
+    for kind in [Kind::Fetch, Kind::Answer, Kind::Complete] {
+        spent.push(take_all(rt, actor, kind, size)?)?;
+    }
+    spent.push(take_all(rt, actor, Kind::End, 1)?)?;
     Ok(spent)
 }
 

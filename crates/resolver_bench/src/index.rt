@@ -15,10 +15,20 @@ const MADE: u64 = 16;
 pub fn run(rt: &(impl AllocGlobal + Clock), size: u64, places: u16) -> Result<Vec<Spent>, Fault> {
     let weights = weights(rt.alloc(), places)?;
     let mut index = WeightedIndex::new(rt.alloc(), &weights)?;
+    take_every(rt, &weights, &mut index, size)
+}
+
+/// The same of an index of these weights that is lent.
+fn take_every(
+    rt: &(impl AllocGlobal + Clock),
+    weights: &[u64],
+    index: &mut WeightedIndex,
+    size: u64,
+) -> Result<Vec<Spent>, Fault> {
     let mut spent = Vec::with_capacity(rt.alloc(), 3)?;
-    spent.push(make_all(rt, &weights)?)?;
-    spent.push(pick_all(rt, &index, size)?)?;
-    spent.push(set_all(rt, &mut index, size)?)?;
+    spent.push(make_all(rt, weights)?)?;
+    spent.push(pick_all(rt, index, size)?)?;
+    spent.push(set_all(rt, index, size)?)?;
     Ok(spent)
 }
 

@@ -20,10 +20,20 @@ pub fn run<R: AllocGlobal + Clock + Wait + RandomSource + Copy + Drop>(
     size: u64,
 ) -> Result<Vec<Spent>, Fault> {
     let (mut sender, mut receiver) = mailbox::new(rt, rt.alloc(), 1)?;
+    put_and_take(rt, &mut sender, &mut receiver, size)
+}
+
+/// The same of a mailbox that is lent.
+fn put_and_take<R: AllocGlobal + Clock + Wait + RandomSource + Copy + Drop>(
+    rt: R,
+    sender: &mut Sender<u64, u16, (), All, Unrecorded, R>,
+    receiver: &mut Receiver<u64, u16, (), All, Unrecorded, R>,
+    size: u64,
+) -> Result<Vec<Spent>, Fault> {
     let mut spent = Vec::with_capacity(rt.alloc(), 2)?;
-    spent.push(put_all(rt, &mut sender, size)?)?;
+    spent.push(put_all(rt, sender, size)?)?;
     sender.close();
-    spent.push(take_all(rt, &mut receiver)?)?;
+    spent.push(take_all(rt, receiver)?)?;
     Ok(spent)
 }
 

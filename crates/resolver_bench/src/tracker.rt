@@ -28,6 +28,15 @@ pub fn run(rt: &(impl AllocGlobal + Clock), size: u64) -> Result<Vec<Spent>, Fau
 /// Subscribers one by one.
 fn attach_each(rt: &(impl AllocGlobal + Clock), size: u64) -> Result<Spent, Fault> {
     let mut tracker = Tracker::new(rt.alloc());
+    attach(rt, &mut tracker, size)
+}
+
+/// The same of a tracker that is lent.
+fn attach(
+    rt: &(impl AllocGlobal + Clock),
+    tracker: &mut Tracker<u64, u64>,
+    size: u64,
+) -> Result<Spent, Fault> {
     let began = Instant::now(rt)?;
     for i in 0..size {
         tracker.insert(KEY, NonEmptyVec::new(rt.alloc(), (scattered(i), 0))?)?;
@@ -35,7 +44,7 @@ fn attach_each(rt: &(impl AllocGlobal + Clock), size: u64) -> Result<Spent, Faul
     Ok(Spent {
         kind: Kind::Attach,
         steps: size,
-        counted: there(&tracker),
+        counted: there(tracker),
         nanoseconds: began.elapsed(rt)?.as_nanos(),
     })
 }
@@ -46,21 +55,40 @@ fn attach_together(
     subscribers: NonEmptyVec<(u64, u64)>,
 ) -> Result<Spent, Fault> {
     let mut tracker = Tracker::new(rt.alloc());
+    attach_at_once(rt, &mut tracker, subscribers)
+}
+
+/// The same of a tracker that is lent.
+fn attach_at_once(
+    rt: &(impl AllocGlobal + Clock),
+    tracker: &mut Tracker<u64, u64>,
+    subscribers: NonEmptyVec<(u64, u64)>,
+) -> Result<Spent, Fault> {
     let began = Instant::now(rt)?;
     tracker.insert(KEY, subscribers)?;
     Ok(Spent {
         kind: Kind::Together,
         steps: 1,
-        counted: there(&tracker),
+        counted: there(tracker),
         nanoseconds: began.elapsed(rt)?.as_nanos(),
     })
 }
 
 /// Two fetches in an overflow.
 fn merge(rt: &(impl AllocGlobal + Clock), size: u64) -> Result<Spent, Fault> {
-    let mut pending: Pending<u64, u64, (), All> = Pending::new(rt.alloc());
+    let mut pending = Pending::new(rt.alloc());
     let first = fetch(rt.alloc(), 0, size)?;
     let second = fetch(rt.alloc(), size / 2, size)?;
+    merge_into(rt, &mut pending, first, second)
+}
+
+/// The same in an overflow that is lent.
+fn merge_into(
+    rt: &(impl AllocGlobal + Clock),
+    pending: &mut Pending<u64, u64, (), All>,
+    first: Vec<FetchKey<u64, u64, ()>>,
+    second: Vec<FetchKey<u64, u64, ()>>,
+) -> Result<Spent, Fault> {
     let began = Instant::now(rt)?;
     pending.handle(Message::Fetch(first))?;
     pending.handle(Message::Fetch(second))?;
@@ -68,7 +96,7 @@ fn merge(rt: &(impl AllocGlobal + Clock), size: u64) -> Result<Spent, Fault> {
     Ok(Spent {
         kind: Kind::Merge,
         steps: 2,
-        counted: waiting(&mut pending),
+        counted: waiting(pending),
         nanoseconds,
     })
 }
