@@ -128,6 +128,34 @@ module _ {I R : Type 0} {by_item : I → I → Ordering} (o : IsTotalOrder by_it
         let after = updates q in
         grind (arith, common_steps, is, before, after)
 
+    -- an item that is there gets the priority that it has: the index says what it said
+    pub indexed-same : (x : I) (r : R) (pairs : List (R × I)) (index next : List (I × R)) → IsIndexed by_priority by_item pairs index
+        → lookup (is_at (by_item x)) index ≡ Some r
+        → ((q : I) → lookup (is_at (by_item q)) next ≡ cond (is_eq (by_item x q)) (Some r) (lookup (is_at (by_item q)) index))
+        → (q : I) → priorities_of by_item pairs q ≡ listed (lookup (is_at (by_item q)) next)
+    indexed-same x r pairs index next indexed there updates q =
+        let before = indexed.same q in
+        let own = indexed.same x in
+        let after = updates q in
+        let tied = Equal-is (by_item x q) in
+        let alike = priorities-same x q pairs in
+        grind (arith, common_steps, before, own, there, after, tied, alike)
+
+    -- an item that isn't there is put into the index and taken out: the index says what it said
+    pub indexed-again : (x : I) (r : R) (pairs : List (R × I)) (index between next : List (I × R)) → IsIndexed by_priority by_item pairs index
+        → lookup (is_at (by_item x)) index ≡ None
+        → ((q : I) → lookup (is_at (by_item q)) next ≡ cond (is_eq (by_item x q)) None (lookup (is_at (by_item q)) between))
+        → ((q : I) → lookup (is_at (by_item q)) between ≡ cond (is_eq (by_item x q)) (Some r) (lookup (is_at (by_item q)) index))
+        → (q : I) → priorities_of by_item pairs q ≡ listed (lookup (is_at (by_item q)) next)
+    indexed-again x r pairs index between next indexed none removes updates q =
+        let before = indexed.same q in
+        let own = indexed.same x in
+        let put = updates q in
+        let taken = removes q in
+        let tied = Equal-is (by_item x q) in
+        let alike = priorities-same x q pairs in
+        grind (arith, common_steps, before, own, none, put, taken, tied, alike)
+
     -- the pair of an item that is there is found by what equals it
     pub found-pair : (x : I) (held : R) (pairs : List (R × I)) → priorities_of by_item pairs x ≡ held ∷ []
         → find (is_at (pair_order by_priority by_item (held, x))) pairs ≡ find (is_of by_item x) pairs

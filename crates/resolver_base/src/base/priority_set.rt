@@ -14,6 +14,7 @@ ghost use Rattle.resolver_base.specs.declared.base.fault.Fault.TheVariants.{OutO
 use crate::base::Fault;
 use std::alloc::Global;
 use std::cmp::Ordering;
+use std::collections::btree_map::Entry;
 use std::collections::btree_set::{Iter, Range};
 use std::collections::{BTreeMap, BTreeSet};
 use std::marker::Model;
@@ -148,11 +149,15 @@ impl<I: Ord + Drop, R: Ord + Drop> PrioritySet<I, R> {
         ensures err { OnErr result (self.new ≡ self.old) }
         ensures only { IfErr result (λ fault. fault ≡ OutOfMemory) }
     {
-        if let Some(held) = self.priorities.get_mut(&item) {
-            return move_item(&mut self.ordered, held, item, priority);
-        }
         let pair = (priority.clone()?, item.clone()?);
-        self.priorities.insert(item, priority)?;
+        match self.priorities.entry(item)? {
+            Entry::Occupied(place) => {
+                return move_item(&mut self.ordered, place.into_mut(), pair.1, priority);
+            }
+            Entry::Vacant(place) => {
+                place.insert(priority);
+            }
+        }
         if let Err(refused) = self.ordered.insert(pair) {
             self.priorities.remove(&refused.value.1);
             return Err(Fault::OutOfMemory);
