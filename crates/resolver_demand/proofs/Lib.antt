@@ -8,3 +8,4 @@ pub mod Drained
 pub mod Fetched
 pub mod Placed
 pub mod Places
+mod Held

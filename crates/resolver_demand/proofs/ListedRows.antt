@@ -1,5 +1,5 @@
 -- Each key of a table has subscribers in their order, whatever is done to it.
-use Rattle.std.proofs.Common.{◌≡◌, ◌<◌, ℕ, Bool, true, false, not, cond, List, [], ◌∷◌, Option, None, Some, IfSome, is_some, length, filter, arith, rules, refl, sym, ap, ◌∙◌, Bor}
+use Rattle.std.proofs.Common.{◌≡◌, ◌<◌, ℕ, Bool, true, false, not, cond, List, [], ◌∷◌, Option, None, Some, IfSome, length, filter, arith, rules, refl, sym, ap, ◌∙◌, Bor}
 use Rattle.std.proofs.lemmas.Grind.{common_steps}
 use Rattle.std.specs.Option.{MatchOption, option_copied}
 use Rattle.std.specs.Cmp.{IsTotalOrder}

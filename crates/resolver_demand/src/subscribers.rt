@@ -25,7 +25,7 @@ pub use listed::Subscribers;
 use resolver_base::base::{Faithful, Fault, NonEmptyVec, Predicate};
 use std::alloc::{AllocError, Global};
 use std::collections::BTreeMap;
-use std::collections::btree_map::Iter;
+use std::collections::btree_map::{Entry, Iter};
 use std::marker::Model;
 
 /// The keys that someone waits for, in their order, each with its subscribers in theirs.
@@ -195,13 +195,17 @@ impl<K: Ord + Drop, S: Ord + Drop> Tracker<K, S> {
 
     /// Removes the named subscribers of a key, and the key if it has no other. The others are
     /// answered, in their order. Where memory is wanting, nothing changes.
+    ///
+    /// The key is cloned, so that it is looked up once; a clone is to equal its source.
     pub fn remove_delivered(
         &mut self,
         key: &K,
         delivered: &NonEmptyVec<(S, u64)>,
     ) -> Result<Option<NonEmptyVec<(S, u64)>>, Fault>
     where
+        K: Clone,
         S: Clone,
+        requires keys_clone { (x y : K) → K.is_clone x y → y ≡ x }
         requires subscribers_clone { (x y : S) → S.is_clone x y → y ≡ x }
         ensures ok { OnOk result
             (self.new ≡ without_named (names K.cmp S.cmp) key.now delivered.now self.old) }
@@ -211,17 +215,12 @@ impl<K: Ord + Drop, S: Ord + Drop> Tracker<K, S> {
         ensures err { OnErr result (self.new ≡ self.old) }
         ensures only { IfErr result (λ fault. fault ≡ OutOfMemory) }
     {
-        let Some(subscribers) = self.demand.get(key) else {
-            return Ok(None);
-        };
-        let named = Named::new(self.alloc, delivered.as_slice())?;
-        let rest = subscribers.without(self.alloc, &named)?;
-        let Ok(rest) = NonEmptyVec::try_from(rest) else {
-            self.demand.remove(key);
-            return Ok(None);
-        };
-        detach_from(&mut self.demand, key, &named);
-        Ok(Some(rest))
+        serve(
+            self.alloc,
+            &mut self.demand,
+            key.clone()?,
+            delivered.as_slice(),
+        )
     }
 
     /// The subscribers of a key with their marks, in their order, if someone waits for it.
@@ -305,19 +304,45 @@ fn attach_to<K: Ord, S: Ord + Clone + Drop>(
     Ok(None)
 }
 
-/// Removes subscribers of a key.
-fn detach_from<K: Ord, S: Ord + Drop>(
+/// Removes the named subscribers of a key, with one look-up, and the key if it has no other. The
+/// others are answered.
+fn serve<K: Ord + Drop, S: Ord + Clone + Drop>(
+    alloc: Global,
     demand: &mut BTreeMap<K, Subscribers<S>>,
-    key: &K,
-    named: &Named<'_, S>,
-)
-    ensures { IfSome (get K.cmp demand.old key.now)
-        (λ subscribers. demand.new.entries
-        ≡ set_value (is_at (K.cmp key.now)) demand.old.entries
-        (without S.cmp named.now.list.now subscribers)) }
+    key: K,
+    delivered: &[(S, u64)],
+) -> Result<Option<NonEmptyVec<(S, u64)>>, Fault>
+    requires subscribers_clone { (x y : S) → S.is_clone x y → y ≡ x }
+    requires listed { AreListed S.cmp demand.old.entries }
+    ensures ok { OnOk result (demand.new.entries
+        ≡ without_named (names K.cmp S.cmp) key delivered.now demand.old.entries) }
+    ensures rest { IfOk result
+        (λ rest. rest ≡ rest_of (names K.cmp S.cmp) key delivered.now demand.old.entries) }
+    ensures rest_listed { IfOk result (λ rest. IfSome rest (IsListed S.cmp)) }
+    ensures listed { AreListed S.cmp demand.new.entries }
+    ensures err { OnErr result (demand.new.entries ≡ demand.old.entries) }
+    ensures only { IfErr result (λ fault. fault ≡ OutOfMemory) }
 {
-    if let Some(subscribers) = demand.get_mut(key) {
-        subscribers.detach_all(named);
+    match demand.entry(key)? {
+        Entry::Occupied(place) => {
+            let named = Named::new(alloc, delivered)?;
+            let rest = place.get().without(alloc, &named)?;
+            match NonEmptyVec::try_from(rest) {
+                Ok(rest) => {
+                    place.into_mut().detach_all(&named);
+                    Ok(Some(rest))
+                }
+                Err(_) => {
+                    place.remove();
+                    Ok(None)
+                }
+            }
+        }
+        // Of a vacant entry that is let go nothing says that its map is as it was.
+        Entry::Vacant(place) => {
+            place.insert_entry(Subscribers::new(alloc)).remove();
+            Ok(None)
+        }
     }
 }
 
