@@ -1,9 +1,10 @@
 //! The fields of a line, and what each says. A field that is not there can't be read.
 
-ghost use Rattle.std.specs.Prelude.{◌≡◌, ◌≤◌, ◌<◌, ◌^◌, ◌⊎◌, ◌-◌, [], map, Ok, Err, IfOk, IfErr};
+ghost use Rattle.std.specs.Prelude.{◌≡◌, ◌≤◌, ◌<◌, ◌^◌, ◌⊎◌, ◌-◌, [], map, Ok, Err, IsTrue, IfOk, IfErr, IfNone, IfSome};
 ghost use Rattle.std.specs.Option.{option_copied};
 ghost use Rattle.std.specs.Char.{is_ascii_digit};
 ghost use Rattle.std.specs.List.{list_all};
+ghost use Rattle.std.specs.Str.Parse.{digits_value};
 ghost use Rattle.resolver_script.specs.declared.script.Unread.TheVariants.{OutOfMemory, Unreadable};
 ghost use Rattle.resolver_script.specs.declared.script.wrong.Why.TheVariants.{Zero};
 ghost use Rattle.resolver_script.specs.Numbers.{is_plain, list_of, number_of, numbers_in, parts_of};
@@ -12,12 +13,12 @@ use crate::script::{Unread, Why};
 use bytes::Bytes;
 use resolver::base::{Moment, NonEmptyVec};
 use std::alloc::{AllocError, Global};
-use std::str::Split;
 
 /// The fields of a line, between single spaces, and how many were asked for.
 #[derive(Drop)]
 pub struct Fields<'a> {
-    rest: Split<'a, char>,
+    /// What stands behind the fields that were asked for, if more stand there.
+    rest: Option<&'a str>,
     count: usize,
 }
 
@@ -25,7 +26,7 @@ impl<'a> Fields<'a> {
     /// The fields of this line, of which none was asked for.
     pub fn new(line: &'a str) -> Fields<'a> {
         Fields {
-            rest: line.split(' '),
+            rest: Some(line),
             count: 0,
         }
     }
@@ -33,7 +34,17 @@ impl<'a> Fields<'a> {
     /// The next field, if there is one.
     pub fn next(&mut self) -> Option<&'a str> {
         self.count = self.count.saturating_add(1);
-        self.rest.next()
+        let rest = self.rest?;
+        match rest.as_bytes().iter().position(|byte| *byte == b' ') {
+            Some(end) => {
+                self.rest = rest.get(end + 1..);
+                rest.get(..end)
+            }
+            None => {
+                self.rest = None;
+                Some(rest)
+            }
+        }
     }
 
     /// How many fields were asked for: the number of the last one, counted from 1.
@@ -113,9 +124,24 @@ fn number(field: Option<&str>, most: u128) -> Result<u128, Unread>
     if !is_plain(digits.as_bytes()) {
         return Err(Unread::Unreadable(Why::NoNumber));
     }
+    match value_of(digits) {
+        Some(n) if n <= most => Ok(n),
+        Some(_) | None => Err(Unread::Unreadable(Why::Above(most))),
+    }
+}
+
+/// The number that digits write, if it has 128 bits at the most. Most have 64, and are read in as many.
+fn value_of(digits: &str) -> Option<u128>
+    requires plain { IsTrue (is_plain digits.now) }
+    ensures value { IfSome result (λ n. n ≡ digits_value 10 digits.now) }
+    ensures above { IfNone result (2 ^ 128 ≤ digits_value 10 digits.now) }
+{
+    if let Ok(n) = digits.parse::<u64>() {
+        return Some(u128::from(n));
+    }
     match digits.parse::<u128>() {
-        Ok(n) if n <= most => Ok(n),
-        _ => Err(Unread::Unreadable(Why::Above(most))),
+        Ok(n) => Some(n),
+        Err(_) => None,
     }
 }
 
