@@ -1,6 +1,7 @@
 //! An actor's loop in memory over an opaque source, and what its test holds of it.
 
 use crate::acts::wanted;
+use crate::both::both;
 use crate::lent::Judge;
 use crate::names::{Below, Peer};
 use crate::seen::{Seen, Wrong, spell};
@@ -107,53 +108,101 @@ pub struct Ends<R> {
 
 /// A clock that stands at 0, with the moments that it is to wait for, and the watch that puts it forward.
 fn clock(alloc: Global) -> Result<(mpsc::UnboundedReceiver<u128>, Arc<Watch>, Telling), Fault> {
-    let (asked, moments) = mpsc::unbounded(alloc)?;
-    let watch = Arc::new(alloc, Watch::new())?;
-    let clock = Telling {
-        clock: Standing {
-            watch: Arc::try_clone(&watch)?,
-        },
-        moments: asked,
-    };
-    Ok((moments, watch, clock))
+    match both(mpsc::unbounded(alloc), Watch::shared(alloc)) {
+        Ok(((asked, moments), (watch, other))) => {
+            let clock = Telling {
+                clock: Standing { watch: other },
+                moments: asked,
+            };
+            Ok((moments, watch, clock))
+        }
+        Err(error) => Err(error.into()),
+    }
 }
 
-/// What an actor is lent, and the ends of it that its test holds.
-fn lend(alloc: Global, wrong: Wrong) -> Result<(Held, Lent), Fault> {
-    let (moments, watch, clock) = clock(alloc)?;
-    let (sender, looks) = mpsc::unbounded(alloc)?;
+/// A consumer that tells what it is handed, and the ends of it that its test holds.
+fn consumer(
+    alloc: Global,
+    wrong: Wrong,
+) -> Result<
+    (
+        mpsc::UnboundedReceiver<Seen>,
+        mpsc::UnboundedReceiver<oneshot::Sender<Outcome>>,
+        Judge,
+    ),
+    Fault,
+> {
     let (teller, told) = mpsc::unbounded(alloc)?;
-    let (verdicts, consumer) = judge(alloc, &teller, wrong)?;
+    let judge = judge(alloc, &teller, wrong);
+    drop(teller);
+    match judge {
+        Ok((verdicts, consumer)) => Ok((told, verdicts, consumer)),
+        Err(fault) => {
+            drop(told);
+            Err(fault)
+        }
+    }
+}
+
+/// A source, and where it hands each look to its test.
+fn source(alloc: Global) -> Result<(mpsc::UnboundedReceiver<(Key, Looked)>, Source), Fault> {
+    let (sender, looks) = mpsc::unbounded(alloc)?;
     let source = Source {
         alloc,
         looks: sender,
     };
-    let held = Held {
-        looks,
-        verdicts,
-        told,
-        moments,
-        watch,
-    };
-    let lent = Lent {
-        clock,
-        source,
-        consumer,
-    };
-    Ok((held, lent))
+    Ok((looks, source))
+}
+
+/// What an actor is lent, and the ends of it that its test holds.
+fn lend(alloc: Global, wrong: Wrong) -> Result<(Held, Lent), Fault> {
+    let both_ends = both(clock(alloc), source(alloc));
+    match both(both_ends, consumer(alloc, wrong)) {
+        Ok((((moments, watch, clock), (looks, source)), (told, verdicts, consumer))) => {
+            let held = Held {
+                looks,
+                verdicts,
+                told,
+                moments,
+                watch,
+            };
+            let lent = Lent {
+                clock,
+                source,
+                consumer,
+            };
+            Ok((held, lent))
+        }
+        Err(fault) => Err(fault),
+    }
 }
 
 /// An actor over a source, with a delay of 100.
 pub fn opened<R: Copy>(rt: R, alloc: Global, wrong: Wrong) -> Result<(Ends<R>, Looped<R>), Fault> {
-    let (held, lent) = lend(alloc, wrong)?;
+    match lend(alloc, wrong) {
+        Ok((held, lent)) => open_lent(rt, alloc, held, lent),
+        Err(fault) => Err(fault),
+    }
+}
+
+fn open_lent<R: Copy>(
+    rt: R,
+    alloc: Global,
+    held: Held,
+    lent: Lent,
+) -> Result<(Ends<R>, Looped<R>), Fault> {
     let Lent {
         clock,
         source,
         consumer,
     } = lent;
-    let size = NonZeroUsize::MIN;
-    let (resolver, looped) = open(rt, alloc, clock, source, consumer, size, 100)?;
-    Ok((Ends { resolver, held }, looped))
+    match open(rt, alloc, clock, source, consumer, NonZeroUsize::MIN, 100) {
+        Ok((resolver, looped)) => Ok((Ends { resolver, held }, looped)),
+        Err(fault) => {
+            drop(held);
+            Err(fault)
+        }
+    }
 }
 
 /// The same in a thread.
@@ -161,15 +210,28 @@ pub fn run<R>(rt: R, alloc: Global) -> Result<(Ends<R>, Handle), Fault>
 where
     R: Threads + Wait + RandomSource + AllocGlobal + Copy + Drop + Send + 'static,
 {
-    let (held, lent) = lend(alloc, Wrong::Nothing)?;
+    match lend(alloc, Wrong::Nothing) {
+        Ok((held, lent)) => run_lent(rt, alloc, held, lent),
+        Err(fault) => Err(fault),
+    }
+}
+
+fn run_lent<R>(rt: R, alloc: Global, held: Held, lent: Lent) -> Result<(Ends<R>, Handle), Fault>
+where
+    R: Threads + Wait + RandomSource + AllocGlobal + Copy + Drop + Send + 'static,
+{
     let Lent {
         clock,
         source,
         consumer,
     } = lent;
-    let size = NonZeroUsize::MIN;
-    let (resolver, handle) = init(rt, alloc, clock, source, consumer, size, 100)?;
-    Ok((Ends { resolver, held }, handle))
+    match init(rt, alloc, clock, source, consumer, NonZeroUsize::MIN, 100) {
+        Ok((resolver, handle)) => Ok((Ends { resolver, held }, handle)),
+        Err(fault) => {
+            drop(held);
+            Err(fault)
+        }
+    }
 }
 
 impl<R: Wait + Copy + Send + 'static> Ends<R> {

@@ -1,7 +1,7 @@
 //! What a test does to a world, one thing at a time.
 
 use crate::names::{Below, Peer};
-use crate::world::{Looped, Setting, World, into_loop, make_world, peers, turn};
+use crate::world::{Looped, Setting, World, make_loop, peers, turn};
 use bytes::Bytes;
 use futures::test::MockTask;
 use resolver::base::{Fault, Feedback, NonEmptyVec};
@@ -216,8 +216,14 @@ where
 {
     let task = MockTask::new(&rt)?;
     let mut text = String::new(rt.alloc());
-    let (mut world, engine, lent) = make_world(rt, rt.alloc(), setting)?;
-    let mut looped = into_loop(engine, lent)?;
-    act_all(&mut text, &task, &mut looped, &mut world, acts)?;
-    Ok(text)
+    match make_loop(rt, rt.alloc(), setting) {
+        Ok((mut world, mut looped)) => {
+            let played = act_all(&mut text, &task, &mut looped, &mut world, acts);
+            drop(looped);
+            drop(world);
+            played?;
+            Ok(text)
+        }
+        Err(fault) => Err(fault.into()),
+    }
 }

@@ -8,6 +8,7 @@ use futures::channel::mpsc;
 use futures::spin::lock;
 use futures::task::{Context, Poll, Source, Waker};
 use resolver::base::Clock;
+use std::alloc::{AllocError, Global};
 use std::sync::{Arc, Mutex};
 
 #[derive(Drop)]
@@ -36,6 +37,13 @@ impl Watch {
                 waker: None,
             }),
         }
+    }
+
+    /// A watch that stands at 0, for two.
+    pub fn shared(alloc: Global) -> Result<(Arc<Watch>, Arc<Watch>), AllocError> {
+        let watch = Arc::new(alloc, Watch::new())?;
+        let other = Arc::try_clone(&watch)?;
+        Ok((watch, other))
     }
 
     /// From now on it is this moment.

@@ -1,5 +1,6 @@
 //! An engine's loop in memory, and what its test holds of it.
 
+use crate::both::both;
 use crate::lent::{Dice, Given, Judge, Store, Wire};
 use crate::names::{Below, Peer};
 use crate::seen::{Seen, Told, Wrong, spell};
@@ -130,21 +131,23 @@ fn given<T: Drop>(
     alloc: Global,
     told: &Told,
 ) -> Result<(mpsc::UnboundedSender<T>, Given<T>), Fault> {
-    let told = told.clone()?;
-    let (sender, given) = mpsc::unbounded(alloc)?;
-    Ok((sender, Given { told, given }))
+    match both(told.clone(), mpsc::unbounded(alloc)) {
+        Ok((told, (sender, given))) => Ok((sender, Given { told, given })),
+        Err(error) => Err(error.into()),
+    }
 }
 
 /// Sources of peers that give what a test says.
 pub fn make_sources(alloc: Global, told: &Told) -> Result<Sources, Fault> {
-    let (sets, provider) = given(alloc, told)?;
-    let (blocked, blocker) = given(alloc, told)?;
-    Ok(Sources {
-        sets,
-        blocked,
-        provider,
-        blocker,
-    })
+    match both(given(alloc, told), given(alloc, told)) {
+        Ok(((sets, provider), (blocked, blocker))) => Ok(Sources {
+            sets,
+            blocked,
+            provider,
+            blocker,
+        }),
+        Err(fault) => Err(fault),
+    }
 }
 
 /// A consumer for a test, which gets the senders of the outcomes.
@@ -153,15 +156,18 @@ pub fn judge(
     told: &Told,
     wrong: Wrong,
 ) -> Result<(mpsc::UnboundedReceiver<oneshot::Sender<Outcome>>, Judge), Fault> {
-    let told = told.clone()?;
-    let (verdicts, senders) = mpsc::unbounded(alloc)?;
-    let judge = Judge {
-        alloc,
-        told,
-        wrong,
-        verdicts,
-    };
-    Ok((senders, judge))
+    match both(told.clone(), mpsc::unbounded(alloc)) {
+        Ok((told, (verdicts, senders))) => {
+            let judge = Judge {
+                alloc,
+                told,
+                wrong,
+                verdicts,
+            };
+            Ok((senders, judge))
+        }
+        Err(error) => Err(error.into()),
+    }
 }
 
 fn store(
@@ -169,26 +175,30 @@ fn store(
     told: &Told,
     wrong: Wrong,
 ) -> Result<(mpsc::UnboundedReceiver<oneshot::Sender<Bytes>>, Store), Fault> {
-    let told = told.clone()?;
-    let (serves, senders) = mpsc::unbounded(alloc)?;
-    let store = Store {
-        alloc,
-        told,
-        wrong,
-        serves,
-    };
-    Ok((senders, store))
+    match both(told.clone(), mpsc::unbounded(alloc)) {
+        Ok((told, (serves, senders))) => {
+            let store = Store {
+                alloc,
+                told,
+                wrong,
+                serves,
+            };
+            Ok((senders, store))
+        }
+        Err(error) => Err(error.into()),
+    }
 }
 
 fn make_hands(alloc: Global, told: &Told, wrong: Wrong) -> Result<Hands, Fault> {
-    let (verdicts, consumer) = judge(alloc, told, wrong)?;
-    let (serves, producer) = store(alloc, told, wrong)?;
-    Ok(Hands {
-        verdicts,
-        serves,
-        consumer,
-        producer,
-    })
+    match both(judge(alloc, told, wrong), store(alloc, told, wrong)) {
+        Ok(((verdicts, consumer), (serves, producer))) => Ok(Hands {
+            verdicts,
+            serves,
+            consumer,
+            producer,
+        }),
+        Err(fault) => Err(fault),
+    }
 }
 
 /// What the engine is lent besides, and the ends that a test holds of that.
@@ -197,15 +207,21 @@ pub fn make_lent(
     told: Told,
     setting: Setting,
 ) -> Result<(mpsc::UnboundedSender<(Peer, Bytes)>, Arc<Watch>, Lent), Fault> {
-    let (network, incoming) = mpsc::unbounded(alloc)?;
-    let watch = Arc::new(alloc, Watch::new())?;
-    let lent = Lent {
-        setting,
-        told,
-        incoming,
-        watch: Arc::try_clone(&watch)?,
-    };
-    Ok((network, watch, lent))
+    match both(mpsc::unbounded(alloc), Watch::shared(alloc)) {
+        Ok(((network, incoming), (watch, other))) => {
+            let lent = Lent {
+                setting,
+                told,
+                incoming,
+                watch: other,
+            };
+            Ok((network, watch, lent))
+        }
+        Err(error) => {
+            drop(told);
+            Err(error.into())
+        }
+    }
 }
 
 /// An engine with a timeout of 50 and a delay of 10, and its mailbox.
@@ -238,29 +254,67 @@ pub fn make_world<R: Copy>(
     setting: Setting,
 ) -> Result<(World<R>, Made<R>, Lent), Fault> {
     let (told, seen) = mpsc::unbounded(alloc)?;
-    let sources = make_sources(alloc, &told)?;
-    let hands = make_hands(alloc, &told, setting.wrong)?;
-    let (network, watch, lent) = make_lent(alloc, told, setting)?;
-    let peers = (sources.provider, sources.blocker);
-    let (engine, mailbox) = made(
+    match both(
+        make_sources(alloc, &told),
+        make_hands(alloc, &told, setting.wrong),
+    ) {
+        Ok((sources, hands)) => make_between(rt, alloc, setting, (told, seen), sources, hands),
+        Err(fault) => {
+            drop((told, seen));
+            Err(fault)
+        }
+    }
+}
+
+/// A world with its engine, which has these sources and these hands.
+fn make_between<R: Copy>(
+    rt: R,
+    alloc: Global,
+    setting: Setting,
+    channel: (Told, mpsc::UnboundedReceiver<Seen>),
+    sources: Sources,
+    hands: Hands,
+) -> Result<(World<R>, Made<R>, Lent), Fault> {
+    let (told, seen) = channel;
+    let Sources {
+        sets,
+        blocked,
+        provider,
+        blocker,
+    } = sources;
+    let Hands {
+        verdicts,
+        serves,
+        consumer,
+        producer,
+    } = hands;
+    let engine = made(
         rt,
         alloc,
         setting.me,
-        peers,
-        (hands.consumer, hands.producer),
-    )?;
-    let world = World {
-        alloc,
-        mailbox,
-        sets: sources.sets,
-        blocked: sources.blocked,
-        network,
-        watch,
-        verdicts: hands.verdicts,
-        serves: hands.serves,
-        told: seen,
-    };
-    Ok((world, engine, lent))
+        (provider, blocker),
+        (consumer, producer),
+    );
+    match both(make_lent(alloc, told, setting), engine) {
+        Ok(((network, watch, lent), (engine, mailbox))) => {
+            let world = World {
+                alloc,
+                mailbox,
+                sets,
+                blocked,
+                network,
+                watch,
+                verdicts,
+                serves,
+                told: seen,
+            };
+            Ok((world, engine, lent))
+        }
+        Err(fault) => {
+            drop((seen, sets, blocked, verdicts, serves));
+            Err(fault)
+        }
+    }
 }
 
 /// The network, the clock and the draws that an engine is lent.
@@ -271,18 +325,49 @@ pub fn parts_of(lent: Lent) -> Result<((Wire, Given<(Peer, Bytes)>), Standing, D
         incoming,
         watch,
     } = lent;
-    let sender = Wire::new(told.clone()?, setting.wrong);
-    let receiver = Given {
-        told: told.clone()?,
-        given: incoming,
-    };
-    Ok(((sender, receiver), Standing { watch }, setting.dice(told)))
+    match both(told.clone(), told.clone()) {
+        Ok((one, other)) => {
+            let sender = Wire::new(one, setting.wrong);
+            let receiver = Given {
+                told: other,
+                given: incoming,
+            };
+            Ok(((sender, receiver), Standing { watch }, setting.dice(told)))
+        }
+        Err(error) => {
+            drop((told, incoming, watch));
+            Err(error.into())
+        }
+    }
 }
 
 /// The loop of a world's engine.
 pub fn into_loop<R: Copy>(engine: Made<R>, lent: Lent) -> Result<Looped<R>, Fault> {
-    let (network, clock, draws) = parts_of(lent)?;
-    engine.into_loop(network, clock, draws)
+    match parts_of(lent) {
+        Ok((network, clock, draws)) => engine.into_loop(network, clock, draws),
+        Err(fault) => {
+            drop(engine);
+            Err(fault)
+        }
+    }
+}
+
+/// A world, and the loop of its engine.
+pub fn make_loop<R: Copy>(
+    rt: R,
+    alloc: Global,
+    setting: Setting,
+) -> Result<(World<R>, Looped<R>), Fault> {
+    match make_world(rt, alloc, setting) {
+        Ok((world, engine, lent)) => match into_loop(engine, lent) {
+            Ok(looped) => Ok((world, looped)),
+            Err(fault) => {
+                drop(world);
+                Err(fault)
+            }
+        },
+        Err(fault) => Err(fault),
+    }
 }
 
 /// A world's engine in a thread.
@@ -290,8 +375,13 @@ pub fn start<R>(engine: Made<R>, lent: Lent) -> Result<Handle, Fault>
 where
     R: Threads + Wait + RandomSource + AllocGlobal + Copy + Drop + Send + 'static,
 {
-    let (network, clock, draws) = parts_of(lent)?;
-    engine.start(network, clock, draws)
+    match parts_of(lent) {
+        Ok((network, clock, draws)) => engine.start(network, clock, draws),
+        Err(fault) => {
+            drop(engine);
+            Err(fault)
+        }
+    }
 }
 
 /// Peers by their numbers.

@@ -116,13 +116,53 @@ canceled true
 complete
 ";
 
-#[test]
-fn every_input_every_effect_of_the_actor(rt: HostRuntime) -> Result<(), Fail> {
+/// What a test does to an actor's loop.
+#[derive(Clone, Copy)]
+enum Course {
+    /// A key that is looked for again, and two that are let go.
+    Every,
+    /// One key, and whether its mailbox is closed then.
+    Looked(bool),
+}
+
+fn go<R: Wait + Copy + Drop + Send + 'static>(
+    text: &mut String,
+    task: &MockTask,
+    looped: &mut Looped<R>,
+    ends: &mut Ends<R>,
+    course: Course,
+) -> Result<(), Fail> {
+    match course {
+        Course::Every => {
+            retried(text, task, looped, ends)?;
+            let_go(text, task, looped, ends)
+        }
+        Course::Looked(closes) => looked(text, task, looped, ends, closes),
+    }
+}
+
+/// Does this in an actor of its own, and gives what was written.
+fn play<R>(rt: R, wrong: Wrong, course: Course) -> Result<String, Fail>
+where
+    R: Wait + RandomSource + AllocGlobal + Copy + Drop + Send + 'static,
+{
     let task = MockTask::new(&rt)?;
     let mut text = String::new(rt.alloc());
-    let (mut ends, mut looped) = opened(rt, rt.alloc(), Wrong::Nothing)?;
-    retried(&mut text, &task, &mut looped, &mut ends)?;
-    let_go(&mut text, &task, &mut looped, &mut ends)?;
+    match opened(rt, rt.alloc(), wrong) {
+        Ok((mut ends, mut looped)) => {
+            let gone = go(&mut text, &task, &mut looped, &mut ends, course);
+            drop(looped);
+            drop(ends);
+            gone?;
+            Ok(text)
+        }
+        Err(fault) => Err(fault.into()),
+    }
+}
+
+#[test]
+fn every_input_every_effect_of_the_actor(rt: HostRuntime) -> Result<(), Fail> {
+    let text = play(rt, Wrong::Nothing, Course::Every)?;
     assert_eq!(rt; text.as_str(), SEEN);
     Ok(())
 }
@@ -149,29 +189,17 @@ fn looked<R: Wait + Copy + Drop + Send + 'static>(
     Ok(())
 }
 
-/// The same in an actor of its own, with a consumer that has no memory.
-fn look_without_memory<R>(rt: R, closes: bool) -> Result<String, Fail>
-where
-    R: Wait + RandomSource + AllocGlobal + Copy + Drop + Send + 'static,
-{
-    let task = MockTask::new(&rt)?;
-    let mut text = String::new(rt.alloc());
-    let (mut ends, mut looped) = opened(rt, rt.alloc(), Wrong::Consumer)?;
-    looked(&mut text, &task, &mut looped, &mut ends, closes)?;
-    Ok(text)
-}
-
 /// What was put before the close is still taken, and looked for.
 #[test]
 fn the_mailbox_is_closed_and_nothing_waits(rt: HostRuntime) -> Result<(), Fail> {
-    let text = look_without_memory(rt, true)?;
+    let text = play(rt, Wrong::Consumer, Course::Looked(true))?;
     assert_eq!(rt; text.as_str(), "complete\nlook 1\nClosed\n");
     Ok(())
 }
 
 #[test]
 fn the_consumer_answers_1(rt: HostRuntime) -> Result<(), Fail> {
-    let text = look_without_memory(rt, false)?;
+    let text = play(rt, Wrong::Consumer, Course::Looked(false))?;
     assert_eq!(rt; text.as_str(), "-\nlook 1\nOutOfMemory\nClosed\n");
     Ok(())
 }

@@ -6,6 +6,7 @@ ghost use Rattle.resolver_base.specs.declared.base.fault.Fault.TheVariants.{OutO
 use crate::attempts::Attempts;
 use crate::fetcher::Fetcher;
 use crate::looping::Loop;
+use futures::Future;
 use resolver_actor::opaque::Actor;
 use resolver_asking::resolver::Resolver;
 use resolver_base::base::{Faithful, Fault, Predicate, Span};
@@ -50,17 +51,55 @@ where
     requires { fetch_retry_delay < 2 ^ 94 }
     ensures only { IfErr result (λ fault. fault ≡ OutOfMemory) }
 {
-    let (sender, mail) = mailbox::new(rt, alloc, mailbox_size.get())?;
-    let looped = Loop {
-        actor: Actor::new(alloc, fetch_retry_delay),
-        mail,
-        clock,
-        fetcher,
-        attempts: Attempts::new(alloc)?,
-        judging: Judging::new(alloc, consumer)?,
-        is_starved: false,
+    let (attempts, judging) = match attempts_and_judging(alloc, consumer) {
+        Ok(made) => made,
+        Err(fault) => {
+            drop((clock, fetcher));
+            return Err(fault);
+        }
     };
-    Ok((Resolver::over(alloc, sender), looped))
+    match mailbox::new(rt, alloc, mailbox_size.get()) {
+        Ok((sender, mail)) => {
+            let looped = Loop {
+                actor: Actor::new(alloc, fetch_retry_delay),
+                mail,
+                clock,
+                fetcher,
+                attempts,
+                judging,
+                is_starved: false,
+            };
+            Ok((Resolver::over(alloc, sender), looped))
+        }
+        Err(fault) => {
+            drop((clock, fetcher, attempts, judging));
+            Err(fault)
+        }
+    }
+}
+
+/// With no look under way, and nothing judged.
+fn attempts_and_judging<V, A: Future<Output = Option<V>> + Drop, C: Consumer + Drop>(
+    alloc: Global,
+    consumer: C,
+) -> Result<(Attempts<A>, Judging<C>), Fault>
+where
+    C::Outcome: Drop,
+    ensures only { IfErr result (λ fault. fault ≡ OutOfMemory) }
+{
+    match Attempts::new(alloc) {
+        Ok(attempts) => match Judging::new(alloc, consumer) {
+            Ok(judging) => Ok((attempts, judging)),
+            Err(fault) => {
+                drop(attempts);
+                Err(fault)
+            }
+        },
+        Err(fault) => {
+            drop(consumer);
+            Err(fault)
+        }
+    }
 }
 
 /// An actor over a source, as a handle and the thread in which its loop runs until the mailbox is
@@ -91,7 +130,7 @@ where
     requires { fetch_retry_delay < 2 ^ 94 }
     ensures only { IfErr result (λ fault. fault ≡ OutOfMemory) }
 {
-    let (resolver, looped) = open(
+    match open(
         rt,
         alloc,
         clock,
@@ -99,6 +138,14 @@ where
         consumer,
         mailbox_size,
         fetch_retry_delay,
-    )?;
-    Ok((resolver, start(rt, looped)?))
+    ) {
+        Ok((resolver, looped)) => match start(rt, looped) {
+            Ok(handle) => Ok((resolver, handle)),
+            Err(fault) => {
+                drop(resolver);
+                Err(fault)
+            }
+        },
+        Err(fault) => Err(fault),
+    }
 }

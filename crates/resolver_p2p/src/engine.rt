@@ -134,20 +134,63 @@ impl<
         C::Outcome: Drop,
         ensures only { IfErr result (λ fault. fault ≡ OutOfMemory) }
     {
+        let Engine {
+            rt: _,
+            alloc,
+            core,
+            mail,
+            peer_provider,
+            blocker,
+            consumer,
+            producer,
+        } = self;
         let (sender, receiver) = network;
-        Ok(Loop {
-            alloc: self.alloc,
-            core: self.core,
-            mail: self.mail,
-            peers: Peers::new(self.peer_provider, self.blocker),
-            judging: Judging::new(self.alloc, self.consumer)?,
-            serving: Serving::new(self.alloc, self.producer)?,
-            asking: Asking { sender, draws },
-            receiver,
-            clock,
-            answer: None,
-            is_starved: false,
-        })
+        let peers = Peers::new(peer_provider, blocker);
+        let asking = Asking { sender, draws };
+        match judging_and_serving(alloc, consumer, producer) {
+            Ok((judging, serving)) => Ok(Loop {
+                alloc,
+                core,
+                mail,
+                peers,
+                judging,
+                serving,
+                asking,
+                receiver,
+                clock,
+                answer: None,
+                is_starved: false,
+            }),
+            Err(fault) => {
+                drop((core, mail, peers, asking, receiver, clock));
+                Err(fault)
+            }
+        }
+    }
+}
+
+/// With nothing judged and nothing looked for.
+fn judging_and_serving<C: Consumer + Drop, O: Producer + Drop>(
+    alloc: Global,
+    consumer: C,
+    producer: O,
+) -> Result<(Judging<C>, Serving<O>), Fault>
+where
+    C::Outcome: Drop,
+    ensures only { IfErr result (λ fault. fault ≡ OutOfMemory) }
+{
+    match Serving::new(alloc, producer) {
+        Ok(serving) => match Judging::new(alloc, consumer) {
+            Ok(judging) => Ok((judging, serving)),
+            Err(fault) => {
+                drop(serving);
+                Err(fault)
+            }
+        },
+        Err(fault) => {
+            drop(consumer);
+            Err(fault)
+        }
     }
 }
 

@@ -38,6 +38,9 @@ impl<
         ensures only { IfErr result (λ fault. fault ≡ OutOfMemory) }
     {
         let rt = self.rt;
-        start(rt, self.into_loop(network, clock, draws)?)
+        match self.into_loop(network, clock, draws) {
+            Ok(looped) => start(rt, looped),
+            Err(fault) => Err(fault),
+        }
     }
 }

@@ -123,8 +123,14 @@ where
         seed: plan.seed,
     };
     let eligible = if plan.is_targeted { 1 } else { 3 };
-    let mut pair = make_pair(rt, setting, Some(eligible))?;
-    play(&mut pair, plan.is_targeted)
+    match make_pair(rt, setting, Some(eligible)) {
+        Ok(mut pair) => {
+            let counts = play(&mut pair, plan.is_targeted);
+            drop(pair);
+            counts
+        }
+        Err(fail) => Err(fail),
+    }
 }
 
 /// The run for every N that it meets, of which there are five at the least.

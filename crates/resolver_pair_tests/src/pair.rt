@@ -2,11 +2,10 @@
 
 use crate::twin::{Twin, message};
 use futures::test::MockTask;
-use resolver::base::Fault;
 use resolver_fakes::acts::Act;
 use resolver_fakes::seen::spell;
-use resolver_fakes::world::{Looped, Setting, World, into_loop, make_world, settle};
-use std::alloc::{AllocGlobal, Global};
+use resolver_fakes::world::{Looped, Setting, World, make_loop, settle};
+use std::alloc::AllocGlobal;
 use std::fmt::Write;
 use std::random::RandomSource;
 use std::sync::Wait;
@@ -23,19 +22,6 @@ pub struct Pair<R> {
     expected: String,
 }
 
-/// A loop, and its world.
-fn make_loop<R: Copy>(
-    rt: R,
-    alloc: Global,
-    setting: Setting,
-) -> Result<(World<R>, Looped<R>), Fault> {
-    let (world, engine, lent) = make_world(rt, alloc, setting)?;
-    match into_loop(engine, lent) {
-        Ok(looped) => Ok((world, looped)),
-        Err(fault) => Err(fault),
-    }
-}
-
 /// A pair whose fakes go by this setting. Scans are judged where the peers of each key are counted.
 pub fn make_pair<R>(rt: R, setting: Setting, eligible: Option<usize>) -> Result<Pair<R>, Fail>
 where
@@ -43,16 +29,23 @@ where
 {
     let alloc = rt.alloc();
     let task = MockTask::new(&rt)?;
-    let twin = Twin::new(alloc, setting, eligible)?;
-    let (world, looped) = make_loop(rt, alloc, setting)?;
-    Ok(Pair {
-        twin,
-        task,
-        looped,
-        world,
-        said: String::new(alloc),
-        expected: String::new(alloc),
-    })
+    match Twin::new(alloc, setting, eligible) {
+        Ok(twin) => match make_loop(rt, alloc, setting) {
+            Ok((world, looped)) => Ok(Pair {
+                twin,
+                task,
+                looped,
+                world,
+                said: String::new(alloc),
+                expected: String::new(alloc),
+            }),
+            Err(fault) => {
+                drop(twin);
+                Err(fault.into())
+            }
+        },
+        Err(fail) => Err(fail),
+    }
 }
 
 impl<R: Wait + Copy + Drop + Send + 'static> Pair<R> {

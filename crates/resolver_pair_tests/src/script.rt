@@ -148,8 +148,14 @@ where
     R: Wait + RandomSource + AllocGlobal + Copy + Drop + Send + 'static,
 {
     let refused = Wrong::Sends { first: 4, count: 1 };
-    let mut pair = make_pair(rt, Setting::with(refused), None)?;
-    script_of(rt.alloc(), &mut pair, acts)
+    match make_pair(rt, Setting::with(refused), None) {
+        Ok(mut pair) => {
+            let script = script_of(rt.alloc(), &mut pair, acts);
+            drop(pair);
+            script
+        }
+        Err(fail) => Err(fail),
+    }
 }
 
 #[test]

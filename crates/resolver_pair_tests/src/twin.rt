@@ -13,6 +13,7 @@ use resolver::p2p::mocks::Key;
 use resolver::p2p::{Core, FetchKey as Wanted};
 use resolver::{Delivery, Outcome};
 use resolver_fakes::acts::{Act, fetches, targeted};
+use resolver_fakes::both::both;
 use resolver_fakes::lent::{Dice, Wire};
 use resolver_fakes::names::{Below, Peer};
 use resolver_fakes::seen::{Seen, Told};
@@ -42,6 +43,14 @@ pub struct Counts {
     /// The responses that were handed out.
     pub responses: u64,
 }
+
+const NONE: Counts = Counts {
+    fetches: 0,
+    checks: 0,
+    sends: 0,
+    credits: 0,
+    responses: 0,
+};
 
 /// What is asked, and what it is asked.
 #[derive(Drop)]
@@ -105,14 +114,18 @@ fn make_core(alloc: Global, me: u8) -> Core<Key, Peer, u16, Below> {
 
 fn make_fakes(alloc: Global, setting: Setting) -> Result<Fakes, Fault> {
     let (told, seen) = mpsc::unbounded(alloc)?;
-    let wire = Wire::new(told.clone()?, setting.wrong);
-    let dice = setting.dice(told.clone()?);
-    Ok(Fakes {
-        wire,
-        dice,
-        told,
-        seen,
-    })
+    match both(told.clone(), told.clone()) {
+        Ok((one, other)) => Ok(Fakes {
+            wire: Wire::new(one, setting.wrong),
+            dice: setting.dice(other),
+            told,
+            seen,
+        }),
+        Err(error) => {
+            drop((told, seen));
+            Err(error.into())
+        }
+    }
 }
 
 /// The line that opens an engine which is called so.
@@ -200,30 +213,26 @@ fn event_of(alloc: Global, act: Act<'_>) -> Result<Happened, Fail> {
 impl Twin {
     /// The twin of a world's engine. Its scans are judged where the peers of each key are counted.
     pub fn new(alloc: Global, setting: Setting, eligible: Option<usize>) -> Result<Twin, Fail> {
-        let fakes = make_fakes(alloc, setting)?;
         let script = begin_script(alloc, setting.me)?;
-        Ok(Twin {
-            alloc,
-            setting,
-            core: make_core(alloc, setting.me),
-            fakes,
-            differs: false,
-            now: 0,
-            eligible,
-            scan: Scan::new(alloc, 0, 0, Vec::new(alloc)),
-            deliveries: VecDeque::new(alloc),
-            serves: VecDeque::new(alloc),
-            sent: VecDeque::new(alloc),
-            delivered: Vec::new(alloc),
-            counts: Counts {
-                fetches: 0,
-                checks: 0,
-                sends: 0,
-                credits: 0,
-                responses: 0,
-            },
-            script,
-        })
+        match make_fakes(alloc, setting) {
+            Ok(fakes) => Ok(Twin {
+                alloc,
+                setting,
+                core: make_core(alloc, setting.me),
+                fakes,
+                differs: false,
+                now: 0,
+                eligible,
+                scan: Scan::new(alloc, 0, 0, Vec::new(alloc)),
+                deliveries: VecDeque::new(alloc),
+                serves: VecDeque::new(alloc),
+                sent: VecDeque::new(alloc),
+                delivered: Vec::new(alloc),
+                counts: NONE,
+                script,
+            }),
+            Err(fault) => Err(fault.into()),
+        }
     }
 
     /// The demanded keys.

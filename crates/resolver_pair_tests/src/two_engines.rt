@@ -257,30 +257,50 @@ fn print_wrong<R: Print + Copy + Drop>(rt: R, seed: u64, one: &mut Twin, two: &T
     }
 }
 
-/// The rest of a run: the second engine, and what both do. Where it goes wrong a script is printed.
-fn run_beside<R>(rt: R, one: &mut Pair<R>, seed: u64) -> Result<(), Fail>
+/// What both engines do in a run. Where it goes wrong a script is printed.
+fn run_both<R>(rt: R, one: &mut Pair<R>, two: &mut Pair<R>, seed: u64) -> Result<(), Fail>
 where
     R: Print + Wait + RandomSource + AllocGlobal + Copy + Drop + Send + 'static,
 {
-    let mut two = make_engine(rt, 2, seed.wrapping_add(1000))?;
     let mut course = Course {
         now: 0,
         index: 0,
         draws: Seeded::new(seed.wrapping_add(2000)),
     };
-    let ended = go_all(one, &mut two, &mut course);
+    let ended = go_all(one, two, &mut course);
     if ended.is_err() {
         print_wrong(rt, seed, &mut one.twin, &two.twin);
     }
     ended
 }
 
+/// The rest of a run: the second engine, and what both do.
+fn run_beside<R>(rt: R, one: &mut Pair<R>, seed: u64) -> Result<(), Fail>
+where
+    R: Print + Wait + RandomSource + AllocGlobal + Copy + Drop + Send + 'static,
+{
+    match make_engine(rt, 2, seed.wrapping_add(1000)) {
+        Ok(mut two) => {
+            let ended = run_both(rt, one, &mut two, seed);
+            drop(two);
+            ended
+        }
+        Err(fail) => Err(fail),
+    }
+}
+
 fn run<R>(rt: R, seed: u64) -> Result<(), Fail>
 where
     R: Print + Wait + RandomSource + AllocGlobal + Copy + Drop + Send + 'static,
 {
-    let mut one = make_engine(rt, 1, seed)?;
-    run_beside(rt, &mut one, seed)
+    match make_engine(rt, 1, seed) {
+        Ok(mut one) => {
+            let ended = run_beside(rt, &mut one, seed);
+            drop(one);
+            ended
+        }
+        Err(fail) => Err(fail),
+    }
 }
 
 /// Runs of ten seeds, from this one on.

@@ -12,8 +12,11 @@ use resolver::p2p::mocks::Key;
 use std::alloc::Global;
 use std::io::Write;
 
+/// What the actor is told.
+type Told = Event<Key, Bytes, u16, Kept>;
+
 /// What the actor takes.
-type Taken = Event<Key, Bytes, u16, Kept>;
+type Taken = Input<Key, Bytes, u16, Kept>;
 
 /// The actor that a script opened.
 #[derive(Drop)]
@@ -39,15 +42,22 @@ impl Opaque {
         said: Said,
         output: &mut W,
     ) -> Result<bool, Fault> {
-        let Some(event) = event_of(self.alloc, said)? else {
-            return Ok(false);
-        };
-        let now = now.nanoseconds;
-        match self.actor.step(Input { now, event }) {
-            Ok(effects) => print_all(&effects, output)?,
-            Err(fault) => print::refusal(output, fault)?,
+        match event_of(self.alloc, said) {
+            Ok(Some(event)) => {
+                let now = now.nanoseconds;
+                self.step(Input { now, event }, output)?;
+                Ok(true)
+            }
+            Ok(None) => Ok(false),
+            Err(fault) => Err(fault),
         }
-        Ok(true)
+    }
+
+    fn step<W: Write>(&mut self, input: Taken, output: &mut W) -> Result<(), Fault> {
+        match self.actor.step(input) {
+            Ok(effects) => print_all(&effects, output),
+            Err(fault) => print::refusal(output, fault),
+        }
     }
 
     /// Prints the rows and the wake-up.
@@ -60,8 +70,8 @@ impl Opaque {
     }
 }
 
-/// What the actor takes, if this happens to it.
-fn event_of(alloc: Global, said: Said) -> Result<Option<Taken>, Fault> {
+/// What the actor is told, if this happens to it.
+fn event_of(alloc: Global, said: Said) -> Result<Option<Told>, Fault> {
     Ok(Some(match said {
         Said::Fetch(wish) => return fetch(alloc, &wish),
         Said::Retain(kept) => Event::Retain(kept),
@@ -74,7 +84,7 @@ fn event_of(alloc: Global, said: Said) -> Result<Option<Taken>, Fault> {
 }
 
 /// What a subscriber wants, if it names no peers.
-fn fetch(alloc: Global, wish: &Wish) -> Result<Option<Taken>, Fault> {
+fn fetch(alloc: Global, wish: &Wish) -> Result<Option<Told>, Fault> {
     if wish.targets.is_some() {
         return Ok(None);
     }

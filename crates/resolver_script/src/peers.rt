@@ -59,8 +59,13 @@ impl Peers {
             priority_requests: false,
             priority_responses: false,
         };
-        let (engine, _) = Engine::new((), alloc, cfg).map_err(|_| Fault::Memory)?;
-        Ok(Peers { engine, alloc })
+        match Engine::new((), alloc, cfg) {
+            Ok((engine, mailbox)) => {
+                drop(mailbox);
+                Ok(Peers { engine, alloc })
+            }
+            Err(_) => Err(Fault::Memory),
+        }
     }
 
     /// Feeds what happened, and prints the effects or the refusal. False where it doesn't happen to
@@ -71,12 +76,15 @@ impl Peers {
         said: Said,
         output: &mut W,
     ) -> Result<bool, Fault> {
-        let Some(event) = event_of(self.alloc, said)? else {
-            return Ok(false);
-        };
-        let now = now.nanoseconds;
-        self.step(Input::Happens(Happening { now, event }), output)?;
-        Ok(true)
+        match event_of(self.alloc, said) {
+            Ok(Some(event)) => {
+                let now = now.nanoseconds;
+                self.step(Input::Happens(Happening { now, event }), output)?;
+                Ok(true)
+            }
+            Ok(None) => Ok(false),
+            Err(fault) => Err(fault),
+        }
     }
 
     /// Feeds what the open scan is answered, and prints the effects or the refusal.

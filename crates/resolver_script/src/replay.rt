@@ -48,7 +48,9 @@ fn take_lines<L: Log, R: Read, W: Write>(
     output: &mut W,
 ) -> Result<Ending, Fault> {
     let mut session = None;
-    feed_lines(log, alloc, &mut session, input, output)
+    let ended = feed_lines(log, alloc, &mut session, input, output);
+    drop(session);
+    ended
 }
 
 /// The same, of a machine that is held elsewhere, so that it is let go in one place.
@@ -127,21 +129,25 @@ fn start(
     session: &mut Option<Session>,
     command: Command,
 ) -> Result<Option<Why>, Fault> {
-    let Some(machine) = opened(alloc, command)? else {
-        return Ok(Some(Why::Unopened));
-    };
-    *session = Some(Session {
-        machine,
-        now: Moment { nanoseconds: 0 },
-    });
-    Ok(None)
+    match opened(alloc, command) {
+        Ok(Some(machine)) => {
+            let now = Moment { nanoseconds: 0 };
+            let _ = session.insert(Session { machine, now });
+            Ok(None)
+        }
+        Ok(None) => Ok(Some(Why::Unopened)),
+        Err(fault) => Err(fault),
+    }
 }
 
 /// The machine that a command opens.
 fn opened(alloc: Global, command: Command) -> Result<Option<Machine>, Fault> {
     match command {
         Command::Opaque { delay } => Ok(Some(Machine::Opaque(Opaque::new(alloc, delay)))),
-        Command::Peers(timing) => Ok(Some(Machine::Peers(Peers::new(alloc, timing)?))),
+        Command::Peers(timing) => match Peers::new(alloc, timing) {
+            Ok(peers) => Ok(Some(Machine::Peers(peers))),
+            Err(fault) => Err(fault),
+        },
         _ => Ok(None),
     }
 }
