@@ -389,7 +389,9 @@ pub fn goes_after(
     calls: &[(Call, Seen)],
 ) -> Result<(), Fault> {
     let mut fetcher = Fetcher::new(alloc, delayed(delay));
-    goes_on(rt, alloc, &mut fetcher, calls)
+    let ended = goes_on(rt, alloc, &mut fetcher, calls);
+    drop(fetcher);
+    ended
 }
 
 /// What is seen once the scan is told this number.

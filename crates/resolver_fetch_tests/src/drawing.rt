@@ -101,7 +101,9 @@ fn goes_on_among(
 /// The same of a new fetcher.
 fn goes_among(rt: &impl Abort, alloc: Global, calls: &[(Call, Seen)]) -> Result<(), Fault> {
     let mut fetcher = Fetcher::new(alloc, config());
-    goes_on_among(rt, alloc, &mut fetcher, calls)
+    let ended = goes_on_among(rt, alloc, &mut fetcher, calls);
+    drop(fetcher);
+    ended
 }
 
 /// Makes calls of a fetcher that knows many peers then, each of its own number's weight.
@@ -119,7 +121,9 @@ fn goes_on_by_weight(
 /// The same of a new fetcher.
 fn goes_by_weight(rt: &impl Abort, alloc: Global, calls: &[(Call, Seen)]) -> Result<(), Fault> {
     let mut fetcher = Fetcher::new(alloc, config());
-    goes_on_by_weight(rt, alloc, &mut fetcher, calls)
+    let ended = goes_on_by_weight(rt, alloc, &mut fetcher, calls);
+    drop(fetcher);
+    ended
 }
 
 #[test]
@@ -291,7 +295,9 @@ fn asks_for_both(rt: &impl Abort, alloc: Global, fetcher: &mut Node) -> Result<(
 /// The same of a new fetcher.
 fn two_keys(rt: &impl Abort, alloc: Global) -> Result<(), Fault> {
     let mut fetcher = Fetcher::new(alloc, config());
-    asks_for_both(rt, alloc, &mut fetcher)
+    let ended = asks_for_both(rt, alloc, &mut fetcher);
+    drop(fetcher);
+    ended
 }
 
 #[test]
@@ -387,7 +393,9 @@ fn changes_weights(rt: &impl Abort, alloc: Global, fetcher: &mut Node) -> Result
 /// The same of a new fetcher.
 fn changed_weights(rt: &impl Abort, alloc: Global) -> Result<(), Fault> {
     let mut fetcher = in_seconds(alloc);
-    changes_weights(rt, alloc, &mut fetcher)
+    let ended = changes_weights(rt, alloc, &mut fetcher);
+    drop(fetcher);
+    ended
 }
 
 #[test]
@@ -470,7 +478,9 @@ fn draws_between(rt: &impl Abort, alloc: Global, fetcher: &mut Node) -> Result<(
 /// The same of a new fetcher.
 fn drawn_between(rt: &impl Abort, alloc: Global) -> Result<(), Fault> {
     let mut fetcher = of_peer_three(alloc);
-    draws_between(rt, alloc, &mut fetcher)
+    let ended = draws_between(rt, alloc, &mut fetcher);
+    drop(fetcher);
+    ended
 }
 
 #[test]
@@ -536,7 +546,9 @@ fn leaves_and_comes_back(rt: &impl Abort, alloc: Global, fetcher: &mut Node) -> 
 /// The same of a new fetcher.
 fn left_and_back(rt: &impl Abort, alloc: Global) -> Result<(), Fault> {
     let mut fetcher = Fetcher::new(alloc, config());
-    leaves_and_comes_back(rt, alloc, &mut fetcher)
+    let ended = leaves_and_comes_back(rt, alloc, &mut fetcher);
+    drop(fetcher);
+    ended
 }
 
 #[test]

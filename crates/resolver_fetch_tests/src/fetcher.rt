@@ -53,7 +53,9 @@ fn asks_and_goes_on(
 /// The same of a new fetcher.
 fn asks_first(rt: &impl Abort, alloc: Global, calls: &[(Call, Seen)]) -> Result<(), Fault> {
     let mut fetcher = Fetcher::new(alloc, config());
-    asks_and_goes_on(rt, alloc, &mut fetcher, calls)
+    let ended = asks_and_goes_on(rt, alloc, &mut fetcher, calls);
+    drop(fetcher);
+    ended
 }
 
 #[test]
@@ -349,7 +351,9 @@ fn charges(rt: &impl Abort, alloc: Global, fetcher: &mut Node) -> Result<(), Fau
 /// The same of a new fetcher.
 fn charged(rt: &impl Abort, alloc: Global) -> Result<(), Fault> {
     let mut fetcher = longest(alloc);
-    charges(rt, alloc, &mut fetcher)
+    let ended = charges(rt, alloc, &mut fetcher);
+    drop(fetcher);
+    ended
 }
 
 #[test]
@@ -439,7 +443,9 @@ fn tries_all(
 /// The same of a new fetcher.
 fn tries_each(rt: &impl Abort, alloc: Global, count: u16) -> Result<Option<u128>, Fault> {
     let mut fetcher = Fetcher::new(alloc, config());
-    tries_all(rt, alloc, &mut fetcher, count)
+    let due = tries_all(rt, alloc, &mut fetcher, count);
+    drop(fetcher);
+    due
 }
 
 // A scan that looked from the first key on after each one would not end in time.

@@ -334,7 +334,9 @@ fn goes_on(
 /// Makes calls of a new fetcher, and compares what is seen at each.
 fn goes(rt: &impl Abort, alloc: Global, calls: &[(Call, Seen)]) -> Result<(), Fault> {
     let mut fetcher = Fetcher::new(alloc, config());
-    goes_on(rt, alloc, &mut fetcher, calls)
+    let ended = goes_on(rt, alloc, &mut fetcher, calls);
+    drop(fetcher);
+    ended
 }
 
 /// Asks peer 4 for key 1 under the id 5.
@@ -469,7 +471,9 @@ fn with_priority(alloc: Global) -> Node {
 /// Makes calls of such a fetcher, and compares what is seen at each.
 fn goes_first(rt: &impl Abort, alloc: Global, calls: &[(Call, Seen)]) -> Result<(), Fault> {
     let mut fetcher = with_priority(alloc);
-    goes_on(rt, alloc, &mut fetcher, calls)
+    let ended = goes_on(rt, alloc, &mut fetcher, calls);
+    drop(fetcher);
+    ended
 }
 
 #[test]

@@ -20,5 +20,6 @@ fn at_numbers(rt: HostRuntime) -> Result<(), Fail> {
     };
     let fetcher: Fetcher<u8, u32> = Fetcher::new(rt.alloc(), config);
     draw_counts(&fetcher);
+    drop(fetcher);
     Ok(())
 }
