@@ -182,9 +182,17 @@ fn spell_keys(text: &mut String, entries: &Tracked) -> Result<(), Fail> {
 
 /// Writes what is known of a delivery that is over.
 fn spell_over(text: &mut String, over: Over) -> Result<(), Fail> {
-    let Ok(over) = over else {
-        return Ok(write!(text, " aborted")?);
-    };
+    match over {
+        Ok(completion) => {
+            let spelled = spell_completion(text, &completion);
+            drop(completion);
+            spelled
+        }
+        Err(Aborted {}) => Ok(write!(text, " aborted")?),
+    }
+}
+
+fn spell_completion(text: &mut String, over: &Completion<u16, u16, u64>) -> Result<(), Fail> {
     let marks = *over.delivery.subscribers.first();
     write!(text, " response {} of {}", over.response, over.context)?;
     write!(
@@ -251,7 +259,9 @@ fn change_all(text: &mut String, entries: &mut Tracked, calls: &[Call]) -> Resul
 fn told(alloc: Global, calls: &[Call]) -> Result<String, Fail> {
     let mut text = String::new(alloc);
     let mut entries = Entries::new(alloc);
-    change_all(&mut text, &mut entries, calls)?;
+    let changed = change_all(&mut text, &mut entries, calls);
+    drop(entries);
+    changed?;
     Ok(text)
 }
 
@@ -478,7 +488,9 @@ fn stages(entries: &mut Staged) -> Result<([bool; 2], [Option<u32>; 3]), Fault> 
 
 fn staged(alloc: Global) -> Result<([bool; 2], [Option<u32>; 3]), Fault> {
     let mut entries = Entries::new(alloc);
-    stages(&mut entries)
+    let seen = stages(&mut entries);
+    drop(entries);
+    seen
 }
 
 #[test]
@@ -512,11 +524,18 @@ fn complete_backwards(entries: &mut Tracked) -> u64 {
 
 /// How many of ten thousand deliveries were open, whether the first is open then, and under which number
 /// the last key is judged.
+fn close_each(alloc: Global, entries: &mut Tracked) -> Result<(u64, bool, Option<u64>), Fail> {
+    deliver_each(alloc, entries)?;
+    let count = complete_backwards(entries);
+    Ok((count, open(entries, 0).is_some(), number(entries, 9_999)))
+}
+
+/// The same of new entries.
 fn ten_thousand(alloc: Global) -> Result<(u64, bool, Option<u64>), Fail> {
     let mut entries = Entries::new(alloc);
-    deliver_each(alloc, &mut entries)?;
-    let count = complete_backwards(&mut entries);
-    Ok((count, open(&entries, 0).is_some(), number(&entries, 9_999)))
+    let seen = close_each(alloc, &mut entries);
+    drop(entries);
+    seen
 }
 
 #[test]

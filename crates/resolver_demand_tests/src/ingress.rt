@@ -20,12 +20,14 @@ fn told_of_one(alloc: Global) -> Result<Told, AllocError> {
         mark: 7,
     };
     let item: FetchKey<u16, u16, Option<NonEmptyVec<u16>>> = FetchKey::from_fetch(alloc, fetch)?;
-    Ok((
+    let told = (
         item.key,
         *item.subscribers.first(),
         item.subscribers.len(),
         item.metadata.is_none(),
-    ))
+    );
+    drop(item);
+    Ok(told)
 }
 
 #[test]
@@ -64,9 +66,14 @@ fn one<K: Drop>(
     Ok(Message::Fetch(items))
 }
 
-/// How many fetches a message has, and of the first one the key, the first subscriber with its mark,
-/// and how many there are; nothing where it is a test.
-fn first_of(message: &Message<u16, u16, (), All>) -> Option<(usize, u16, (u16, u64), usize)> {
+type Plain = Message<u16, u16, (), All>;
+
+/// How many fetches there are, and of the first one the key, the first subscriber with its mark, and
+/// how many there are.
+type First = (usize, u16, (u16, u64), usize);
+
+/// What is told of a message's fetches; nothing where it is a test.
+fn first_of(message: &Plain) -> Option<First> {
     let Message::Fetch(items) = message else {
         return None;
     };
@@ -80,19 +87,26 @@ fn first_of(message: &Message<u16, u16, (), All>) -> Option<(usize, u16, (u16, u
     ))
 }
 
-fn copied(
-    alloc: Global,
-    message: Message<u16, u16, (), All>,
-) -> Result<Message<u16, u16, (), All>, AllocError> {
-    message.copy(alloc)
+/// What is told of a message's copy, and whether that is a test.
+fn told_of_copy(alloc: Global, message: &Plain) -> Result<(Option<First>, bool), AllocError> {
+    let copy = message.copy(alloc)?;
+    let told = (first_of(&copy), matches!(copy, Message::Retain(_)));
+    drop(copy);
+    Ok(told)
+}
+
+fn copied(alloc: Global, message: Plain) -> Result<(Option<First>, bool), AllocError> {
+    let told = told_of_copy(alloc, &message);
+    drop(message);
+    told
 }
 
 #[test]
 fn message_is_copied(rt: HostRuntime) -> Result<(), Fail> {
     let alloc = rt.alloc();
-    let fetches = first_of(&copied(alloc, one(alloc, 1, 20)?)?);
+    let (fetches, _) = copied(alloc, one(alloc, 1, 20)?)?;
     assert_eq!(rt; fetches, Some((1, 1, (20, 0), 1)));
-    let is_test = matches!(copied(alloc, Message::Retain(All))?, Message::Retain(_));
+    let (_, is_test) = copied(alloc, Message::Retain(All))?;
     assert!(rt; is_test);
     Ok(())
 }
@@ -131,34 +145,54 @@ fn retain_all<'a>(pending: &mut Waiting<'a>, looks: &'a Cell<u32>) -> Result<u32
 
 /// Whether a test is the first that waits.
 fn pops_a_test(pending: &mut Waiting) -> bool {
-    match pending.pop() {
-        Some(Message::Retain(_)) => true,
-        _ => false,
-    }
+    let popped = pending.pop();
+    let is_test = matches!(popped, Some(Message::Retain(_)));
+    drop(popped);
+    is_test
 }
 
-/// How many fetches wait then, and how many subscribers the one at this place has.
-fn pops_fetches(pending: &mut Waiting, place: usize) -> Option<(usize, usize)> {
-    let Some(Message::Fetch(queued)) = pending.pop() else {
+/// How many fetches a message has, and how many subscribers the one at this place has.
+fn counted(
+    message: &Option<Message<Counting, u16, (), All>>,
+    place: usize,
+) -> Option<(usize, usize)> {
+    let Some(Message::Fetch(queued)) = message else {
         return None;
     };
     Some((queued.len(), queued.get(place)?.subscribers.len()))
 }
 
+/// How many fetches wait then, and how many subscribers the one at this place has.
+fn pops_fetches(pending: &mut Waiting, place: usize) -> Option<(usize, usize)> {
+    let popped = pending.pop();
+    let counts = counted(&popped, place);
+    drop(popped);
+    counts
+}
+
 /// How often keys are looked at where 10,000 are put, where they are put again, and where all are kept;
 /// whether the test waits first, how many fetches wait behind it, and how many subscribers the last has.
-fn queued(
+type Queued = ([u32; 3], bool, Option<(usize, usize)>);
+
+fn queue_each<'a>(
     alloc: Global,
-    looks: &Cell<u32>,
-) -> Result<([u32; 3], bool, Option<(usize, usize)>), Fault> {
-    let mut pending = Pending::new(alloc);
+    pending: &mut Waiting<'a>,
+    looks: &'a Cell<u32>,
+) -> Result<Queued, Fault> {
     let counts = [
-        put_all(alloc, &mut pending, looks, 10)?,
-        put_all(alloc, &mut pending, looks, 11)?,
-        retain_all(&mut pending, looks)?,
+        put_all(alloc, pending, looks, 10)?,
+        put_all(alloc, pending, looks, 11)?,
+        retain_all(pending, looks)?,
     ];
-    let is_test = pops_a_test(&mut pending);
-    Ok((counts, is_test, pops_fetches(&mut pending, 9_999)))
+    let is_test = pops_a_test(pending);
+    Ok((counts, is_test, pops_fetches(pending, 9_999)))
+}
+
+fn queued(alloc: Global, looks: &Cell<u32>) -> Result<Queued, Fault> {
+    let mut pending = Pending::new(alloc);
+    let seen = queue_each(alloc, &mut pending, looks);
+    drop(pending);
+    seen
 }
 
 #[test]

@@ -136,7 +136,7 @@ fn spell_items(text: &mut String, items: &[FetchKey<u16, u16, ()>]) -> Result<()
 }
 
 /// Writes a message, or that there is none.
-fn spell(text: &mut String, told: Option<Told>) -> Result<(), Fail> {
+fn spell(text: &mut String, told: &Option<Told>) -> Result<(), Fail> {
     match told {
         Some(Message::Fetch(items)) => spell_items(text, items.as_slice()),
         Some(Message::Retain(kept)) => Ok(write!(text, " from {}", kept.test().0)?),
@@ -144,10 +144,26 @@ fn spell(text: &mut String, told: Option<Told>) -> Result<(), Fail> {
     }
 }
 
+/// Takes what waits first, and writes it.
+fn spell_first(text: &mut String, pending: &mut Waiting) -> Result<(), Fail> {
+    let told = pop(pending);
+    let spelled = spell(text, &told);
+    drop(told);
+    spelled
+}
+
 /// Writes how many tests were taken, and the batch.
-fn spell_all(text: &mut String, taken: (usize, Option<Told>)) -> Result<(), Fail> {
-    write!(text, " tests {}", taken.0)?;
-    spell(text, taken.1)
+fn spell_taken(text: &mut String, tests: usize, batch: &Option<Told>) -> Result<(), Fail> {
+    write!(text, " tests {tests}")?;
+    spell(text, batch)
+}
+
+/// Takes all that waits, and writes it.
+fn spell_all(text: &mut String, pending: &mut Waiting) -> Result<(), Fail> {
+    let (tests, batch) = take_all(pending);
+    let spelled = spell_taken(text, tests, &batch);
+    drop(batch);
+    spelled
 }
 
 /// Makes a call, and writes what it answers.
@@ -162,8 +178,8 @@ fn make(text: &mut String, pending: &mut Waiting, call: Call) -> Result<(), Fail
             Ok(())
         }
         Call::TakeTests => Ok(write!(text, " tests {}", take_tests(pending))?),
-        Call::TakeAll => spell_all(text, take_all(pending)),
-        Call::Pop => spell(text, pop(pending)),
+        Call::TakeAll => spell_all(text, pending),
+        Call::Pop => spell_first(text, pending),
         Call::IsEmpty => Ok(write!(text, " {}", is_empty(pending))?),
     }
 }
@@ -179,7 +195,9 @@ fn make_all(text: &mut String, pending: &mut Waiting, calls: &[Call]) -> Result<
 fn told(alloc: Global, calls: &[Call]) -> Result<String, Fail> {
     let mut text = String::new(alloc);
     let mut pending = Pending::new(alloc);
-    make_all(&mut text, &mut pending, calls)?;
+    let made = make_all(&mut text, &mut pending, calls);
+    drop(pending);
+    made?;
     Ok(text)
 }
 

@@ -164,7 +164,9 @@ fn make_all(text: &mut String, tracker: &mut Demand, calls: &[Call]) -> Result<(
 fn told(alloc: Global, calls: &[Call]) -> Result<String, Fail> {
     let mut text = String::new(alloc);
     let mut tracker = Tracker::new(alloc);
-    make_all(&mut text, &mut tracker, calls)?;
+    let made = make_all(&mut text, &mut tracker, calls);
+    drop(tracker);
+    made?;
     Ok(text)
 }
 
@@ -335,15 +337,39 @@ fn take_out(tracker: &mut Demand) -> [bool; 6] {
 
 /// What is told of a thousand keys: how many were new, how many there are, whether the last is there,
 /// what a clone has, and what is seen as they are taken out, which the clone isn't changed by.
-fn thousand(alloc: Global) -> Result<(u16, usize, bool, Option<u16>, [bool; 6], bool), Fail> {
-    let mut tracker = Tracker::new(alloc);
-    let new = put_thousand(alloc, &mut tracker)?;
-    let same = cloned(&tracker)?;
-    let in_clone = counted(alloc, &same)?;
+type Thousand = (u16, usize, bool, Option<u16>, [bool; 6], bool);
+
+/// What is told of so many new keys and of their clone.
+fn told_of_clone(
+    alloc: Global,
+    tracker: &mut Demand,
+    new: u16,
+    same: &Demand,
+) -> Result<Thousand, Fail> {
+    let in_clone = counted(alloc, same)?;
     let len = tracker.len();
-    let has_last = contains(&tracker, 999);
-    let seen = take_out(&mut tracker);
-    Ok((new, len, has_last, in_clone, seen, contains(&same, 500)))
+    let has_last = contains(tracker, 999);
+    let seen = take_out(tracker);
+    Ok((new, len, has_last, in_clone, seen, contains(same, 500)))
+}
+
+fn told_of_thousand(alloc: Global, tracker: &mut Demand) -> Result<Thousand, Fail> {
+    let new = put_thousand(alloc, tracker)?;
+    match cloned(tracker) {
+        Ok(same) => {
+            let told = told_of_clone(alloc, tracker, new, &same);
+            drop(same);
+            told
+        }
+        Err(error) => Err(error.into()),
+    }
+}
+
+fn thousand(alloc: Global) -> Result<Thousand, Fail> {
+    let mut tracker = Tracker::new(alloc);
+    let told = told_of_thousand(alloc, &mut tracker);
+    drop(tracker);
+    told
 }
 
 #[test]
@@ -412,17 +438,47 @@ fn take_many(alloc: Global, tracker: &mut Demand) -> Result<[Option<usize>; 3], 
     Ok([rest, left, count(pending(tracker, 1)?)])
 }
 
+/// How many subscribers of key 1 are left as they are taken out, and how many a clone has then.
+fn left_of_many(
+    alloc: Global,
+    tracker: &mut Demand,
+    same: &Demand,
+) -> Result<([Option<usize>; 3], Option<usize>), Fail> {
+    let left = take_many(alloc, tracker)?;
+    Ok((left, count(pending(same, 1)?)))
+}
+
+/// The same, beside a clone.
+fn left_beside_clone(
+    alloc: Global,
+    tracker: &mut Demand,
+) -> Result<([Option<usize>; 3], Option<usize>), Fail> {
+    match copied(tracker) {
+        Ok(same) => {
+            let left = left_of_many(alloc, tracker, &same);
+            drop(same);
+            left
+        }
+        Err(error) => Err(error.into()),
+    }
+}
+
 /// What is told of a key with many subscribers: whether it was new, how many it has, how many are left
 /// as they are taken out, and how many its clone has then.
-fn many(
-    alloc: Global,
-) -> Result<([bool; 3], Option<usize>, [Option<usize>; 3], Option<usize>), Fail> {
+type Many = ([bool; 3], Option<usize>, [Option<usize>; 3], Option<usize>);
+
+fn told_of_many(alloc: Global, tracker: &mut Demand) -> Result<Many, Fail> {
+    let new = put_many(alloc, tracker)?;
+    let all = count_ascending(pending(tracker, 1)?);
+    let (left, in_clone) = left_beside_clone(alloc, tracker)?;
+    Ok((new, all, left, in_clone))
+}
+
+fn many(alloc: Global) -> Result<Many, Fail> {
     let mut tracker = Tracker::new(alloc);
-    let new = put_many(alloc, &mut tracker)?;
-    let all = count_ascending(pending(&tracker, 1)?);
-    let same = copied(&tracker)?;
-    let left = take_many(alloc, &mut tracker)?;
-    Ok((new, all, left, count(pending(&same, 1)?)))
+    let told = told_of_many(alloc, &mut tracker);
+    drop(tracker);
+    told
 }
 
 #[test]
@@ -456,12 +512,23 @@ fn put_each<'a>(
 }
 
 /// How often they are looked at as they are put, and as they are put again.
+fn put_each_twice<'a>(
+    alloc: Global,
+    tracker: &mut Tracker<u16, Counting<'a>>,
+    looks: &'a Cell<u32>,
+) -> Result<[u32; 2], Fault> {
+    put_each(alloc, tracker, looks)?;
+    let first = looks.replace(0);
+    put_each(alloc, tracker, looks)?;
+    Ok([first, looks.replace(0)])
+}
+
+/// The same of a new tracker.
 fn looks_at_each(alloc: Global, looks: &Cell<u32>) -> Result<[u32; 2], Fault> {
     let mut tracker = Tracker::new(alloc);
-    put_each(alloc, &mut tracker, looks)?;
-    let first = looks.replace(0);
-    put_each(alloc, &mut tracker, looks)?;
-    Ok([first, looks.replace(0)])
+    let counts = put_each_twice(alloc, &mut tracker, looks);
+    drop(tracker);
+    counts
 }
 
 #[test]

@@ -113,14 +113,30 @@ fn hand_all(alloc: Global, pending: &mut Waiting, fetches: &[&[u16]]) -> Result<
     Ok(())
 }
 
+/// Writes what a drain takes, where something waits.
+fn spell_drained(text: &mut String, pending: &mut Waiting) -> Result<(), Fail> {
+    match drained(pending) {
+        Some(batch) => {
+            let spelled = spell(text, &batch);
+            drop(batch);
+            spelled
+        }
+        None => Ok(()),
+    }
+}
+
+fn spell_queued(text: &mut String, pending: &mut Waiting, fetches: &[&[u16]]) -> Result<(), Fail> {
+    hand_all(*text.allocator(), pending, fetches)?;
+    spell_drained(text, pending)
+}
+
 /// What a drain gives of an overflow that was handed fetches of key 1 of these peers.
 fn queued(alloc: Global, fetches: &[&[u16]]) -> Result<String, Fail> {
     let mut text = String::new(alloc);
     let mut pending = Pending::new(alloc);
-    hand_all(alloc, &mut pending, fetches)?;
-    if let Some(batch) = drained(&mut pending) {
-        spell(&mut text, &batch)?;
-    }
+    let spelled = spell_queued(&mut text, &mut pending, fetches);
+    drop(pending);
+    spelled?;
     Ok(text)
 }
 
@@ -141,11 +157,24 @@ fn copied_targets(alloc: Global, peers: &[u16]) -> Result<String, Fail> {
     Ok(text)
 }
 
+/// Writes the copy of a message.
+fn spell_copy(text: &mut String, told: &Told) -> Result<(), Fail> {
+    match told.copy(*text.allocator()) {
+        Ok(copy) => {
+            let spelled = spell(text, &copy);
+            drop(copy);
+            spelled
+        }
+        Err(error) => Err(error.into()),
+    }
+}
+
 /// The copy of a message.
 fn copied(alloc: Global, told: Told) -> Result<String, Fail> {
     let mut text = String::new(alloc);
-    let copy = told.copy(alloc)?;
-    spell(&mut text, &copy)?;
+    let spelled = spell_copy(&mut text, &told);
+    drop(told);
+    spelled?;
     Ok(text)
 }
 
@@ -185,15 +214,20 @@ fn nothing_said_stays(rt: HostRuntime) -> Result<(), Fail> {
     Ok(())
 }
 
-/// What waits once an overflow that has a fetch of key 1 was handed a message.
-fn waiting(alloc: Global, told: Told) -> Result<String, Fail> {
+fn spell_waiting(text: &mut String, pending: &mut Waiting, keys: &[u16]) -> Result<(), Fail> {
+    let alloc = *text.allocator();
+    hand_all(alloc, pending, &[&[]])?;
+    handle(pending, fetches(alloc, keys)?)?;
+    spell_drained(text, pending)
+}
+
+/// What waits once an overflow that has a fetch of key 1 was handed fetches of these keys.
+fn waiting(alloc: Global, keys: &[u16]) -> Result<String, Fail> {
     let mut text = String::new(alloc);
     let mut pending = Pending::new(alloc);
-    hand_all(alloc, &mut pending, &[&[]])?;
-    handle(&mut pending, told)?;
-    if let Some(batch) = drained(&mut pending) {
-        spell(&mut text, &batch)?;
-    }
+    let spelled = spell_waiting(&mut text, &mut pending, keys);
+    drop(pending);
+    spelled?;
     Ok(text)
 }
 
@@ -218,7 +252,7 @@ fn messages_of_each_length(rt: HostRuntime) -> Result<(), Fail> {
         ([4].as_slice(), " 1 of any 4 of any"),
         ([4, 1, 3].as_slice(), " 1 of any 4 of any 3 of any"),
     ] {
-        assert_eq!(rt; waiting(alloc, fetches(alloc, keys)?)?.as_str(), seen);
+        assert_eq!(rt; waiting(alloc, keys)?.as_str(), seen);
     }
     Ok(())
 }
