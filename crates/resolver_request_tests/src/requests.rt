@@ -26,18 +26,26 @@ fn put(requests: &mut Asked, id: ID, deadline: u128) -> Result<(), Fault> {
     Ok(())
 }
 
-/// Requests of these ids, each for the key of its number, and with its deadline.
-fn asked(alloc: Global, ids: &[(ID, u128)]) -> Result<Asked, Fault> {
-    let mut requests = Requests::new(alloc);
+/// Puts requests of these ids, each for the key of its number, and with its deadline.
+fn put_each(requests: &mut Asked, ids: &[(ID, u128)]) -> Result<(), Fault> {
     for (id, deadline) in ids {
-        put(&mut requests, *id, *deadline)?;
+        put(requests, *id, *deadline)?;
     }
-    Ok(requests)
+    Ok(())
 }
 
-/// The id that follows the last one, where these are held.
+/// The id that follows the last one, once these are held.
+fn next_of(requests: &mut Asked, held: &[(ID, u128)], last: ID) -> Result<ID, Fault> {
+    put_each(requests, held)?;
+    Ok(requests.next_id(last))
+}
+
+/// The same of new requests.
 fn next_id(alloc: Global, held: &[(ID, u128)], last: ID) -> Result<ID, Fault> {
-    Ok(asked(alloc, held)?.next_id(last))
+    let mut requests = Requests::new(alloc);
+    let next = next_of(&mut requests, held, last);
+    drop(requests);
+    next
 }
 
 #[test]
@@ -51,16 +59,40 @@ fn next_id_passes_held_ids(rt: HostRuntime) -> Result<(), Fail> {
     Ok(())
 }
 
-/// Which deadlines are over at a moment, soonest first, and how many requests are left.
-fn over(alloc: Global, ids: &[(ID, u128)], now: u128) -> Result<(Vec<u128>, usize), Fault> {
-    let mut requests = asked(alloc, ids)?;
-    let mut deadlines = Vec::new(alloc);
-    for _ in 0..ids.len() {
+/// Takes out what is over at a moment, up to so many requests, and notes the deadlines.
+fn take_each(
+    requests: &mut Asked,
+    count: usize,
+    now: u128,
+    deadlines: &mut Vec<u128>,
+) -> Result<(), Fault> {
+    for _ in 0..count {
         if let Some(request) = requests.take_overdue(now) {
             deadlines.push(request.deadline)?;
         }
     }
+    Ok(())
+}
+
+/// Which deadlines are over at a moment, soonest first, and how many requests are left.
+fn over_of(
+    alloc: Global,
+    requests: &mut Asked,
+    ids: &[(ID, u128)],
+    now: u128,
+) -> Result<(Vec<u128>, usize), Fault> {
+    put_each(requests, ids)?;
+    let mut deadlines = Vec::new(alloc);
+    take_each(requests, ids.len(), now, &mut deadlines)?;
     Ok((deadlines, requests.len()))
+}
+
+/// The same of new requests.
+fn over(alloc: Global, ids: &[(ID, u128)], now: u128) -> Result<(Vec<u128>, usize), Fault> {
+    let mut requests = Requests::new(alloc);
+    let over = over_of(alloc, &mut requests, ids, now);
+    drop(requests);
+    over
 }
 
 #[test]
@@ -72,11 +104,22 @@ fn the_soonest_is_over_first(rt: HostRuntime) -> Result<(), Fail> {
     Ok(())
 }
 
+/// Requests of the ids 5 and 6.
+const TWO: [(ID, u128); 2] = [(5, 10), (6, 20)];
+
 /// What is left of two requests after an answer under the id 5, and when it is over.
-fn answered(alloc: Global, peer: u8) -> Result<(bool, usize, Option<u128>), Fault> {
-    let mut requests = asked(alloc, &[(5, 10), (6, 20)])?;
+fn answer(requests: &mut Asked, peer: u8) -> Result<(bool, usize, Option<u128>), Fault> {
+    put_each(requests, &TWO)?;
     let found = requests.take_matching(5, &peer);
     Ok((found.is_some(), requests.len(), requests.deadline()))
+}
+
+/// The same of new requests.
+fn answered(alloc: Global, peer: u8) -> Result<(bool, usize, Option<u128>), Fault> {
+    let mut requests = Requests::new(alloc);
+    let left = answer(&mut requests, peer);
+    drop(requests);
+    left
 }
 
 #[test]
@@ -87,13 +130,21 @@ fn an_answer_of_another_peer_finds_nothing(rt: HostRuntime) -> Result<(), Fail> 
 }
 
 /// Two requests, one of which was let go, and both of which were.
-fn let_go(alloc: Global) -> Result<(usize, Option<u128>, bool, usize), Fault> {
-    let mut requests = asked(alloc, &[(5, 10), (6, 20)])?;
+fn let_two_go(requests: &mut Asked) -> Result<(usize, Option<u128>, bool, usize), Fault> {
+    put_each(requests, &TWO)?;
     let is_removed = requests.remove(5).is_some() && requests.get(5).is_none();
     let len = requests.len();
     let deadline = requests.deadline();
     requests.retain(|key| *key != 6);
     Ok((len, deadline, is_removed, requests.len()))
+}
+
+/// The same of new requests.
+fn let_go(alloc: Global) -> Result<(usize, Option<u128>, bool, usize), Fault> {
+    let mut requests = Requests::new(alloc);
+    let seen = let_two_go(&mut requests);
+    drop(requests);
+    seen
 }
 
 #[test]
@@ -109,17 +160,20 @@ fn asked_for(requests: &Asked, key: u64) -> Option<(ID, u128)> {
 }
 
 /// The requests for three keys of two, before and after an answer under the id 5.
-fn by_key(alloc: Global) -> Result<[Option<(ID, u128)>; 4], Fault> {
-    let mut requests = asked(alloc, &[(5, 10), (6, 20)])?;
-    let five = asked_for(&requests, 5);
-    let seven = asked_for(&requests, 7);
+fn ask_by_key(requests: &mut Asked) -> Result<[Option<(ID, u128)>; 4], Fault> {
+    put_each(requests, &TWO)?;
+    let five = asked_for(requests, 5);
+    let seven = asked_for(requests, 7);
     requests.remove(5);
-    Ok([
-        five,
-        seven,
-        asked_for(&requests, 5),
-        asked_for(&requests, 6),
-    ])
+    Ok([five, seven, asked_for(requests, 5), asked_for(requests, 6)])
+}
+
+/// The same of new requests.
+fn by_key(alloc: Global) -> Result<[Option<(ID, u128)>; 4], Fault> {
+    let mut requests = Requests::new(alloc);
+    let asked = ask_by_key(&mut requests);
+    drop(requests);
+    asked
 }
 
 #[test]

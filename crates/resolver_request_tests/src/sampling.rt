@@ -14,6 +14,13 @@ fn has_weights(rt: &impl Abort, index: &WeightedIndex, weights: &[u64]) {
     }
 }
 
+/// Ends a selection, and compares the index's weights.
+fn ends_with(rt: &impl Abort, selection: Selection, weights: &[u64]) {
+    let index = selection.end();
+    has_weights(rt, &index, weights);
+    drop(index);
+}
+
 /// Begins draws without replacement.
 fn begun(index: WeightedIndex) -> Result<Selection, Fault> {
     Ok(index.without_replacement()?)
@@ -32,7 +39,7 @@ fn index_choices(rt: HostRuntime) -> Result<(), Fail> {
     assert_eq!(rt; selection.take_weighted(0), 0);
     assert_eq!(rt; selection.left_total(), 2);
     assert_eq!(rt; selection.left_count(), 1);
-    has_weights(&rt, &selection.end(), &[3, 0, 2]);
+    ends_with(&rt, selection, &[3, 0, 2]);
     Ok(())
 }
 
@@ -54,7 +61,7 @@ fn takes_all_places(rt: HostRuntime) -> Result<(), Fail> {
     assert_eq!(rt; selection.take_uniform(0), 0);
     assert!(rt; selection.is_empty());
     assert_eq!(rt; selection.left_total(), 0);
-    has_weights(&rt, &selection.end(), &[3, 0, 2, 5]);
+    ends_with(&rt, selection, &[3, 0, 2, 5]);
     Ok(())
 }
 
@@ -69,7 +76,7 @@ fn nothing_to_choose(rt: HostRuntime) -> Result<(), Fail> {
         assert!(rt; selection.is_empty());
         assert_eq!(rt; selection.left_count(), 0);
         assert_eq!(rt; selection.left_total(), 0);
-        has_weights(&rt, &selection.end(), weights);
+        ends_with(&rt, selection, weights);
     }
     Ok(())
 }
@@ -80,6 +87,7 @@ fn weights_of_each_length(rt: HostRuntime) -> Result<(), Fail> {
     for weights in [none.as_slice(), [7].as_slice(), [3, 0, 2].as_slice()] {
         let index = WeightedIndex::new(rt.alloc(), weights)?;
         has_weights(&rt, &index, weights);
+        drop(index);
     }
     let mut index = WeightedIndex::new(rt.alloc(), &[1, 1, 1])?;
     index.update(&[]);
@@ -89,6 +97,7 @@ fn weights_of_each_length(rt: HostRuntime) -> Result<(), Fail> {
     has_weights(&rt, &index, &[1, 4, 1]);
     index.update(&[(2, 5), (0, 6), (2, 7)]);
     has_weights(&rt, &index, &[6, 4, 7]);
+    drop(index);
     Ok(())
 }
 
@@ -103,6 +112,7 @@ fn widest_weights(rt: HostRuntime) -> Result<(), Fail> {
         assert!(rt; number < index.total());
         assert_eq!(rt; index.pick(number), place, "at {number}");
     }
+    drop(index);
     Ok(())
 }
 
@@ -130,6 +140,7 @@ fn index_thousand_places(rt: HostRuntime) -> Result<(), Fail> {
     index.set_counted(998, 0, &mut visits);
     assert_eq!(rt; index.weight(998), 0);
     assert!(rt; visits.count() <= 22);
+    drop(index);
     Ok(())
 }
 
@@ -142,6 +153,7 @@ fn index_wide_weights(rt: HostRuntime) -> Result<(), Fail> {
     assert!(rt; number < index.total());
     assert_eq!(rt; index.pick_counted(number, &mut visits), 2);
     assert!(rt; visits.count() <= 3);
+    drop(index);
     Ok(())
 }
 
@@ -156,7 +168,7 @@ fn draws_are_counted(rt: HostRuntime) -> Result<(), Fail> {
     assert!(rt; selection.left_total() > 3);
     assert_eq!(rt; selection.take_weighted_counted(3, &mut visits), 3);
     assert!(rt; visits.count() <= 12);
-    has_weights(&rt, &selection.end(), &[3, 0, 2, 5]);
+    ends_with(&rt, selection, &[3, 0, 2, 5]);
     Ok(())
 }
 
