@@ -2,7 +2,7 @@ ghost use Rattle.std.specs.Prelude.{not, true, ◌==◌};
 ghost use Rattle.std.proofs.Common.{rules};
 
 use resolver::ingress::{FetchKey, Predicate};
-use resolver::opaque::{Actor, Effect, Event, Input, Phase};
+use resolver::opaque::{Actor, Effect, Event, Input, Phase, Row};
 use resolver_base::base::{Fault, NonEmptyVec, Numbers};
 use resolver_base::root::{Outcome, Resolution};
 use std::alloc::Global;
@@ -77,7 +77,12 @@ type Plain = Actor<u8, u32, u16, AllBut>;
 
 type PlainEvent = Event<u8, u32, u16, AllBut>;
 
+type PlainInput = Input<u8, u32, u16, AllBut>;
+
 type PlainEffect = Effect<u8, u32, u16>;
+
+/// What an input gives.
+type PlainAnswer = Result<Vec<PlainEffect>, Fault>;
 
 /// That a new actor, which retries after 100, shows what the table says, one step after another.
 fn shows(rt: &impl Abort, alloc: Global, table: &[Step]) -> Result<(), Fail> {
@@ -123,7 +128,9 @@ fn expected_of(alloc: Global, table: &[Step]) -> Result<Vec<Seen>, Fault> {
 fn play(alloc: Global, actor: Plain, table: &[Step]) -> Result<Vec<Seen>, Fault> {
     let mut actor = actor;
     let mut seen = Vec::new(alloc);
-    take_each(alloc, &mut actor, table, &mut seen)?;
+    let taken = take_each(alloc, &mut actor, table, &mut seen);
+    drop(actor);
+    taken?;
     Ok(seen)
 }
 
@@ -135,17 +142,26 @@ fn take_each(
 ) -> Result<(), Fault> {
     for (now, what, _) in table {
         match event_of(alloc, *what)? {
-            Some(event) => note_answer(actor.step(at(*now, event)), seen)?,
+            Some(event) => take_one(actor, at(*now, event), seen)?,
             None => look(actor, seen)?,
         }
     }
     Ok(())
 }
 
+fn take_one(actor: &mut Plain, input: PlainInput, seen: &mut Vec<Seen>) -> Result<(), Fault> {
+    let answer = actor.step(input);
+    let noted = note_answer(&answer, seen);
+    drop(answer);
+    noted
+}
+
 fn play_in_one_run(alloc: Global, table: &[Step]) -> Result<Vec<Seen>, Fault> {
     let mut actor: Plain = Actor::new(alloc, 100);
     let mut seen = Vec::new(alloc);
-    run_all(alloc, &mut actor, table, &mut seen)?;
+    let run = run_all(alloc, &mut actor, table, &mut seen);
+    drop(actor);
+    run?;
     Ok(seen)
 }
 
@@ -155,20 +171,44 @@ fn run_all(
     table: &[Step],
     seen: &mut Vec<Seen>,
 ) -> Result<(), Fault> {
-    for answer in actor.run(inputs_of(alloc, table)?)? {
-        note_answer(answer, seen)?;
-    }
+    let inputs = inputs_of(alloc, table)?;
+    run_inputs(actor, inputs, seen)?;
     look(actor, seen)
 }
 
-fn inputs_of(alloc: Global, table: &[Step]) -> Result<Vec<Input<u8, u32, u16, AllBut>>, Fault> {
+fn run_inputs(
+    actor: &mut Plain,
+    inputs: Vec<PlainInput>,
+    seen: &mut Vec<Seen>,
+) -> Result<(), Fault> {
+    match actor.run(inputs) {
+        Ok(answers) => {
+            let noted = note_answers(answers.as_slice(), seen);
+            drop(answers);
+            noted
+        }
+        Err(fault) => Err(fault),
+    }
+}
+
+fn inputs_of(alloc: Global, table: &[Step]) -> Result<Vec<PlainInput>, Fault> {
     let mut inputs = Vec::new(alloc);
+    match put_inputs(alloc, &mut inputs, table) {
+        Ok(()) => Ok(inputs),
+        Err(fault) => {
+            drop(inputs);
+            Err(fault)
+        }
+    }
+}
+
+fn put_inputs(alloc: Global, inputs: &mut Vec<PlainInput>, table: &[Step]) -> Result<(), Fault> {
     for (now, what, _) in table {
         if let Some(event) = event_of(alloc, *what)? {
             inputs.push(at(*now, event))?;
         }
     }
-    Ok(inputs)
+    Ok(())
 }
 
 /// The event of what is done, unless it is a look.
@@ -195,20 +235,28 @@ fn fetch(alloc: Global, key: u8, subscriber: (u16, u64)) -> Result<PlainEvent, F
     Ok(Event::Fetch(items))
 }
 
-fn at(now: u64, event: PlainEvent) -> Input<u8, u32, u16, AllBut> {
+fn at(now: u64, event: PlainEvent) -> PlainInput {
     Input {
         now: u128::from(now),
         event,
     }
 }
 
+/// Notes what each input gave.
+fn note_answers(answers: &[PlainAnswer], seen: &mut Vec<Seen>) -> Result<(), Fault> {
+    for answer in answers {
+        note_answer(answer, seen)?;
+    }
+    Ok(())
+}
+
 /// Notes what an input gave. Where memory is wanting, the test is given up.
-fn note_answer(answer: Result<Vec<PlainEffect>, Fault>, seen: &mut Vec<Seen>) -> Result<(), Fault> {
+fn note_answer(answer: &PlainAnswer, seen: &mut Vec<Seen>) -> Result<(), Fault> {
     seen.push(Seen::Taken)?;
     match answer {
         Ok(effects) => note_effects(effects.as_slice(), seen),
         Err(Fault::OutOfMemory) => Err(Fault::OutOfMemory),
-        Err(fault) => Ok(seen.push(Seen::Refused(fault))?),
+        Err(fault) => Ok(seen.push(Seen::Refused(*fault))?),
     }
 }
 
@@ -240,10 +288,26 @@ fn seen_of(effect: &PlainEffect) -> Seen {
 }
 
 fn look(actor: &Plain, seen: &mut Vec<Seen>) -> Result<(), Fault> {
-    for row in actor.rows()?.iter() {
+    look_at_rows(actor, seen)?;
+    seen.push(Seen::Due(actor.next_retry()))?;
+    Ok(())
+}
+
+fn look_at_rows(actor: &Plain, seen: &mut Vec<Seen>) -> Result<(), Fault> {
+    match actor.rows() {
+        Ok(rows) => {
+            let noted = note_rows(rows.as_slice(), seen);
+            drop(rows);
+            noted
+        }
+        Err(fault) => Err(fault),
+    }
+}
+
+fn note_rows(rows: &[Row<u8, u16>], seen: &mut Vec<Seen>) -> Result<(), Fault> {
+    for row in rows {
         seen.push(Seen::Row(row.key, *row.subscribers.first(), row.phase))?;
     }
-    seen.push(Seen::Due(actor.next_retry()))?;
     Ok(())
 }
 
@@ -504,12 +568,24 @@ fn fetch_of(alloc: Global, keys: &[u8]) -> Result<PlainEvent, Fault> {
     Ok(Event::Fetch(items))
 }
 
+fn fetch_at_once(
+    alloc: Global,
+    actor: &mut Plain,
+    keys: &[u8],
+    seen: &mut Vec<Seen>,
+) -> Result<(), Fault> {
+    let event = fetch_of(alloc, keys)?;
+    take_one(actor, at(0, event), seen)?;
+    look(actor, seen)
+}
+
 /// What is seen of a new actor where these keys are fetched at once.
 fn fetched_at_once(alloc: Global, keys: &[u8]) -> Result<Vec<Seen>, Fault> {
     let mut actor: Plain = Actor::new(alloc, 100);
     let mut seen = Vec::new(alloc);
-    note_answer(actor.step(at(0, fetch_of(alloc, keys)?)), &mut seen)?;
-    look(&actor, &mut seen)?;
+    let fetched = fetch_at_once(alloc, &mut actor, keys, &mut seen);
+    drop(actor);
+    fetched?;
     Ok(seen)
 }
 
@@ -583,7 +659,9 @@ struct Tally(Option<usize>, usize, Option<u128>);
 fn play_crowd(alloc: Global) -> Result<Vec<Tally>, Fault> {
     let mut actor: Crowd = Actor::new(alloc, 100);
     let mut tallies = Vec::new(alloc);
-    take_crowd(alloc, &mut actor, &mut tallies)?;
+    let taken = take_crowd(alloc, &mut actor, &mut tallies);
+    drop(actor);
+    taken?;
     Ok(tallies)
 }
 
@@ -662,11 +740,16 @@ fn count(actor: &mut Crowd, now: u64, event: CrowdEvent) -> Result<usize, Fault>
         now: u128::from(now),
         event,
     })?;
-    Ok(effects.len())
+    let count = effects.len();
+    drop(effects);
+    Ok(count)
 }
 
 fn tally_of(actor: &Crowd, effects: Option<usize>) -> Result<Tally, Fault> {
-    Ok(Tally(effects, actor.rows()?.len(), actor.next_retry()))
+    let rows = actor.rows()?;
+    let demanded = rows.len();
+    drop(rows);
+    Ok(Tally(effects, demanded, actor.next_retry()))
 }
 
 // Ten thousand deliveries are open at once, and closed from the last on.

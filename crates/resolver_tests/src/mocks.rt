@@ -82,7 +82,20 @@ fn key_of<N: Naming, R: Wait>(
         return Ok(None);
     };
     let book = receiver.book(alloc, &[share])?;
-    Ok(key_in(book.first()))
+    let key = key_in(book.first());
+    drop(book);
+    Ok(key)
+}
+
+/// Puts a fetch of a key, and gives the key that the book has.
+fn put_and_read<N: Naming, R: Wait>(
+    alloc: Global,
+    handle: &mut Sender<Key, u16, (), All, N, R>,
+    receiver: &Receiver<Key, u16, (), All, N, R>,
+    key: Key,
+) -> Result<Option<Key>, Fail> {
+    put(alloc, handle, key)?;
+    key_of(alloc, handle, receiver)
 }
 
 /// Puts a fetch of a key into a recorded mailbox, and gives the key that its book has.
@@ -94,9 +107,15 @@ where
     requires puts { pages.puts.name ≡ N.puts }
     requires takes { pages.takes.name ≡ N.takes }
 {
-    let (mut handle, receiver) = recorded::<Key, u16, (), All, N, R>(rt, alloc, pages, 1)?;
-    put(alloc, &mut handle, key)?;
-    key_of(alloc, &handle, &receiver)
+    match recorded::<Key, u16, (), All, N, R>(rt, alloc, pages, 1) {
+        Ok((mut handle, receiver)) => {
+            let read = put_and_read(alloc, &mut handle, &receiver, key);
+            drop(receiver);
+            drop(handle);
+            read
+        }
+        Err(error) => Err(error.into()),
+    }
 }
 
 #[test]
