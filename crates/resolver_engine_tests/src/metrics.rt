@@ -220,10 +220,13 @@ fn event_of(alloc: Global, given: Given) -> Result<Result<PlainEvent, Answer>, F
 fn give(alloc: Global, engine: &mut Plain, now: u128, given: Given) -> Result<(), Fault> {
     let input = match event_of(alloc, given)? {
         Ok(event) if now < 1_000 => Input::Happens(Happening { now, event }),
-        Ok(_) => return Err(Fault::OutOfRange),
+        Ok(event) => {
+            drop(event);
+            return Err(Fault::OutOfRange);
+        }
         Err(answer) => Input::Answers(answer),
     };
-    engine.step(input)?;
+    drop(engine.step(input)?);
     Ok(())
 }
 
@@ -234,8 +237,19 @@ fn give_all(alloc: Global, engine: &mut Plain, given: &[(u128, Given)]) -> Resul
     Ok(())
 }
 
-/// What an engine that is called 9, with a timeout of 50 and a delay of 10, counts of these, one
-/// list after another.
+/// What the engine counts of these, one list after another.
+fn count_all(
+    alloc: Global,
+    engine: &mut Plain,
+    lists: &[&[(u128, Given)]],
+) -> Result<Metrics, Fault> {
+    for given in lists {
+        give_all(alloc, engine, given)?;
+    }
+    Ok(engine.metrics())
+}
+
+/// The same of a new engine, that is called 9, with a timeout of 50 and a delay of 10.
 fn counts(alloc: Global, lists: &[&[(u128, Given)]]) -> Result<Metrics, Fault> {
     let config = Config {
         me: Some(9),
@@ -244,10 +258,9 @@ fn counts(alloc: Global, lists: &[&[(u128, Given)]]) -> Result<Metrics, Fault> {
         priority_requests: false,
     };
     let mut engine: Plain = Core::new(alloc, config, false);
-    for given in lists {
-        give_all(alloc, &mut engine, given)?;
-    }
-    Ok(engine.metrics())
+    let counted = count_all(alloc, &mut engine, lists);
+    drop(engine);
+    counted
 }
 
 fn assert_counts(

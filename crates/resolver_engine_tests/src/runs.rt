@@ -77,6 +77,9 @@ type Plain = Core<Key, u8, u16, All>;
 /// What it takes.
 type PlainInput = Input<Key, u8, u16, All>;
 
+/// What it answers.
+type Answered = Result<Vec<Effect<Key, u8, u16>>, Fault>;
+
 fn happens(event: Event<Key, u8, u16, All>) -> PlainInput {
     Input::Happens(Happening { now: 0, event })
 }
@@ -137,10 +140,7 @@ fn seen_of(effect: &Effect<Key, u8, u16>) -> Seen {
     }
 }
 
-fn note_answer(
-    answer: &Result<Vec<Effect<Key, u8, u16>>, Fault>,
-    seen: &mut Vec<Seen>,
-) -> Result<(), Fault> {
+fn note_answer(answer: &Answered, seen: &mut Vec<Seen>) -> Result<(), Fault> {
     match answer {
         Ok(effects) => {
             seen.push(Seen::Taken)?;
@@ -149,6 +149,13 @@ fn note_answer(
             }
         }
         Err(fault) => seen.push(Seen::Refused(*fault))?,
+    }
+    Ok(())
+}
+
+fn note_answers(answers: &[Answered], seen: &mut Vec<Seen>) -> Result<(), Fault> {
+    for answer in answers {
+        note_answer(answer, seen)?;
     }
     Ok(())
 }
@@ -167,10 +174,18 @@ fn row_of(row: &Row<Key, u16, u8>) -> Seen {
     }
 }
 
-fn look(engine: &Plain, seen: &mut Vec<Seen>) -> Result<(), Fault> {
-    for row in engine.rows()?.as_slice() {
+fn note_rows(rows: &[Row<Key, u16, u8>], seen: &mut Vec<Seen>) -> Result<(), Fault> {
+    for row in rows {
         seen.push(row_of(row))?;
     }
+    Ok(())
+}
+
+fn look(engine: &Plain, seen: &mut Vec<Seen>) -> Result<(), Fault> {
+    let rows = engine.rows()?;
+    let noted = note_rows(rows.as_slice(), seen);
+    drop(rows);
+    noted?;
     seen.push(Seen::Wake(engine.get_pending_deadline()))?;
     Ok(())
 }
@@ -182,9 +197,10 @@ fn run_on(
     given: &[Given],
     seen: &mut Vec<Seen>,
 ) -> Result<(), Fault> {
-    for answer in engine.run(inputs_of(alloc, given)?)?.as_slice() {
-        note_answer(answer, seen)?;
-    }
+    let answers = engine.run(inputs_of(alloc, given)?)?;
+    let noted = note_answers(answers.as_slice(), seen);
+    drop(answers);
+    noted?;
     look(engine, seen)
 }
 
@@ -197,7 +213,9 @@ fn run_all(alloc: Global, given: &[Given], seen: &mut Vec<Seen>) -> Result<(), F
         priority_requests: false,
     };
     let mut engine: Plain = Core::new(alloc, config, false);
-    run_on(&mut engine, alloc, given, seen)
+    let ended = run_on(&mut engine, alloc, given, seen);
+    drop(engine);
+    ended
 }
 
 fn assert_run(

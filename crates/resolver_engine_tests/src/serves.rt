@@ -15,13 +15,13 @@ type Plain = Core<Key, u8, u16, All>;
 
 fn take(engine: &mut Plain, event: Event<Key, u8, u16, All>) -> Result<usize, Fault> {
     let effects = engine.step(Input::Happens(Happening { now: 0, event }))?;
-    Ok(
-        effects
-            .as_slice()
-            .iter()
-            .filter(|effect| is_of_serve(effect))
-            .count(),
-    )
+    let count = effects
+        .as_slice()
+        .iter()
+        .filter(|effect| is_of_serve(effect))
+        .count();
+    drop(effects);
+    Ok(count)
 }
 
 fn is_of_serve(effect: &Effect<Key, u8, u16>) -> bool {
@@ -58,11 +58,18 @@ fn engine(alloc: Global) -> Plain {
     Core::new(alloc, config, false)
 }
 
+/// How many serves are produced and then replied to.
+fn count_both(engine: &mut Plain, count: u64) -> Result<(usize, usize), Fault> {
+    let produced = open_serves(engine, count)?;
+    let replied = close_serves(engine, count)?;
+    Ok((produced, replied))
+}
+
 fn counts(alloc: Global, count: u64) -> Result<(usize, usize), Fault> {
     let mut engine = engine(alloc);
-    let produced = open_serves(&mut engine, count)?;
-    let replied = close_serves(&mut engine, count)?;
-    Ok((produced, replied))
+    let counted = count_both(&mut engine, count);
+    drop(engine);
+    counted
 }
 
 /// Ten thousand serves are closed from the last on, each with one reply.
