@@ -1,6 +1,6 @@
 use crate::calls::{All, fetch, spell, spell_book};
 use resolver_mailbox::mailbox::Desk;
-use std::alloc::Global;
+use std::alloc::{AllocError, Global};
 use std::fmt::Write;
 use std::test::Fail;
 
@@ -43,23 +43,27 @@ fn row(text: &mut String, desk: &mut Desk<u16, u16, (), All>) -> Result<(), Fail
     spell_book(text, desk.calls())
 }
 
-/// The row on a recorded desk.
-fn recorded_row(alloc: Global) -> Result<String, Fail> {
-    let mut text = String::new(alloc);
-    row(&mut text, &mut Desk::recorded(alloc, 1)?)?;
-    Ok(text)
-}
-
-/// The row on a desk that isn't recorded.
-fn unrecorded_row(alloc: Global) -> Result<String, Fail> {
-    let mut text = String::new(alloc);
-    row(&mut text, &mut Desk::new(alloc, 1)?)?;
-    Ok(text)
+/// The row on a desk that was made.
+fn row_on(
+    alloc: Global,
+    made: Result<Desk<u16, u16, (), All>, AllocError>,
+) -> Result<String, Fail> {
+    match made {
+        Ok(mut desk) => {
+            let mut text = String::new(alloc);
+            let written = row(&mut text, &mut desk);
+            drop(desk);
+            written?;
+            Ok(text)
+        }
+        Err(error) => Err(error.into()),
+    }
 }
 
 #[test]
 fn mailbox_book(rt: HostRuntime) -> Result<(), Fail> {
-    let text = recorded_row(rt.alloc())?;
+    let alloc = rt.alloc();
+    let text = row_on(alloc, Desk::recorded(alloc, 1))?;
     assert_eq!(rt;
         text.as_str(),
         "Ok Some(0)\nBackoff Some(0)\nBackoff Some(1)\n 1 10:7\n 2 20:8 21:9\n none\n\
@@ -72,7 +76,8 @@ fn mailbox_book(rt: HostRuntime) -> Result<(), Fail> {
 
 #[test]
 fn mailbox_book_not_recorded(rt: HostRuntime) -> Result<(), Fail> {
-    let text = unrecorded_row(rt.alloc())?;
+    let alloc = rt.alloc();
+    let text = row_on(alloc, Desk::new(alloc, 1))?;
     assert_eq!(rt;
         text.as_str(),
         "Ok None\nBackoff None\nBackoff None\n 1 10:7\n 2 20:8 21:9\n none\nClosed None\n"

@@ -12,6 +12,15 @@ use std::marker::Brand;
 use std::sync::Wait;
 use std::test::Fail;
 
+/// The first handle and the receiver of a mailbox that was made.
+type Made<N, R> = Result<
+    (
+        Sender<u16, u16, (), All, N, R>,
+        Receiver<u16, u16, (), All, N, R>,
+    ),
+    Fault,
+>;
+
 /// What the next poll of a receiver gives.
 pub fn next<N: Naming, R: Wait + Drop>(
     task: &MockTask,
@@ -86,7 +95,7 @@ fn spell_share<N: Naming, R>(
 }
 
 /// Two handles put, the receiver takes, the mailbox is closed, and the first handle puts again:
-/// writes the answers, and then the shares and what was taken.
+/// writes the answers, and then the shares, what was taken, and the book.
 fn row<N: Naming, R: Wait + Drop>(
     text: &mut String,
     task: &MockTask,
@@ -107,7 +116,8 @@ fn row<N: Naming, R: Wait + Drop>(
     spell_share(text, first)?;
     spell_share(text, second)?;
     writeln!(text, "taken")?;
-    spell_all(text, receiver.taken())
+    spell_all(text, receiver.taken())?;
+    spell_book_for(text, first, second, receiver)
 }
 
 /// Writes the book that is lent for these shares.
@@ -117,28 +127,62 @@ fn spell_lent<N: Naming, R: Wait>(
     shares: &[&Share<u16, u16, (), All, N>],
 ) -> Result<(), Fail> {
     let book = receiver.book(*text.allocator(), shares)?;
-    spell_book(text, book.as_slice())
+    let written = spell_book(text, book.as_slice());
+    drop(book);
+    written
 }
 
-/// Writes the book that is lent for no share, for that of one handle, and for those of both.
+/// Writes the book that is lent for no share, and where the handles have shares, for that of one
+/// and for those of both.
 fn spell_book_for<N: Naming, R: Wait>(
     text: &mut String,
     first: &Sender<u16, u16, (), All, N, R>,
     second: &Sender<u16, u16, (), All, N, R>,
     receiver: &Receiver<u16, u16, (), All, N, R>,
 ) -> Result<(), Fail> {
-    let Some(one) = first.share() else {
-        return Err("a share".into());
-    };
-    let Some(other) = second.share() else {
-        return Err("a share".into());
-    };
     spell_lent(text, receiver, &[])?;
+    let (Some(one), Some(other)) = (first.share(), second.share()) else {
+        return Ok(());
+    };
     spell_lent(text, receiver, &[one])?;
     spell_lent(text, receiver, &[one, other])
 }
 
-/// Writes the row in a recorded mailbox of capacity 1, and then its book.
+/// Writes the row of a handle and its clone.
+fn row_of_both<N: Naming, R: Wait + Copy + Drop>(
+    text: &mut String,
+    task: &MockTask,
+    first: &mut Sender<u16, u16, (), All, N, R>,
+    receiver: &mut Receiver<u16, u16, (), All, N, R>,
+) -> Result<(), Fail> {
+    match first.clone() {
+        Ok(mut second) => {
+            let written = row(text, task, first, &mut second, receiver);
+            drop(second);
+            written
+        }
+        Err(error) => Err(error.into()),
+    }
+}
+
+/// Writes the row in a mailbox that was made.
+fn row_in<N: Naming, R: Wait + Copy + Drop>(
+    text: &mut String,
+    task: &MockTask,
+    made: Made<N, R>,
+) -> Result<(), Fail> {
+    match made {
+        Ok((mut handle, mut receiver)) => {
+            let written = row_of_both(text, task, &mut handle, &mut receiver);
+            drop(handle);
+            drop(receiver);
+            written
+        }
+        Err(fault) => Err(fault.into()),
+    }
+}
+
+/// Writes the row in a recorded mailbox of capacity 1.
 fn recorded_row<N, R>(text: &mut String, rt: R, pages: Pages, task: &MockTask) -> Result<(), Fail>
 where
     N: Naming,
@@ -148,10 +192,11 @@ where
     requires takes { pages.takes.name ≡ N.takes }
 {
     let alloc = *text.allocator();
-    let (mut first, mut receiver) = recorded::<u16, u16, (), All, N, R>(rt, alloc, pages, 1)?;
-    let mut second = first.clone()?;
-    row(text, task, &mut first, &mut second, &mut receiver)?;
-    spell_book_for(text, &first, &second, &receiver)
+    row_in(
+        text,
+        task,
+        recorded::<u16, u16, (), All, N, R>(rt, alloc, pages, 1),
+    )
 }
 
 /// The calls of the row, and what is shown behind it.
@@ -174,23 +219,15 @@ fn mailbox_book(rt: HostRuntime) -> Result<(), Fail> {
     Ok(())
 }
 
-/// Writes the row in a mailbox of capacity 1 that isn't recorded, and then its book.
-fn unrecorded_row<R>(text: &mut String, rt: R, task: &MockTask) -> Result<(), Fail>
-where
-    R: Wait + Copy + Drop,
-{
-    let alloc = *text.allocator();
-    let (mut first, mut receiver) = new::<u16, u16, (), All, R>(rt, alloc, 1)?;
-    let mut second = first.clone()?;
-    row(text, task, &mut first, &mut second, &mut receiver)?;
-    spell_book(text, receiver.book(alloc, &[])?.as_slice())
-}
-
 #[test]
 fn mailbox_book_not_recorded(rt: HostRuntime) -> Result<(), Fail> {
     let task = MockTask::new(&rt)?;
     let mut text = String::new(rt.alloc());
-    unrecorded_row(&mut text, rt, &task)?;
+    row_in(
+        &mut text,
+        &task,
+        new::<u16, u16, (), All, _>(rt, rt.alloc(), 1),
+    )?;
     assert_eq!(rt;
         text.as_str(),
         "none\nnone\nOk\nBackoff\nBackoff\n 1 10:7\n 2 20:8 21:9\n pending\nClosed\n\
@@ -220,6 +257,23 @@ fn shut<N: Naming, R: Wait + Drop>(
 /// What a mailbox of capacity 2 answers then.
 const SHUT: &str = "Ok\nOk\nBackoff\n 1 10:7\n 2 20:8\n 3 30:9\n end\n end\n";
 
+/// The same in a mailbox that was made.
+fn shut_in<N: Naming, R: Wait + Drop>(
+    text: &mut String,
+    task: &MockTask,
+    made: Made<N, R>,
+) -> Result<(), Fail> {
+    match made {
+        Ok((mut handle, mut receiver)) => {
+            let written = shut(text, task, &mut handle, &mut receiver);
+            drop(handle);
+            drop(receiver);
+            written
+        }
+        Err(fault) => Err(fault.into()),
+    }
+}
+
 /// The same in a recorded mailbox of capacity 2.
 fn recorded_shut<N, R>(text: &mut String, rt: R, pages: Pages, task: &MockTask) -> Result<(), Fail>
 where
@@ -230,8 +284,11 @@ where
     requires takes { pages.takes.name ≡ N.takes }
 {
     let alloc = *text.allocator();
-    let (mut handle, mut receiver) = recorded::<u16, u16, (), All, N, R>(rt, alloc, pages, 2)?;
-    shut(text, task, &mut handle, &mut receiver)
+    shut_in(
+        text,
+        task,
+        recorded::<u16, u16, (), All, N, R>(rt, alloc, pages, 2),
+    )
 }
 
 #[test]
@@ -243,31 +300,27 @@ fn what_waits_is_given_after_the_close(rt: HostRuntime) -> Result<(), Fail> {
     Ok(())
 }
 
-/// The same in a mailbox of capacity 2 that isn't recorded.
-fn unrecorded_shut<R>(text: &mut String, rt: R, task: &MockTask) -> Result<(), Fail>
-where
-    R: Wait + Copy + Drop,
-{
-    let (mut handle, mut receiver) = new::<u16, u16, (), All, R>(rt, *text.allocator(), 2)?;
-    shut(text, task, &mut handle, &mut receiver)
-}
-
 #[test]
 fn what_waits_is_given_after_the_close_not_recorded(rt: HostRuntime) -> Result<(), Fail> {
     let task = MockTask::new(&rt)?;
     let mut text = String::new(rt.alloc());
-    unrecorded_shut(&mut text, rt, &task)?;
+    shut_in(
+        &mut text,
+        &task,
+        new::<u16, u16, (), All, _>(rt, rt.alloc(), 2),
+    )?;
     assert_eq!(rt; text.as_str(), SHUT);
     Ok(())
 }
 
-/// Whether the task was woken by what was done since it last polled in vain.
+/// Whether the task was woken by what was done since it last polled in vain, and whether the
+/// mailbox is over then.
 fn wakes<N: Naming, R: Wait + Drop>(
     alloc: Global,
     task: &MockTask,
     handle: &mut Sender<u16, u16, (), All, N, R>,
     receiver: &mut Receiver<u16, u16, (), All, N, R>,
-) -> Result<[bool; 4], Fault> {
+) -> Result<([bool; 4], bool), Fault> {
     let _ = next(task, receiver);
     let asleep = task.is_woken();
     handle.enqueue(fetch(alloc, 1, 10, 7)?)?;
@@ -276,20 +329,38 @@ fn wakes<N: Naming, R: Wait + Drop>(
     let _ = next(task, receiver);
     let asleep_again = task.is_woken();
     receiver.close();
-    Ok([asleep, put, asleep_again, task.is_woken()])
+    let woken = [asleep, put, asleep_again, task.is_woken()];
+    let is_over = match next(task, receiver) {
+        Poll::Ready(None) => true,
+        _ => false,
+    };
+    Ok((woken, is_over))
+}
+
+/// The same in a mailbox that was made.
+fn wakes_in<N: Naming, R: Wait + Drop>(
+    alloc: Global,
+    task: &MockTask,
+    made: Made<N, R>,
+) -> Result<([bool; 4], bool), Fault> {
+    match made {
+        Ok((mut handle, mut receiver)) => {
+            let woken = wakes(alloc, task, &mut handle, &mut receiver);
+            drop(handle);
+            drop(receiver);
+            woken
+        }
+        Err(fault) => Err(fault),
+    }
 }
 
 #[test]
 fn a_put_and_a_close_wake_the_receiver(rt: HostRuntime) -> Result<(), Fail> {
     let alloc = rt.alloc();
     let task = MockTask::new(&rt)?;
-    let (mut handle, mut receiver) = new::<u16, u16, (), All, _>(rt, alloc, 1)?;
-    let woken = wakes(alloc, &task, &mut handle, &mut receiver)?;
+    let made = new::<u16, u16, (), All, _>(rt, alloc, 1);
+    let (woken, is_over) = wakes_in(alloc, &task, made)?;
     assert_eq!(rt; woken, [false, true, false, true]);
-    let is_over = match next(&task, &mut receiver) {
-        Poll::Ready(None) => true,
-        _ => false,
-    };
     assert!(rt; is_over);
     Ok(())
 }

@@ -135,10 +135,30 @@ where
         return Ok(false);
     };
     let book = receiver.book(alloc, &[share])?;
-    Ok(book.len() == 2 && is_fetch(&book[0], key, subscriber) && is_test(&book[1]))
+    let has_both = book.len() == 2 && is_fetch(&book[0], key, subscriber) && is_test(&book[1]);
+    drop(book);
+    Ok(has_both)
 }
 
-/// Puts both into a recorded mailbox of capacity 1. Whether its book has them then.
+/// Puts both. Whether the book has them then.
+fn put_and_look<K, S, N, R>(
+    alloc: Global,
+    handle: &mut Handle<K, S, N, R>,
+    receiver: &Mail<K, S, N, R>,
+    key: &K,
+    subscriber: &S,
+) -> Result<bool, Fail>
+where
+    K: Ord + Hash + Faithful + Exact + Drop,
+    S: Ord + Faithful + Exact + Drop,
+    N: Naming,
+    R: Wait,
+{
+    put_both(alloc, handle, key, subscriber)?;
+    has_both(alloc, handle, receiver, key, subscriber)
+}
+
+/// The same in a recorded mailbox of capacity 1.
 fn are_booked<K, S, N, R>(
     rt: R,
     alloc: Global,
@@ -155,9 +175,15 @@ where
     requires puts { pages.puts.name ≡ N.puts }
     requires takes { pages.takes.name ≡ N.takes }
 {
-    let (mut handle, receiver) = recorded::<K, S, (), Kept<Everyone>, N, R>(rt, alloc, pages, 1)?;
-    put_both(alloc, &mut handle, key, subscriber)?;
-    has_both(alloc, &handle, &receiver, key, subscriber)
+    match recorded::<K, S, (), Kept<Everyone>, N, R>(rt, alloc, pages, 1) {
+        Ok((mut handle, receiver)) => {
+            let are_booked = put_and_look(alloc, &mut handle, &receiver, key, subscriber);
+            drop(handle);
+            drop(receiver);
+            are_booked
+        }
+        Err(fault) => Err(fault.into()),
+    }
 }
 
 #[test]

@@ -243,10 +243,12 @@ fn find<N: Naming, R: Wait>(
     let shares = shares_of(alloc, handles)?;
     let book = receiver.book(alloc, shares.as_slice())?;
     let (after, closes) = after_the_close(book.as_slice());
+    let booked = puts_in(book.as_slice());
+    drop(book);
     Ok(Found {
         tally,
         held: held(handles),
-        booked: puts_in(book.as_slice()),
+        booked,
         after,
         closes,
     })
@@ -263,8 +265,51 @@ struct Use {
     closes: bool,
 }
 
-/// A thread for each job over a recorded mailbox that is used so. Once the threads are over, the receiver
-/// takes what waits, which is written.
+/// The receiver takes what waits once the threads are over, which is written.
+fn end<N: Naming, R: Wait + Drop>(
+    text: &mut String,
+    task: &MockTask,
+    handles: &[Handle<N, R>],
+    receiver: &mut Receiver<u16, u16, (), All, N, R>,
+    tally: Tally,
+) -> Result<Found, Fail> {
+    take_all(text, task, receiver)?;
+    Ok(find(*text.allocator(), handles, receiver, tally)?)
+}
+
+/// A thread for each job over a mailbox that is used so, and its end.
+fn run_over<N, R>(
+    text: &mut String,
+    rt: R,
+    handle: &Handle<N, R>,
+    receiver: &mut Receiver<u16, u16, (), All, N, R>,
+    jobs: &[Job],
+    how: Use,
+) -> Result<Found, Fail>
+where
+    N: Naming + Send + Sync + 'static,
+    R: Threads + Wait + RandomSource + AllocGlobal + Copy + Drop + Send + 'static,
+{
+    let alloc = *text.allocator();
+    let task = MockTask::new(&rt)?;
+    let running = start_all(rt, alloc, handle, jobs)?;
+    for _ in 0..how.polls {
+        let _ = next(&task, receiver);
+    }
+    match join_all(rt, alloc, running) {
+        Ok((handles, tally)) => {
+            if how.closes {
+                receiver.close();
+            }
+            let found = end(text, &task, handles.as_slice(), receiver, tally);
+            drop(handles);
+            found
+        }
+        Err(error) => Err(error.into()),
+    }
+}
+
+/// The same over a recorded mailbox.
 fn run<N, R>(text: &mut String, rt: R, pages: Pages, jobs: &[Job], how: Use) -> Result<Found, Fail>
 where
     N: Naming + Send + Sync + 'static,
@@ -274,23 +319,15 @@ where
     requires takes { pages.takes.name ≡ N.takes }
 {
     let alloc = *text.allocator();
-    let task = MockTask::new(&rt)?;
-    let (handle, mut receiver) = recorded::<u16, u16, (), All, N, R>(
-        rt,
-        alloc,
-        pages,
-        how.capacity,
-    )?;
-    let running = start_all(rt, alloc, &handle, jobs)?;
-    for _ in 0..how.polls {
-        let _ = next(&task, &mut receiver);
+    match recorded::<u16, u16, (), All, N, R>(rt, alloc, pages, how.capacity) {
+        Ok((handle, mut receiver)) => {
+            let found = run_over(text, rt, &handle, &mut receiver, jobs, how);
+            drop(handle);
+            drop(receiver);
+            found
+        }
+        Err(fault) => Err(fault.into()),
     }
-    let (handles, tally) = join_all(rt, alloc, running)?;
-    if how.closes {
-        receiver.close();
-    }
-    take_all(text, &task, &mut receiver)?;
-    Ok(find(alloc, handles.as_slice(), &receiver, tally)?)
 }
 
 /// Fetches of this many keys from the first one on.
