@@ -153,7 +153,37 @@ fn spell_taken<N: Naming, R: Wait + Drop>(
     Ok(())
 }
 
-/// Asks in a recorded mailbox, and once more after it was closed.
+/// Closes the mailbox by a clone of a handle, and writes the share of that.
+fn close_by_clone<N, R>(text: &mut String, handle: &Handle<N, R>) -> Result<(), Fail>
+where
+    N: Naming,
+    R: Wait + Copy + Drop,
+{
+    match handle.clone() {
+        Ok(mut other) => {
+            let written = spell_share(text, &other);
+            other.close();
+            drop(other);
+            written
+        }
+        Err(error) => Err(error.into()),
+    }
+}
+
+/// Asks, and once more after the mailbox was closed.
+fn ask_twice<N, R>(text: &mut String, handle: &mut Handle<N, R>) -> Result<(), Fail>
+where
+    N: Naming + Send + Sync + 'static,
+    R: Wait + Copy + Drop + Send + 'static,
+{
+    ask_each(text, handle)?;
+    spell_share(text, handle)?;
+    close_by_clone(text, handle)?;
+    ask_each(text, handle)?;
+    spell_share(text, handle)
+}
+
+/// The same in a recorded mailbox.
 fn recorded_asked<N, R>(text: &mut String, rt: R, pages: Pages) -> Result<(), Fail>
 where
     N: Naming + Send + Sync + 'static,
@@ -163,15 +193,16 @@ where
     requires takes { pages.takes.name ≡ N.takes }
 {
     let alloc = *text.allocator();
-    let (sender, _receiver) = recorded::<Key, u16, Targets, All, N, R>(rt, alloc, pages, 9)?;
-    let mut handle: Handle<N, R> = Mailbox::over(alloc, sender);
-    ask_each(text, &mut handle)?;
-    spell_share(text, &handle)?;
-    let mut other = handle.clone()?;
-    spell_share(text, &other)?;
-    other.close();
-    ask_each(text, &mut handle)?;
-    spell_share(text, &handle)
+    match recorded::<Key, u16, Targets, All, N, R>(rt, alloc, pages, 9) {
+        Ok((sender, receiver)) => {
+            let mut handle: Handle<N, R> = Mailbox::over(alloc, sender);
+            let written = ask_twice(text, &mut handle);
+            drop(handle);
+            drop(receiver);
+            written
+        }
+        Err(fault) => Err(fault.into()),
+    }
 }
 
 #[test]
@@ -192,20 +223,41 @@ fn what_is_asked_stands_in_the_share(rt: HostRuntime) -> Result<(), Fail> {
     Ok(())
 }
 
-/// Asks in a mailbox that isn't recorded, and takes what was put.
+/// Asks, and takes what was put, up to the end of the mailbox.
+fn ask_and_take<N, R>(
+    text: &mut String,
+    task: &MockTask,
+    handle: &mut Handle<N, R>,
+    receiver: &mut Mail<N, R>,
+) -> Result<(), Fail>
+where
+    N: Naming + Send + Sync + 'static,
+    R: Wait + Copy + Drop + Send + 'static,
+{
+    ask_each(text, handle)?;
+    spell_share(text, handle)?;
+    spell_taken(text, task, receiver)?;
+    handle.close();
+    spell_taken(text, task, receiver)
+}
+
+/// The same in a mailbox that isn't recorded.
 fn unrecorded_asked<R: Wait + Copy + Drop + Send + 'static>(
     text: &mut String,
     rt: R,
     task: &MockTask,
 ) -> Result<(), Fail> {
     let alloc = *text.allocator();
-    let (sender, mut receiver) = new::<Key, u16, Targets, All, R>(rt, alloc, 9)?;
-    let mut handle: Handle<_, R> = Mailbox::over(alloc, sender);
-    ask_each(text, &mut handle)?;
-    spell_share(text, &handle)?;
-    spell_taken(text, task, &mut receiver)?;
-    handle.close();
-    spell_taken(text, task, &mut receiver)
+    match new::<Key, u16, Targets, All, R>(rt, alloc, 9) {
+        Ok((sender, mut receiver)) => {
+            let mut handle: Handle<_, R> = Mailbox::over(alloc, sender);
+            let written = ask_and_take(text, task, &mut handle, &mut receiver);
+            drop(handle);
+            drop(receiver);
+            written
+        }
+        Err(fault) => Err(fault.into()),
+    }
 }
 
 #[test]

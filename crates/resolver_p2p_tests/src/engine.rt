@@ -49,7 +49,8 @@ fn open<R: Copy>(rt: R, alloc: Global) -> Result<Silent<R>, Fault> {
         priority_requests: false,
         priority_responses: false,
     };
-    let (engine, _) = Engine::new(rt, alloc, cfg)?;
+    let (engine, mailbox) = Engine::new(rt, alloc, cfg)?;
+    drop(mailbox);
     Ok(engine)
 }
 
@@ -85,8 +86,7 @@ fn drawn(number: u128) -> Taken {
 }
 
 /// The inputs of a scan that sends its request, with answers and events that it refuses.
-fn inputs(alloc: Global) -> Result<Vec<Taken>, Fault> {
-    let mut inputs = Vec::new(alloc);
+fn push_inputs(alloc: Global, inputs: &mut Vec<Taken>) -> Result<(), Fault> {
     inputs.push(peers(alloc)?)?;
     inputs.push(fetch(alloc)?)?;
     inputs.push(drawn(0))?;
@@ -97,7 +97,18 @@ fn inputs(alloc: Global) -> Result<Vec<Taken>, Fault> {
     inputs.push(Input::Answers(Answer::Checked(Check::Clear)))?;
     inputs.push(drawn(1234))?;
     inputs.push(Input::Answers(Answer::Sent(true)))?;
-    Ok(inputs)
+    Ok(())
+}
+
+fn inputs(alloc: Global) -> Result<Vec<Taken>, Fault> {
+    let mut inputs = Vec::new(alloc);
+    match push_inputs(alloc, &mut inputs) {
+        Ok(()) => Ok(inputs),
+        Err(fault) => {
+            drop(inputs);
+            Err(fault)
+        }
+    }
 }
 
 fn spell_effect(text: &mut String, effect: &Effect<Key, Peer, u16>) -> Result<(), Fail> {
@@ -142,6 +153,21 @@ fn spell_row(text: &mut String, row: &Row<Key, u16, Peer>) -> Result<(), Fail> {
     Ok(())
 }
 
+/// Writes answers, each on its line.
+fn spell_answers(text: &mut String, answers: &[Answered]) -> Result<(), Fail> {
+    for answer in answers {
+        spell_answer(text, answer)?;
+    }
+    Ok(())
+}
+
+fn spell_rows(text: &mut String, rows: &[Row<Key, u16, Peer>]) -> Result<(), Fail> {
+    for row in rows {
+        spell_row(text, row)?;
+    }
+    Ok(())
+}
+
 fn rows_of<R>(engine: &Silent<R>) -> Result<Vec<Row<Key, u16, Peer>>, Fault> {
     engine.rows()
 }
@@ -159,9 +185,9 @@ fn spell_counts<R>(text: &mut String, engine: &Silent<R>) -> Result<(), Fail> {
 /// Writes the rows, both deadlines and the counts.
 fn spell_state<R>(text: &mut String, engine: &Silent<R>) -> Result<(), Fail> {
     let rows = rows_of(engine)?;
-    for row in &rows {
-        spell_row(text, row)?;
-    }
+    let written = spell_rows(text, rows.as_slice());
+    drop(rows);
+    written?;
     let wake = engine.get_pending_deadline();
     let timeout = engine.get_active_deadline();
     writeln!(text, "wake {wake:?} timeout {timeout:?}")?;
@@ -185,8 +211,12 @@ wake None timeout Some(50)
 waiting 0 asked 1 sent 1
 ";
 
-fn take<R>(engine: &mut Silent<R>, input: Taken) -> Answered {
-    engine.step(input)
+/// Takes an input, and writes the answer.
+fn take<R>(text: &mut String, engine: &mut Silent<R>, input: Taken) -> Result<(), Fail> {
+    let answer = engine.step(input);
+    let written = spell_answer(text, &answer);
+    drop(answer);
+    written
 }
 
 fn take_all<R>(engine: &mut Silent<R>, inputs: Vec<Taken>) -> Result<Vec<Answered>, Fault> {
@@ -196,8 +226,7 @@ fn take_all<R>(engine: &mut Silent<R>, inputs: Vec<Taken>) -> Result<Vec<Answere
 /// The inputs one by one.
 fn step_by_step<R>(text: &mut String, engine: &mut Silent<R>) -> Result<(), Fail> {
     for input in inputs(*text.allocator())? {
-        let answer = take(engine, input);
-        spell_answer(text, &answer)?;
+        take(text, engine, input)?;
     }
     spell_state(text, engine)
 }
@@ -206,30 +235,40 @@ fn step_by_step<R>(text: &mut String, engine: &mut Silent<R>) -> Result<(), Fail
 fn in_one_run<R>(text: &mut String, engine: &mut Silent<R>) -> Result<(), Fail> {
     let inputs = inputs(*text.allocator())?;
     let answers = take_all(engine, inputs)?;
-    for answer in &answers {
-        spell_answer(text, answer)?;
-    }
+    let written = spell_answers(text, answers.as_slice());
+    drop(answers);
+    written?;
     spell_state(text, engine)
+}
+
+/// What an engine writes of the inputs, which it takes in one run or one by one.
+fn printed<R: Copy + Drop>(rt: R, alloc: Global, is_one_run: bool) -> Result<String, Fail> {
+    match open(rt, alloc) {
+        Ok(mut engine) => {
+            let mut text = String::new(alloc);
+            let written = if is_one_run {
+                in_one_run(&mut text, &mut engine)
+            } else {
+                step_by_step(&mut text, &mut engine)
+            };
+            drop(engine);
+            written?;
+            Ok(text)
+        }
+        Err(fault) => Err(fault.into()),
+    }
 }
 
 #[test]
 fn peer_refusals_step_by_step(rt: HostRuntime) -> Result<(), Fail> {
-    let mut engine = open(rt, rt.alloc())?;
-    let mut text = String::new(rt.alloc());
-    let ended = step_by_step(&mut text, &mut engine);
-    drop(engine);
-    ended?;
+    let text = printed(rt, rt.alloc(), false)?;
     assert_eq!(rt; text.as_str(), PRINTED);
     Ok(())
 }
 
 #[test]
 fn peer_refusals_in_one_run(rt: HostRuntime) -> Result<(), Fail> {
-    let mut engine = open(rt, rt.alloc())?;
-    let mut text = String::new(rt.alloc());
-    let ended = in_one_run(&mut text, &mut engine);
-    drop(engine);
-    ended?;
+    let text = printed(rt, rt.alloc(), true)?;
     assert_eq!(rt; text.as_str(), PRINTED);
     Ok(())
 }

@@ -21,6 +21,10 @@ type Told = Message<Key, Peer, u16, All>;
 
 type Handle<N, R> = Mailbox<Key, Peer, u16, All, N, R>;
 
+type Putter<N, R> = Sender<Key, u16, Targets, All, N, R>;
+
+type Mail<N, R> = Receiver<Key, u16, Targets, All, N, R>;
+
 /// A fetch of a key for subscriber 10, which peer 4 alone may be asked for.
 fn fetch(alloc: Global, key: u8) -> Result<Told, Fault> {
     let Ok(subscribers) = NonEmptyVec::new(alloc, (10, 7)) else {
@@ -72,7 +76,7 @@ fn spell_share<N: Naming, R>(text: &mut String, handle: &Handle<N, R>) -> Result
 fn poll<N: Naming, R: Wait + Drop>(
     text: &mut String,
     task: &MockTask,
-    receiver: &mut Receiver<Key, u16, Targets, All, N, R>,
+    receiver: &mut Mail<N, R>,
 ) -> Result<(), Fail> {
     match task.enter(|cx| receiver.poll_next(cx)) {
         Poll::Ready(Some(Ok(message))) => spell(text, &message)?,
@@ -84,25 +88,65 @@ fn poll<N: Naming, R: Wait + Drop>(
     Ok(())
 }
 
-/// A sender puts, a handle is made of it, and a clone of that closes the mailbox.
+/// Puts by a sender, and writes the answer.
+fn put<N: Naming, R: Wait>(text: &mut String, sender: &mut Putter<N, R>) -> Result<(), Fail> {
+    let message = fetch(*text.allocator(), 1)?;
+    writeln!(text, "{:?}", sender.enqueue(message)?)?;
+    Ok(())
+}
+
+/// Closes the mailbox by a clone of a handle, and writes the share of that.
+fn close_by_clone<N, R>(text: &mut String, handle: &Handle<N, R>) -> Result<(), Fail>
+where
+    N: Naming,
+    R: Wait + Copy + Drop,
+{
+    match handle.clone() {
+        Ok(mut other) => {
+            let written = spell_share(text, &other);
+            other.close();
+            drop(other);
+            written
+        }
+        Err(error) => Err(error.into()),
+    }
+}
+
+/// A clone of the handle closes the mailbox, and the receiver takes what was put.
+fn close_and_take<N: Naming, R: Wait + Copy + Drop>(
+    text: &mut String,
+    task: &MockTask,
+    handle: &Handle<N, R>,
+    receiver: &mut Mail<N, R>,
+) -> Result<(), Fail> {
+    spell_share(text, handle)?;
+    close_by_clone(text, handle)?;
+    spell_share(text, handle)?;
+    poll(text, task, receiver)?;
+    poll(text, task, receiver)
+}
+
+/// The sender of a mailbox that was made puts, a handle is made of it, and a clone of that closes
+/// the mailbox.
 fn used<N: Naming, R: Wait + Copy + Drop>(
     text: &mut String,
     task: &MockTask,
-    sender: Sender<Key, u16, Targets, All, N, R>,
-    receiver: &mut Receiver<Key, u16, Targets, All, N, R>,
+    made: Result<(Putter<N, R>, Mail<N, R>), Fault>,
 ) -> Result<(), Fail> {
-    let alloc = *text.allocator();
-    let mut sender = sender;
-    let answer = sender.enqueue(fetch(alloc, 1)?)?;
-    writeln!(text, "{answer:?}")?;
-    let handle = Mailbox::over(alloc, sender);
-    spell_share(text, &handle)?;
-    let mut other = handle.clone()?;
-    spell_share(text, &other)?;
-    other.close();
-    spell_share(text, &handle)?;
-    poll(text, task, receiver)?;
-    poll(text, task, receiver)
+    match made {
+        Ok((mut sender, mut receiver)) => {
+            let put = put(text, &mut sender);
+            let handle: Handle<N, R> = Mailbox::over(*text.allocator(), sender);
+            let written = match put {
+                Ok(()) => close_and_take(text, task, &handle, &mut receiver),
+                Err(fail) => Err(fail),
+            };
+            drop(handle);
+            drop(receiver);
+            written
+        }
+        Err(fault) => Err(fault.into()),
+    }
 }
 
 fn recorded_used<N, R>(text: &mut String, rt: R, pages: Pages, task: &MockTask) -> Result<(), Fail>
@@ -114,8 +158,11 @@ where
     requires takes { pages.takes.name ≡ N.takes }
 {
     let alloc = *text.allocator();
-    let (sender, mut receiver) = recorded::<Key, u16, Targets, All, N, R>(rt, alloc, pages, 1)?;
-    used(text, task, sender, &mut receiver)
+    used(
+        text,
+        task,
+        recorded::<Key, u16, Targets, All, N, R>(rt, alloc, pages, 1),
+    )
 }
 
 #[test]
@@ -130,21 +177,15 @@ fn a_handle_shows_its_senders_puts(rt: HostRuntime) -> Result<(), Fail> {
     Ok(())
 }
 
-fn unrecorded_used<R: Wait + Copy + Drop>(
-    text: &mut String,
-    rt: R,
-    task: &MockTask,
-) -> Result<(), Fail> {
-    let alloc = *text.allocator();
-    let (sender, mut receiver) = new::<Key, u16, Targets, All, R>(rt, alloc, 1)?;
-    used(text, task, sender, &mut receiver)
-}
-
 #[test]
 fn a_handle_that_is_not_recorded_has_no_share(rt: HostRuntime) -> Result<(), Fail> {
     let task = MockTask::new(&rt)?;
     let mut text = String::new(rt.alloc());
-    unrecorded_used(&mut text, rt, &task)?;
+    used(
+        &mut text,
+        &task,
+        new::<Key, u16, Targets, All, _>(rt, rt.alloc(), 1),
+    )?;
     assert_eq!(rt; text.as_str(), "Ok\nnone\nnone\nnone\n 1 from 4\n end\n");
     Ok(())
 }
