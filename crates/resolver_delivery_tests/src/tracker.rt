@@ -65,7 +65,7 @@ where
 
 /// Writes what a poll gives.
 fn spell(text: &mut String, polled: Polled) -> Result<(), Fail> {
-    match polled {
+    let written = match &polled {
         Poll::Ready(Ok(completion)) => writeln!(
             text,
             "{} {:?} canceled {} accepted {}",
@@ -73,11 +73,12 @@ fn spell(text: &mut String, polled: Polled) -> Result<(), Fail> {
             completion.outcome,
             completion.canceled,
             completion.previously_accepted
-        )?,
-        Poll::Ready(Err(_)) => writeln!(text, "aborted")?,
-        Poll::Pending => writeln!(text, "pending")?,
-    }
-    Ok(())
+        ),
+        Poll::Ready(Err(_)) => writeln!(text, "aborted"),
+        Poll::Pending => writeln!(text, "pending"),
+    };
+    drop(polled);
+    Ok(written?)
 }
 
 /// Answers the first delivery of a key that was removed meanwhile.
@@ -103,12 +104,15 @@ fn inflight_completion(rt: HostRuntime) -> Result<(), Fail> {
     let alloc = rt.alloc();
     let task = MockTask::new(&rt)?;
     let mut tracker = Tracker::new(alloc, Mocked::dummy(alloc)?);
-    let completion = removed_before_its_verdict(alloc, &task, &mut tracker)?;
+    let completed = removed_before_its_verdict(alloc, &task, &mut tracker);
+    let is_tracked = tracker.contains(&Letter(1));
+    drop(tracker);
+    let completion = completed?;
     assert!(rt; completion.canceled);
     assert_eq!(rt; completion.context, (Letter(4), 0, 1));
     assert_eq!(rt; completion.outcome, Some(COMPLETE));
     assert!(rt; !completion.previously_accepted);
-    assert!(rt; !tracker.contains(&Letter(1)));
+    assert!(rt; !is_tracked);
     Ok(())
 }
 
@@ -149,6 +153,7 @@ fn judge_three(
     judges: &mut mpsc::UnboundedReceiver<oneshot::Sender<Outcome>>,
     tracker: &mut Tracker<Slow, Source, ()>,
 ) -> Result<(), Fail> {
+    deliver_three(*text.allocator(), tracker)?;
     spell(text, polled_slow(task, tracker))?;
     let first = next_judge(task, judges)?;
     let second = next_judge(task, judges)?;
@@ -174,8 +179,10 @@ fn verdicts_come_in_any_order(rt: HostRuntime) -> Result<(), Fail> {
         judges: sender,
     };
     let mut tracker = Tracker::new(alloc, slow);
-    deliver_three(alloc, &mut tracker)?;
-    judge_three(&mut text, &task, &mut judges, &mut tracker)?;
+    let written = judge_three(&mut text, &task, &mut judges, &mut tracker);
+    drop(tracker);
+    drop(judges);
+    written?;
     assert_eq!(rt;
         text.as_str(),
         "pending\n2 Some(Resolved(Complete)) canceled false accepted false\n1 None canceled false accepted false\naborted\nthird canceled true\npending\n"
@@ -232,7 +239,9 @@ fn an_accepted_response_is_handed_out_again(rt: HostRuntime) -> Result<(), Fail>
     let task = MockTask::new(&rt)?;
     let mut text = String::new(alloc);
     let mut tracker = Tracker::new(alloc, Mocked::dummy(alloc)?);
-    accept_and_redeliver(alloc, &mut text, &task, &mut tracker)?;
+    let written = accept_and_redeliver(alloc, &mut text, &task, &mut tracker);
+    drop(tracker);
+    written?;
     assert_eq!(rt;
         text.as_str(),
         "delivery 0\n1 Some(Resolved(Complete)) canceled false accepted false\nresponse true accepted false\nresponse true accepted true\ndelivery 1\n1 Some(Ignored) canceled false accepted true\npending\nresponse false accepted false\n"
@@ -264,7 +273,9 @@ fn keys_have_a_state(rt: HostRuntime) -> Result<(), Fail> {
     let alloc = rt.alloc();
     let mut text = String::new(alloc);
     let mut tracker = Tracker::new(alloc, Mocked::dummy(alloc)?);
-    give_states(&mut text, &mut tracker)?;
+    let written = give_states(&mut text, &mut tracker);
+    drop(tracker);
+    written?;
     assert_eq!(rt; text.as_str(), "true false Some(20)\n1 false\n3 false\n");
     Ok(())
 }
