@@ -19,7 +19,9 @@ type Step = Event<u64, u64, u16, All>;
 /// Takes every key through the actor, and ends it.
 pub fn run(rt: &(impl AllocGlobal + Clock), size: u64) -> Result<Vec<Spent>, Fault> {
     let mut actor = Actor::new(rt.alloc(), 0);
-    take_every(rt, &mut actor, size)
+    let spent = take_every(rt, &mut actor, size);
+    drop(actor);
+    spent
 }
 
 /// Takes steps of every kind, and measures them.
@@ -59,7 +61,14 @@ fn take_all(
 
 /// Takes one step, and counts its effects.
 fn take(actor: &mut Worker, event: Step) -> Result<u64, Fault> {
-    Ok(actor.step(Input { now: 0, event })?.len() as u64)
+    match actor.step(Input { now: 0, event }) {
+        Ok(effects) => {
+            let counted = effects.len() as u64;
+            drop(effects);
+            Ok(counted)
+        }
+        Err(fault) => Err(fault.into()),
+    }
 }
 
 /// The step of one key. Attempts and deliveries have the numbers of their keys.

@@ -38,7 +38,9 @@ pub fn run(rt: &(impl AllocGlobal + Clock), size: u64, peers: u16) -> Result<Vec
         priority_requests: false,
     };
     let mut engine = Core::new(rt.alloc(), config, false);
-    take_every(rt, &mut engine, size, peers)
+    let spent = take_every(rt, &mut engine, size, peers);
+    drop(engine);
+    spent
 }
 
 /// Takes events of every kind through an engine, and measures them: while all its peers are blocked the keys
@@ -105,16 +107,33 @@ fn take_all(
 
 /// Takes one event, and the scan that it begins. It counts the effects.
 fn take(engine: &mut Engine, event: Step) -> Result<u64, Fault> {
-    let mut told = engine.step(Input::Happens(Happening { now: 0, event }))?;
-    let mut counted = told.len() as u64;
+    let happening = Happening { now: 0, event };
+    let (mut counted, mut answer) = step(engine, Input::Happens(happening))?;
     for _ in 0..ASKS {
-        let Some(answer) = answer_to(&told) else {
+        let Some(given) = answer else {
             return Ok(counted);
         };
-        told = engine.step(Input::Answers(answer))?;
-        counted = counted.saturating_add(told.len() as u64);
+        let (more, next) = step(engine, Input::Answers(given))?;
+        counted = counted.saturating_add(more);
+        answer = next;
     }
     Ok(counted)
+}
+
+/// Takes one input. It counts the effects, and has the answer to what they ask.
+fn step(
+    engine: &mut Engine,
+    input: Input<Name, u16, u16, All>,
+) -> Result<(u64, Option<Answer>), Fault> {
+    match engine.step(input) {
+        Ok(told) => {
+            let counted = told.len() as u64;
+            let answer = answer_to(&told);
+            drop(told);
+            Ok((counted, answer))
+        }
+        Err(fault) => Err(fault.into()),
+    }
 }
 
 /// A zero, or leave, where something is asked: the first peer is asked, and the first id is 0.

@@ -27,11 +27,22 @@ pub fn among(alloc: Global, peers: u16) -> Result<Node, Fault> {
         priority_requests: false,
     };
     let mut fetcher = Fetcher::new(alloc, config);
+    match know(alloc, &mut fetcher, peers) {
+        Ok(()) => Ok(fetcher),
+        Err(fault) => {
+            drop(fetcher);
+            Err(fault)
+        }
+    }
+}
+
+/// Has a fetcher know so many peers, and take in a response of each.
+fn know(alloc: Global, fetcher: &mut Node, peers: u16) -> Result<(), Fault> {
     fetcher.reconcile(named(alloc, peers)?)?;
     for peer in 0..peers {
-        record(&mut fetcher, peer, u64::from(peer));
+        record(fetcher, peer, u64::from(peer));
     }
-    Ok(fetcher)
+    Ok(())
 }
 
 /// So many peers, in their order.

@@ -14,8 +14,14 @@ const MADE: u64 = 16;
 /// Takes an index of so many places through so many draws and weights.
 pub fn run(rt: &(impl AllocGlobal + Clock), size: u64, places: u16) -> Result<Vec<Spent>, Fault> {
     let weights = weights(rt.alloc(), places)?;
-    let mut index = WeightedIndex::new(rt.alloc(), &weights)?;
-    take_every(rt, &weights, &mut index, size)
+    match WeightedIndex::new(rt.alloc(), &weights) {
+        Ok(mut index) => {
+            let spent = take_every(rt, &weights, &mut index, size);
+            drop(index);
+            spent
+        }
+        Err(fault) => Err(fault.into()),
+    }
 }
 
 /// The same of an index of these weights that is lent.
@@ -60,7 +66,9 @@ fn make_all(rt: &(impl AllocGlobal + Clock), weights: &[u64]) -> Result<Spent, F
 #[inline(never)]
 fn make(alloc: Global, weights: &[u64]) -> Result<u64, Fault> {
     let index = WeightedIndex::new(alloc, weights)?;
-    Ok(index.count() as u64)
+    let places = index.count() as u64;
+    drop(index);
+    Ok(places)
 }
 
 /// Draws places, and counts the draws of a positive weight.

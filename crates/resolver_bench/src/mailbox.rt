@@ -19,8 +19,15 @@ pub fn run<R: AllocGlobal + Clock + Wait + RandomSource + Copy + Drop>(
     rt: R,
     size: u64,
 ) -> Result<Vec<Spent>, Fault> {
-    let (mut sender, mut receiver) = mailbox::new(rt, rt.alloc(), 1)?;
-    put_and_take(rt, &mut sender, &mut receiver, size)
+    match mailbox::new(rt, rt.alloc(), 1) {
+        Ok((mut sender, mut receiver)) => {
+            let spent = put_and_take(rt, &mut sender, &mut receiver, size);
+            drop(sender);
+            drop(receiver);
+            spent
+        }
+        Err(fault) => Err(fault.into()),
+    }
 }
 
 /// The same of a mailbox that is lent.
@@ -72,7 +79,7 @@ fn take_all<R: AllocGlobal + Clock + Wait + RandomSource + Drop>(
             break;
         };
         steps = steps.saturating_add(1);
-        counted = counted.saturating_add(fetches(&taken?));
+        counted = counted.saturating_add(fetches(taken)?);
     }
     Ok(Spent {
         kind: Kind::Take,
@@ -82,10 +89,17 @@ fn take_all<R: AllocGlobal + Clock + Wait + RandomSource + Drop>(
     })
 }
 
-/// How many fetches a message has.
-fn fetches(message: &Message<u64, u16, (), All>) -> u64 {
-    match message {
-        Message::Fetch(items) => items.len() as u64,
-        Message::Retain(_) => 0,
+/// How many fetches a message has that was taken.
+fn fetches(taken: Result<Message<u64, u16, (), All>, resolver::base::Fault>) -> Result<u64, Fault> {
+    match taken {
+        Ok(message) => {
+            let count = match &message {
+                Message::Fetch(items) => items.len() as u64,
+                Message::Retain(_) => 0,
+            };
+            drop(message);
+            Ok(count)
+        }
+        Err(fault) => Err(fault.into()),
     }
 }

@@ -85,24 +85,22 @@ fn run_peers(
 fn asked(rt: &(impl AllocGlobal + Env)) -> Result<(Option<u64>, Option<u16>), Fault> {
     let mut arguments = env::args(rt)?;
     let _ = arguments.next();
-    let keys = match arguments.next() {
-        Some(digits) => Some(number(&digits)?),
-        None => None,
-    };
-    let peers = match arguments.next() {
-        Some(digits) => Some(number(&digits)?),
-        None => None,
-    };
-    Ok((keys, peers))
+    let keys = number(arguments.next());
+    let peers = number(arguments.next());
+    drop(arguments);
+    Ok((keys?, peers?))
 }
 
-/// The number that these digits write.
-fn number<T: FromStr>(digits: &str) -> Result<T, Fault>
+/// The number that an argument writes, where there is one.
+fn number<T: FromStr>(argument: Option<String>) -> Result<Option<T>, Fault>
 where
     T::Err: Drop,
 {
+    let Some(digits) = argument else {
+        return Ok(None);
+    };
     match digits.parse::<T>() {
-        Ok(number) => Ok(number),
+        Ok(number) => Ok(Some(number)),
         Err(_) => Err(Fault::Size),
     }
 }

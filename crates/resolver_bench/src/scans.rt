@@ -34,8 +34,14 @@ fn take_every(
     size: u64,
     peers: u16,
 ) -> Result<(), Fault> {
-    let mut fetcher = among(rt.alloc(), peers)?;
-    take_in_turn(rt, &mut fetcher, spent, size, peers)
+    match among(rt.alloc(), peers) {
+        Ok(mut fetcher) => {
+            let taken = take_in_turn(rt, &mut fetcher, spent, size, peers);
+            drop(fetcher);
+            taken
+        }
+        Err(fault) => Err(fault),
+    }
 }
 
 /// The same of a fetcher that is lent.
@@ -64,12 +70,29 @@ fn take_new(
     size: u64,
     peers: u16,
 ) -> Result<Spent, Fault> {
-    let mut fetcher = among(rt.alloc(), peers)?;
+    match among(rt.alloc(), peers) {
+        Ok(mut fetcher) => {
+            let spent = take_kind(rt, &mut fetcher, kind, size, peers);
+            drop(fetcher);
+            spent
+        }
+        Err(fault) => Err(fault),
+    }
+}
+
+/// The same of a fetcher that is lent.
+fn take_kind(
+    rt: &(impl AllocGlobal + Clock),
+    fetcher: &mut Node,
+    kind: Kind,
+    size: u64,
+    peers: u16,
+) -> Result<Spent, Fault> {
     match kind {
-        Kind::Aimed => take_aimed(rt, &mut fetcher, size, peers),
-        Kind::Limit => take_limits(rt, &mut fetcher, peers),
-        Kind::Anew => take_waiting(rt, &mut fetcher, kind, ANEW),
-        _ => take_waiting(rt, &mut fetcher, kind, size),
+        Kind::Aimed => take_aimed(rt, fetcher, size, peers),
+        Kind::Limit => take_limits(rt, fetcher, peers),
+        Kind::Anew => take_waiting(rt, fetcher, kind, ANEW),
+        _ => take_waiting(rt, fetcher, kind, size),
     }
 }
 

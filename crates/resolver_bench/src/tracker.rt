@@ -28,7 +28,9 @@ pub fn run(rt: &(impl AllocGlobal + Clock), size: u64) -> Result<Vec<Spent>, Fau
 /// Subscribers one by one.
 fn attach_each(rt: &(impl AllocGlobal + Clock), size: u64) -> Result<Spent, Fault> {
     let mut tracker = Tracker::new(rt.alloc());
-    attach(rt, &mut tracker, size)
+    let spent = attach(rt, &mut tracker, size);
+    drop(tracker);
+    spent
 }
 
 /// The same of a tracker that is lent.
@@ -55,7 +57,9 @@ fn attach_together(
     subscribers: NonEmptyVec<(u64, u64)>,
 ) -> Result<Spent, Fault> {
     let mut tracker = Tracker::new(rt.alloc());
-    attach_at_once(rt, &mut tracker, subscribers)
+    let spent = attach_at_once(rt, &mut tracker, subscribers);
+    drop(tracker);
+    spent
 }
 
 /// The same of a tracker that is lent.
@@ -76,10 +80,12 @@ fn attach_at_once(
 
 /// Two fetches in an overflow.
 fn merge(rt: &(impl AllocGlobal + Clock), size: u64) -> Result<Spent, Fault> {
-    let mut pending = Pending::new(rt.alloc());
     let first = fetch(rt.alloc(), 0, size)?;
     let second = fetch(rt.alloc(), size / 2, size)?;
-    merge_into(rt, &mut pending, first, second)
+    let mut pending = Pending::new(rt.alloc());
+    let spent = merge_into(rt, &mut pending, first, second);
+    drop(pending);
+    spent
 }
 
 /// The same in an overflow that is lent.
@@ -111,11 +117,19 @@ fn there(tracker: &Tracker<u64, u64>) -> u64 {
 
 /// How many subscribers wait in an overflow. It is empty then.
 fn waiting(pending: &mut Pending<u64, u64, (), All>) -> u64 {
-    let Some(Message::Fetch(items)) = pending.pop() else {
-        return 0;
+    let popped = pending.pop();
+    let count = match &popped {
+        Some(Message::Fetch(items)) => subscribers_of(items),
+        _ => 0,
     };
+    drop(popped);
+    count
+}
+
+/// How many subscribers fetches have.
+fn subscribers_of(items: &[FetchKey<u64, u64, ()>]) -> u64 {
     let mut count: u64 = 0;
-    for item in &items {
+    for item in items {
         count = count.saturating_add(item.subscribers.len() as u64);
     }
     count
