@@ -2,10 +2,11 @@
 
 use crate::twin::{Twin, message};
 use futures::test::MockTask;
+use resolver::base::Fault;
 use resolver_fakes::acts::Act;
 use resolver_fakes::seen::spell;
 use resolver_fakes::world::{Looped, Setting, World, make_loop, settle};
-use std::alloc::AllocGlobal;
+use std::alloc::{AllocGlobal, Global};
 use std::fmt::Write;
 use std::random::RandomSource;
 use std::sync::Wait;
@@ -16,10 +17,29 @@ use std::test::Fail;
 pub struct Pair<R> {
     pub twin: Twin,
     task: MockTask,
-    looped: Looped<R>,
+    looped: Box<Looped<R>>,
     world: World<R>,
     said: String,
     expected: String,
+}
+
+/// A world, and the loop of its engine, which is large.
+fn make_boxed<R: Copy>(
+    rt: R,
+    alloc: Global,
+    setting: Setting,
+) -> Result<(World<R>, Box<Looped<R>>), Fault> {
+    match make_loop(rt, alloc, setting) {
+        Ok((world, looped)) => match Box::new(alloc, looped) {
+            Ok(looped) => Ok((world, looped)),
+            Err(error) => {
+                drop(error);
+                drop(world);
+                Err(Fault::OutOfMemory)
+            }
+        },
+        Err(fault) => Err(fault),
+    }
 }
 
 /// A pair whose fakes go by this setting. Scans are judged where the peers of each key are counted.
@@ -30,7 +50,7 @@ where
     let alloc = rt.alloc();
     let task = MockTask::new(&rt)?;
     match Twin::new(alloc, setting, eligible) {
-        Ok(twin) => match make_loop(rt, alloc, setting) {
+        Ok(twin) => match make_boxed(rt, alloc, setting) {
             Ok((world, looped)) => Ok(Pair {
                 twin,
                 task,
