@@ -231,6 +231,7 @@ fn make_clock(alloc: Global) -> Result<Standing, Fault> {
 }
 
 fn lend(alloc: Global) -> Result<(Ends, Lent), Fault> {
+    let clock = make_clock(alloc)?;
     let (told, seen) = mpsc::unbounded(alloc)?;
     let sources = make_sources(alloc, &told)?;
     let (taken, door, hands) = make_hands(alloc, &told)?;
@@ -246,7 +247,7 @@ fn lend(alloc: Global) -> Result<(Ends, Lent), Fault> {
         peers: (sources.provider, sources.blocker),
         hands,
         network: lent,
-        clock: make_clock(alloc)?,
+        clock,
         draws: Dice { told, seeded: None },
     };
     Ok((ends, lent))
@@ -356,13 +357,46 @@ where
     Ok(())
 }
 
+/// The same with an engine in a thread, and how that ended.
+fn exchange_in_thread<R>(
+    rt: R,
+    text: &mut String,
+    ends: &mut Ends,
+    lent: Lent,
+) -> Result<Result<(), Fault>, Fail>
+where
+    R: Clock + Threads + Wait + RandomSource + AllocGlobal + Copy + Drop + Send + 'static,
+{
+    match start(rt, *text.allocator(), lent) {
+        Ok((mut mailbox, handle)) => {
+            let exchanged = exchange(&rt, text, ends, &mut mailbox);
+            drop(mailbox);
+            exchanged?;
+            Ok(handle.join(&rt))
+        }
+        Err(fault) => Err(fault.into()),
+    }
+}
+
+/// The same with all that the engine is lent.
+fn exchange_all<R>(rt: R, text: &mut String) -> Result<Result<(), Fault>, Fail>
+where
+    R: Clock + Threads + Wait + RandomSource + AllocGlobal + Copy + Drop + Send + 'static,
+{
+    match lend(*text.allocator()) {
+        Ok((mut ends, lent)) => {
+            let ended = exchange_in_thread(rt, text, &mut ends, lent);
+            drop(ends);
+            ended
+        }
+        Err(fault) => Err(fault.into()),
+    }
+}
+
 #[test]
 fn serve_waits_for_fetch(rt: HostRuntime) -> Result<(), Fail> {
     let mut text = String::new(rt.alloc());
-    let (mut ends, lent) = lend(rt.alloc())?;
-    let (mut mailbox, handle) = start(rt, rt.alloc(), lent)?;
-    exchange(&rt, &mut text, &mut ends, &mut mailbox)?;
-    assert_eq!(rt; handle.join(&rt), Ok(()));
+    assert_eq!(rt; exchange_all(rt, &mut text)?, Ok(()));
     assert_eq!(rt;
         text.as_str(),
         "produce 5

@@ -2,16 +2,18 @@ use bytes::Bytes;
 use futures::StreamExt;
 use futures::channel::mpsc;
 use futures::executor::block_on;
-use resolver::{Outcome, Resolution, Resolver};
-use resolver_fakes::actor::{Held, run};
+use resolver::base::Fault;
+use resolver::{Handle, Outcome, Resolution, Resolver};
+use resolver_fakes::actor::{Ends, Held, run};
 use resolver_fakes::acts::Act;
 use resolver_fakes::seen::{Seen, Wrong};
-use resolver_fakes::world::{Setting, World, make_world, start};
+use resolver_fakes::world::{Lent, Made, Setting, World, make_world, start};
 use std::alloc::AllocGlobal;
 use std::fmt::Write;
 use std::random::RandomSource;
 use std::sync::Wait;
 use std::test::Fail;
+use std::thread::Threads;
 
 /// Waits until the fakes were asked so many things, and writes them.
 fn wait<R: Wait + RandomSource + AllocGlobal>(
@@ -70,13 +72,41 @@ where
     Ok(())
 }
 
+/// The same with the world's engine in a thread, and how that ended.
+fn exchange_in_thread<R>(
+    rt: R,
+    text: &mut String,
+    world: &mut World<R>,
+    engine: Made<R>,
+    lent: Lent,
+) -> Result<Result<(), Fault>, Fail>
+where
+    R: Threads + Wait + RandomSource + AllocGlobal + Copy + Drop + Send + 'static,
+{
+    let handle = start(engine, lent)?;
+    exchange(&rt, text, world)?;
+    Ok(handle.join(&rt))
+}
+
+/// The same in a world of its own.
+fn exchange_in_world<R>(rt: R, text: &mut String) -> Result<Result<(), Fault>, Fail>
+where
+    R: Threads + Wait + RandomSource + AllocGlobal + Copy + Drop + Send + 'static,
+{
+    match make_world(rt, *text.allocator(), Setting::with(Wrong::Nothing)) {
+        Ok((mut world, engine, lent)) => {
+            let ended = exchange_in_thread(rt, text, &mut world, engine, lent);
+            drop(world);
+            ended
+        }
+        Err(fault) => Err(fault.into()),
+    }
+}
+
 #[test]
 fn an_engine_in_a_thread_fetches_and_serves(rt: HostRuntime) -> Result<(), Fail> {
     let mut text = String::new(rt.alloc());
-    let (mut world, engine, lent) = make_world(rt, rt.alloc(), Setting::with(Wrong::Nothing))?;
-    let handle = start(engine, lent)?;
-    exchange(&rt, &mut text, &mut world)?;
-    assert_eq!(rt; handle.join(&rt), Ok(()));
+    assert_eq!(rt; exchange_in_world(rt, &mut text)?, Ok(()));
     assert_eq!(rt;
         text.as_str(),
         "draw 4
@@ -122,14 +152,41 @@ where
     Ok(())
 }
 
+/// The same of an actor in a thread that is asked for key 1, and how that ended.
+fn retry_in_thread<R>(
+    rt: &R,
+    text: &mut String,
+    ends: &mut Ends<R>,
+    handle: Handle,
+) -> Result<Result<(), Fault>, Fail>
+where
+    R: Threads + Wait + RandomSource + AllocGlobal + Copy + Send + 'static,
+{
+    ends.fetch(10)?;
+    retry(rt, text, &mut ends.held)?;
+    ends.resolver.close();
+    Ok(handle.join(rt))
+}
+
+/// The same of a new actor.
+fn retry_anew<R>(rt: R, text: &mut String) -> Result<Result<(), Fault>, Fail>
+where
+    R: Threads + Wait + RandomSource + AllocGlobal + Copy + Drop + Send + 'static,
+{
+    match run(rt, *text.allocator()) {
+        Ok((mut ends, handle)) => {
+            let ended = retry_in_thread(&rt, text, &mut ends, handle);
+            drop(ends);
+            ended
+        }
+        Err(fault) => Err(fault.into()),
+    }
+}
+
 #[test]
 fn an_actor_in_a_thread_asks_again_after_the_delay(rt: HostRuntime) -> Result<(), Fail> {
     let mut text = String::new(rt.alloc());
-    let (mut ends, handle) = run(rt, rt.alloc())?;
-    ends.fetch(10)?;
-    retry(&rt, &mut text, &mut ends.held)?;
-    ends.resolver.close();
-    assert_eq!(rt; handle.join(&rt), Ok(()));
+    assert_eq!(rt; retry_anew(rt, &mut text)?, Ok(()));
     assert_eq!(rt;
         text.as_str(),
         "look 1
