@@ -58,7 +58,7 @@ impl Part for Deliveries {
             Call::Deliver(key) => self.deliver(*key)?,
             Call::Redeliver(key) => self.redeliver(*key)?,
             Call::Complete(number) => {
-                let _ = self.entries.completed(*number, Some(Outcome::Unresolved));
+                drop(self.entries.completed(*number, Some(Outcome::Unresolved)));
             }
         }
         Ok(())

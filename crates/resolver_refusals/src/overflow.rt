@@ -121,7 +121,7 @@ impl Part for Overflow {
             let Some(message) = self.pending.pop() else {
                 break;
             };
-            note_message(text, &message)?;
+            note_message(text, message)?;
         }
         Ok(())
     }
@@ -134,31 +134,35 @@ fn fetch(
     subscriber: u16,
     peers: &[u16],
 ) -> Result<Message<u16, u16, Targets, From>, Fault> {
+    let subscribers = NonEmptyVec::new(alloc, (subscriber, u64::from(key)))?;
+    let metadata = NonEmptyVec::try_from(peers.to_vec(alloc)?).ok();
     let mut items = Vec::new(alloc);
     items.push(FetchKey {
         key,
-        subscribers: NonEmptyVec::new(alloc, (subscriber, u64::from(key)))?,
-        metadata: NonEmptyVec::try_from(peers.to_vec(alloc)?).ok(),
+        subscribers,
+        metadata,
     })?;
     Ok(Message::Fetch(items))
 }
 
 /// Writes a message whole.
-fn note_message(
-    text: &mut String,
-    message: &Message<u16, u16, Targets, From>,
-) -> Result<(), Fault> {
-    match message {
+fn note_message(text: &mut String, message: Message<u16, u16, Targets, From>) -> Result<(), Fault> {
+    let noted = match &message {
         Message::Retain(first) => note(text, u128::from(first.0)),
-        Message::Fetch(items) => {
-            for item in items {
-                note(text, u128::from(item.key))?;
-                note_subscribers(text, item.subscribers.as_slice())?;
-                note_targets(text, &item.metadata)?;
-            }
-            Ok(())
-        }
+        Message::Fetch(items) => note_items(text, items),
+    };
+    drop(message);
+    noted
+}
+
+/// Writes fetches: their keys, their subscribers and their targets.
+fn note_items(text: &mut String, items: &[FetchKey<u16, u16, Targets>]) -> Result<(), Fault> {
+    for item in items {
+        note(text, u128::from(item.key))?;
+        note_subscribers(text, item.subscribers.as_slice())?;
+        note_targets(text, &item.metadata)?;
     }
+    Ok(())
 }
 
 /// Writes how many targets there are, and each of them.

@@ -4,13 +4,13 @@ ghost use Rattle.std.specs.Prelude.{◌≡◌, true};
 ghost use Rattle.std.proofs.Common.{rules};
 
 use crate::part::{Ending, Way, judged};
-use crate::spelled::{spell, spell_all, spell_book, spell_share};
+use crate::spelled::{Told, spell, spell_all, spell_book, spell_share};
 use futures::Stream;
 use futures::task::Poll;
 use futures::test::MockTask;
 use resolver::base::{Faithful, Fault, Predicate};
 use resolver::ingress::{FetchKey, Message};
-use resolver::mailbox::{Exact, Naming, Pages, Receiver, Sender, Share};
+use resolver::mailbox::{Entry, Exact, Naming, Pages, Receiver, Sender, Share};
 use resolver::{Fetch, mailbox};
 use std::alloc::{AllocGlobal, Global};
 use std::fmt::Write;
@@ -120,10 +120,14 @@ where
     let Ok(task) = MockTask::new(rt) else {
         return Ending::Outside;
     };
-    let Ok(mut mail) = opened::<N, R>(*rt, alloc, pages) else {
-        return Ending::Outside;
-    };
-    walked(alloc, way, &mut mail, &task)
+    match opened::<N, R>(*rt, alloc, pages) {
+        Ok(mut mail) => {
+            let ending = walked(alloc, way, &mut mail, &task);
+            drop(mail);
+            ending
+        }
+        Err(_) => Ending::Outside,
+    }
 }
 
 /// Takes the calls of the row one after another.
@@ -164,13 +168,29 @@ where
     requires puts { pages.puts.name ≡ N.puts }
     requires takes { pages.takes.name ≡ N.takes }
 {
-    let (first, taker): (Putter<N, R>, Taker<N, R>) = mailbox::recorded(rt, alloc, pages, 1)?;
-    let second = first.clone()?;
-    Ok(Mail {
-        first,
-        second,
-        taker,
-    })
+    match mailbox::recorded(rt, alloc, pages, 1) {
+        Ok((first, taker)) => with_second(first, taker),
+        Err(fault) => Err(fault),
+    }
+}
+
+/// The ends of a mailbox, with a second handle.
+fn with_second<N: Naming, R: Copy + Drop>(
+    first: Putter<N, R>,
+    taker: Taker<N, R>,
+) -> Result<Mail<N, R>, Fault> {
+    match first.clone() {
+        Ok(second) => Ok(Mail {
+            first,
+            second,
+            taker,
+        }),
+        Err(fault) => {
+            drop(first);
+            drop(taker);
+            Err(fault.into())
+        }
+    }
 }
 
 /// Takes one call of the row. One that gives something else than the row has is `Uneven`.
@@ -224,13 +244,25 @@ fn poll<N: Naming, R: Wait + Drop>(
     given: &str,
 ) -> Result<(), Fault> {
     let mut text = String::with_capacity(alloc, 64)?;
-    if let Poll::Ready(Some(message)) = task.enter(|cx| taker.poll_next(cx)) {
-        spell(&mut text, &message?)?;
+    if let Poll::Ready(Some(taken)) = task.enter(|cx| taker.poll_next(cx)) {
+        spell_taken(&mut text, taken)?;
     }
     if text.as_str() == given {
         Ok(())
     } else {
         Err(Fault::Uneven)
+    }
+}
+
+/// Writes a message that was taken.
+fn spell_taken(text: &mut String, taken: Result<Told, Fault>) -> Result<(), Fault> {
+    match taken {
+        Ok(message) => {
+            let spelled = spell(text, &message);
+            drop(message);
+            spelled
+        }
+        Err(fault) => Err(fault),
     }
 }
 
@@ -272,10 +304,25 @@ fn spell_shown(text: &mut String, shown: Shown) -> Result<(), Fault> {
 fn spell_book_of<N: Naming, R: Wait>(text: &mut String, mail: &Mail<N, R>) -> Result<(), Fault> {
     let alloc = *text.allocator();
     let Some(first) = mail.first.share() else {
-        return spell_book(text, mail.taker.book(alloc, &[])?.as_slice());
+        return spell_lent(text, mail.taker.book(alloc, &[]));
     };
     let Some(second) = mail.second.share() else {
-        return spell_book(text, mail.taker.book(alloc, &[first])?.as_slice());
+        return spell_lent(text, mail.taker.book(alloc, &[first]));
     };
-    spell_book(text, mail.taker.book(alloc, &[first, second])?.as_slice())
+    spell_lent(text, mail.taker.book(alloc, &[first, second]))
+}
+
+/// Writes a book that was lent.
+fn spell_lent(
+    text: &mut String,
+    lent: Result<Vec<Entry<u16, u16, (), All>>, Fault>,
+) -> Result<(), Fault> {
+    match lent {
+        Ok(book) => {
+            let spelled = spell_book(text, book.as_slice());
+            drop(book);
+            spelled
+        }
+        Err(fault) => Err(fault),
+    }
 }
