@@ -121,7 +121,7 @@ fn clock(alloc: Global) -> Result<(mpsc::UnboundedReceiver<u128>, Arc<Watch>, Te
 }
 
 /// A consumer that tells what it is handed, and the ends of it that its test holds.
-fn consumer(
+fn make_consumer(
     alloc: Global,
     wrong: Wrong,
 ) -> Result<
@@ -145,7 +145,7 @@ fn consumer(
 }
 
 /// A source, and where it hands each look to its test.
-fn source(alloc: Global) -> Result<(mpsc::UnboundedReceiver<(Key, Looked)>, Source), Fault> {
+fn make_source(alloc: Global) -> Result<(mpsc::UnboundedReceiver<(Key, Looked)>, Source), Fault> {
     let (sender, looks) = mpsc::unbounded(alloc)?;
     let source = Source {
         alloc,
@@ -156,8 +156,8 @@ fn source(alloc: Global) -> Result<(mpsc::UnboundedReceiver<(Key, Looked)>, Sour
 
 /// What an actor is lent, and the ends of it that its test holds.
 fn lend(alloc: Global, wrong: Wrong) -> Result<(Held, Lent), Fault> {
-    let both_ends = both(clock(alloc), source(alloc));
-    match both(both_ends, consumer(alloc, wrong)) {
+    let both_ends = both(clock(alloc), make_source(alloc));
+    match both(both_ends, make_consumer(alloc, wrong)) {
         Ok((((moments, watch, clock), (looks, source)), (told, verdicts, consumer))) => {
             let held = Held {
                 looks,
