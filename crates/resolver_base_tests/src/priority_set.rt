@@ -1,24 +1,45 @@
-use resolver_base::base::PrioritySet;
+use resolver_base::base::{Fault, PrioritySet};
 use resolver_base::root::Fetch;
+use std::alloc::Global;
+use std::process::Abort;
 use std::test::Fail;
 
-/// These items with their priorities, put one after another.
-fn set_of(rt: HostRuntime, entries: &[(u8, u16)]) -> Result<PrioritySet<u8, u16>, Fail> {
-    let mut set = PrioritySet::new(rt.alloc());
+type Set = PrioritySet<u8, u16>;
+
+fn put_each(set: &mut Set, entries: &[(u8, u16)]) -> Result<(), Fault> {
     for entry in entries {
         set.put(entry.0, entry.1)?;
     }
-    Ok(set)
+    Ok(())
 }
 
-/// What a set gives, least first, up to nine items.
-fn drained(rt: HostRuntime, mut set: PrioritySet<u8, u16>) -> Result<Vec<(u8, u16)>, Fail> {
-    let mut given = Vec::new(rt.alloc());
+/// These items with their priorities, put one after another.
+fn set_of(rt: HostRuntime, entries: &[(u8, u16)]) -> Result<Set, Fail> {
+    let mut set = PrioritySet::new(rt.alloc());
+    match put_each(&mut set, entries) {
+        Ok(()) => Ok(set),
+        Err(fault) => {
+            drop(set);
+            Err(fault.into())
+        }
+    }
+}
+
+fn pop_nine(set: &mut Set, given: &mut Vec<(u8, u16)>) -> Result<(), Fault> {
     for _ in 0..9 {
         if let Some(entry) = set.pop() {
             given.push(entry)?;
         }
     }
+    Ok(())
+}
+
+/// What a set gives, least first, up to nine items.
+fn drained(rt: HostRuntime, mut set: Set) -> Result<Vec<(u8, u16)>, Fail> {
+    let mut given = Vec::new(rt.alloc());
+    let popped = pop_nine(&mut set, &mut given);
+    drop(set);
+    popped?;
     Ok(given)
 }
 
@@ -34,22 +55,27 @@ fn gives_by_priority_and_then_by_item(rt: HostRuntime) -> Result<(), Fail> {
     Ok(())
 }
 
-#[test]
-fn replaces_a_priority(rt: HostRuntime) -> Result<(), Fail> {
-    let set = set_of(rt, &[(1, 10), (2, 20), (1, 30), (2, 20), (3, 5), (3, 25)])?;
-    assert_eq!(rt; set.len(), 3);
+/// The pairs of a set, in order.
+fn listed(rt: HostRuntime, set: &Set) -> Result<Vec<(u16, u8)>, Fail> {
     let mut listed = Vec::new(rt.alloc());
     for pair in set.iter() {
         listed.push(*pair)?;
     }
-    assert_eq!(rt; listed.as_slice(), [(20, 2), (25, 3), (30, 1)].as_slice());
-    Ok(())
+    Ok(listed)
 }
 
 #[test]
-fn gives_what_is_from_a_priority_on(rt: HostRuntime) -> Result<(), Fail> {
-    let set = set_of(rt, &[(3, 20), (1, 20), (2, 30), (4, 10)])?;
-    let mut listed = Vec::new(rt.alloc());
+fn replaces_a_priority(rt: HostRuntime) -> Result<(), Fail> {
+    let set = set_of(rt, &[(1, 10), (2, 20), (1, 30), (2, 20), (3, 5), (3, 25)])?;
+    assert_eq!(rt; set.len(), 3);
+    let listed = listed(rt, &set);
+    drop(set);
+    assert_eq!(rt; listed?.as_slice(), [(20, 2), (25, 3), (30, 1)].as_slice());
+    Ok(())
+}
+
+fn gives_from_20(rt: &impl Abort, alloc: Global, set: &Set) -> Result<(), Fail> {
+    let mut listed = Vec::new(alloc);
     for pair in set.range_from(20)? {
         listed.push(*pair)?;
     }
@@ -60,12 +86,21 @@ fn gives_what_is_from_a_priority_on(rt: HostRuntime) -> Result<(), Fail> {
 }
 
 #[test]
+fn gives_what_is_from_a_priority_on(rt: HostRuntime) -> Result<(), Fail> {
+    let set = set_of(rt, &[(3, 20), (1, 20), (2, 30), (4, 10)])?;
+    let given = gives_from_20(&rt, rt.alloc(), &set);
+    drop(set);
+    given
+}
+
+#[test]
 fn gives_what_follows_a_pair(rt: HostRuntime) -> Result<(), Fail> {
     let set = set_of(rt, &[(3, 20), (1, 20), (2, 30), (4, 10)])?;
     assert_eq!(rt; set.range_after(&(20, 1)).next(), Some(&(20, 3)));
     assert_eq!(rt; set.range_after(&(20, 3)).next(), Some(&(30, 2)));
     assert_eq!(rt; set.range_after(&(10, 9)).next(), Some(&(20, 1)));
     assert_eq!(rt; set.range_after(&(30, 2)).next(), None);
+    drop(set);
     Ok(())
 }
 
@@ -78,9 +113,7 @@ fn marked(mark: u64) -> Fetch<u8, u8> {
     }
 }
 
-#[test]
-fn an_item_that_is_there_stays(rt: HostRuntime) -> Result<(), Fail> {
-    let mut set = PrioritySet::new(rt.alloc());
+fn keeps_the_first(rt: &impl Abort, set: &mut PrioritySet<Fetch<u8, u8>, u16>) -> Result<(), Fail> {
     set.put(marked(1), 10)?;
     set.put(marked(2), 30)?;
     set.put(marked(3), 30)?;
@@ -88,6 +121,14 @@ fn an_item_that_is_there_stays(rt: HostRuntime) -> Result<(), Fail> {
     assert_eq!(rt; kept, Some((1, 30)));
     assert!(rt; set.is_empty());
     Ok(())
+}
+
+#[test]
+fn an_item_that_is_there_stays(rt: HostRuntime) -> Result<(), Fail> {
+    let mut set = PrioritySet::new(rt.alloc());
+    let kept = keeps_the_first(&rt, &mut set);
+    drop(set);
+    kept
 }
 
 #[test]
@@ -103,16 +144,24 @@ fn takes_items_out(rt: HostRuntime) -> Result<(), Fail> {
     assert!(rt; empty.is_empty());
     assert!(rt; empty.peek().is_none());
     assert!(rt; empty.pop().is_none());
+    drop(empty);
+    Ok(())
+}
+
+/// Keeps the even items, and puts one of the others again.
+fn keeps_even(rt: &impl Abort, set: &mut Set) -> Result<(), Fault> {
+    set.retain(|item| item % 2 == 0);
+    assert!(rt; !set.contains(&3));
+    set.put(3, 35)?;
     Ok(())
 }
 
 #[test]
 fn keeps_what_passes(rt: HostRuntime) -> Result<(), Fail> {
     let mut set = set_of(rt, &[(1, 40), (2, 30), (3, 20), (4, 10)])?;
-    set.retain(|item| item % 2 == 0);
-    assert!(rt; !set.contains(&3));
-    set.put(3, 35)?;
+    let kept = keeps_even(&rt, &mut set);
     let given = drained(rt, set)?;
+    kept?;
     assert_eq!(rt; given.as_slice(), [(4, 10), (2, 30), (3, 35)].as_slice());
     Ok(())
 }
