@@ -7,6 +7,7 @@ use resolver_base::base::{Fault, NonEmptyVec};
 use resolver_base::root::{Delivery, Outcome, Resolution};
 use resolver_surface::{Consumer, mocks};
 use std::alloc::Global;
+use std::process::Abort;
 use std::test::Fail;
 
 const RIGHT: Option<Outcome> = Some(Outcome::Resolved(Resolution::Complete));
@@ -46,19 +47,30 @@ fn next(
     task.enter(|cx| taken.poll_next(cx))
 }
 
+/// The last value that is expected of a key is right alone, and any value where none is.
+fn judges(
+    rt: &impl Abort,
+    alloc: Global,
+    task: &MockTask,
+    consumer: &mut mocks::Consumer<Letter, u16, u8>,
+) -> Result<(), Fault> {
+    consumer.add_expected(Letter(1), 6)?;
+    consumer.add_expected(Letter(1), 7)?;
+    assert_eq!(rt; outcome_of(alloc, task, consumer, 1, 7)?, RIGHT);
+    assert_eq!(rt; outcome_of(alloc, task, consumer, 1, 6)?, WRONG);
+    assert_eq!(rt; outcome_of(alloc, task, consumer, 2, 9)?, RIGHT);
+    assert_eq!(rt; consumer.pop_expected(&Letter(1)), Some(7));
+    assert_eq!(rt; consumer.pop_expected(&Letter(1)), None);
+    assert_eq!(rt; outcome_of(alloc, task, consumer, 1, 6)?, RIGHT);
+    Ok(())
+}
+
 #[test]
 fn what_is_expected_or_not_is_right(rt: HostRuntime) -> Result<(), Fail> {
     let alloc = rt.alloc();
     let task = MockTask::new(&rt)?;
     let (mut consumer, mut taken) = mocks::Consumer::new(alloc)?;
-    consumer.add_expected(Letter(1), 6)?;
-    consumer.add_expected(Letter(1), 7)?;
-    assert_eq!(rt; outcome_of(alloc, &task, &mut consumer, 1, 7)?, RIGHT);
-    assert_eq!(rt; outcome_of(alloc, &task, &mut consumer, 1, 6)?, WRONG);
-    assert_eq!(rt; outcome_of(alloc, &task, &mut consumer, 2, 9)?, RIGHT);
-    assert_eq!(rt; consumer.pop_expected(&Letter(1)), Some(7));
-    assert_eq!(rt; consumer.pop_expected(&Letter(1)), None);
-    assert_eq!(rt; outcome_of(alloc, &task, &mut consumer, 1, 6)?, RIGHT);
+    let judged = judges(&rt, alloc, &task, &mut consumer);
     drop(consumer);
     for (key, value) in [(1, 7), (2, 9), (1, 6)] {
         assert_eq!(rt;
@@ -67,7 +79,8 @@ fn what_is_expected_or_not_is_right(rt: HostRuntime) -> Result<(), Fail> {
         );
     }
     assert_eq!(rt; next(&task, &mut taken), Poll::Ready(None));
-    Ok(())
+    drop(taken);
+    Ok(judged?)
 }
 
 #[test]

@@ -4,6 +4,7 @@ use futures::task::Poll;
 use futures::test::MockTask;
 use resolver_base::base::Fault;
 use resolver_surface::{Producer, mocks};
+use std::process::Abort;
 use std::test::Fail;
 
 /// What a producer has at once under this key, or none where it dropped the sender.
@@ -20,19 +21,39 @@ fn bytes_of<O: Producer<Key = Letter>>(
     })
 }
 
+/// Fails unless the producer has these bytes under this key, or none.
+fn has<O: Producer<Key = Letter>>(
+    rt: &impl Abort,
+    task: &MockTask,
+    producer: &mut O,
+    key: u8,
+    bytes: Option<&'static [u8]>,
+) -> Result<(), Fault> {
+    let wanted = Poll::Ready(bytes.map(Bytes::from_static));
+    assert_eq!(rt; bytes_of(task, producer, key)?, wanted);
+    Ok(())
+}
+
+fn gives_what_was_inserted(
+    rt: &impl Abort,
+    task: &MockTask,
+    producer: &mut mocks::Producer<Letter, &'static str>,
+) -> Result<(), Fault> {
+    has(rt, task, producer, 1, None)?;
+    producer.insert(Letter(1), "one")?;
+    producer.insert(Letter(2), "zwei")?;
+    producer.insert(Letter(2), "two")?;
+    has(rt, task, producer, 1, Some(b"one"))?;
+    has(rt, task, producer, 2, Some(b"two"))?;
+    has(rt, task, producer, 2, Some(b"two"))?;
+    has(rt, task, producer, 3, None)
+}
+
 #[test]
 fn an_absent_key_drops_its_sender(rt: HostRuntime) -> Result<(), Fail> {
     let task = MockTask::new(&rt)?;
     let mut producer = mocks::Producer::new(rt.alloc());
-    assert_eq!(rt; bytes_of(&task, &mut producer, 1)?, Poll::Ready(None));
-    producer.insert(Letter(1), "one")?;
-    producer.insert(Letter(2), "zwei")?;
-    producer.insert(Letter(2), "two")?;
-    let one = Poll::Ready(Some(Bytes::from_static(b"one")));
-    let two = Poll::Ready(Some(Bytes::from_static(b"two")));
-    assert_eq!(rt; bytes_of(&task, &mut producer, 1)?, one);
-    assert_eq!(rt; bytes_of(&task, &mut producer, 2)?, two);
-    assert_eq!(rt; bytes_of(&task, &mut producer, 2)?, two);
-    assert_eq!(rt; bytes_of(&task, &mut producer, 3)?, Poll::Ready(None));
-    Ok(())
+    let given = gives_what_was_inserted(&rt, &task, &mut producer);
+    drop(producer);
+    Ok(given?)
 }
