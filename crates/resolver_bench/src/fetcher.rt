@@ -38,6 +38,9 @@ pub fn among(alloc: Global, peers: u16) -> Result<Node, Fault> {
 
 /// Has a fetcher know so many peers, and take in a response of each.
 fn know(alloc: Global, fetcher: &mut Node, peers: u16) -> Result<(), Fault> {
+    if fetcher.is_scanning() {
+        return Err(Fault::Refused);
+    }
     fetcher.reconcile(named(alloc, peers)?)?;
     for peer in 0..peers {
         record(fetcher, peer, u64::from(peer));
