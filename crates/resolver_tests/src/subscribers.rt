@@ -3,7 +3,6 @@
 use resolver::base::NonEmptyVec;
 use resolver::subscribers::Tracker;
 use std::alloc::Global;
-use std::process::Abort;
 use std::test::Fail;
 
 fn list(alloc: Global, subscribers: &[(u16, u64)]) -> Result<NonEmptyVec<(u16, u64)>, Fail> {
@@ -25,24 +24,18 @@ fn pending(tracker: &Tracker<u16, u16>, key: u16) -> Result<Vec<(u16, u64)>, Fai
     Ok(pending.ok_or("a key that nobody waits for")?.into_vec())
 }
 
-fn tracks(rt: &impl Abort, alloc: Global, tracker: &mut Tracker<u16, u16>) -> Result<(), Fail> {
-    assert!(rt; insert(tracker, alloc, 1, &[(10, 0), (11, 0)])?);
-    assert!(rt; !insert(tracker, alloc, 1, &[(11, 0), (12, 0)])?);
+#[test]
+fn tracker(rt: HostRuntime) -> Result<(), Fail> {
+    let alloc = rt.alloc();
+    let mut tracker = Tracker::new(alloc);
+    assert!(rt; insert(&mut tracker, alloc, 1, &[(10, 0), (11, 0)])?);
+    assert!(rt; !insert(&mut tracker, alloc, 1, &[(11, 0), (12, 0)])?);
     assert_eq!(rt;
-        pending(tracker, 1)?.as_slice(),
+        pending(&tracker, 1)?.as_slice(),
         [(10, 0), (11, 0), (12, 0)].as_slice()
     );
 
     let rest = tracker.remove_delivered(&1, &list(alloc, &[(10, 0), (12, 0)])?)?;
     assert_eq!(rt; rest.ok_or("11 is left")?.as_slice(), [(11, 0)].as_slice());
     Ok(())
-}
-
-#[test]
-fn tracker(rt: HostRuntime) -> Result<(), Fail> {
-    let alloc = rt.alloc();
-    let mut tracker = Tracker::new(alloc);
-    let tracked = tracks(&rt, alloc, &mut tracker);
-    drop(tracker);
-    tracked
 }
