@@ -23,7 +23,7 @@ use Rattle.resolver_demand.specs.declared.delivery.completion.Completion.{Comple
 use Rattle.resolver_demand.specs.declared.delivery.completion.Aborted.{Aborted}
 use Rattle.resolver_actor.specs.declared.opaque.rows.Stage.{Stage}
 use Rattle.resolver_actor.specs.declared.opaque.rows.Stage.TheVariants as stages
-use Rattle.resolver_actor.specs.OpaqueStages.{Kept, attempt_in, if_same, if_under, key_under, kept_at, IsLed, resting, retry_at, retry_of, RestsAt, Rests, IsAsked, AreDue}
+use Rattle.resolver_actor.specs.OpaqueStages.{Kept, attempt_in, if_same, if_under, key_under, kept_at, IsLed, resting, retry_at, retry_of, RestsAt, Rests, IsAsked, AreDue, waits}
 use Rattle.resolver_actor.proofs.Joined.{set-set, lookup-set_self}
 use Rattle.resolver_actor.proofs.Led.{kept-inserted, kept-same, kept-removed, kept-changed, lookup-kept}
 
@@ -122,8 +122,26 @@ module _ {K V : Type 0} {cmp : K → K → Ordering} (o : IsTotalOrder cmp) (law
         rests (Some f) = tt
 
     -- a key is let go
-    pub due-removed : IsStrictlySortedBy cmp (keys_of es) → AreDue cmp (without cmp k retries) (remove_entry (is_at (cmp k)) es)
-    due-removed ordered = due-changed k None retries (without cmp k retries) es _ d (λ q. kept-removed o laws k q es ordered) (λ q. pairs-without o k q retries) tt
+    pub due-removed : (left : List (ℕ × K)) → IsStrictlySortedBy cmp (keys_of es)
+        → left ≡ cond (waits (option_map (λ e. e.state) (lookup (is_at (cmp k)) es))) (without cmp k retries) retries
+        → AreDue cmp left (remove_entry (is_at (cmp k)) es)
+    due-removed left ordered leaves = at (kept_at cmp es k) refl (leaves ∙ ap (λ o. cond (waits (option_map (λ e. e.state) o)) (without cmp k retries) retries) (lookup-kept o laws k es))
+      where
+        waiting : left ≡ without cmp k retries → AreDue cmp left (remove_entry (is_at (cmp k)) es)
+        waiting is = rw is (due-changed k None retries (without cmp k retries) es _ d (λ q. kept-removed o laws k q es ordered) (λ q. pairs-without o k q retries) tt)
+
+        other : left ≡ retries → retry_of (kept_at cmp es k) ≡ [] → AreDue cmp left (remove_entry (is_at (cmp k)) es)
+        other is none = rw is (due-changed k None retries retries es _ d (λ q. kept-removed o laws k q es ordered) (stay [] none) tt)
+
+        staged : (f : K × Kept V) (stage : Stage) → f.1.state ≡ stage → kept_at cmp es k ≡ Some f → left ≡ cond (waits (Some f.1.state)) (without cmp k retries) retries
+            → AreDue cmp left (remove_entry (is_at (cmp k)) es)
+        staged f (stages.Waiting due) at kept is = waiting (is ∙ ap (λ s. cond (waits (Some s)) (without cmp k retries) retries) at)
+        staged f (stages.Asked attempt) at kept is = other (is ∙ ap (λ s. cond (waits (Some s)) (without cmp k retries) retries) at) (ap retry_of kept ∙ ap (retry_at f.0) at)
+
+        at : (p : Option (K × Kept V)) → kept_at cmp es k ≡ p → left ≡ cond (waits (option_map (λ e. e.state) (option_map (λ (f : K × Kept V). f.1) p))) (without cmp k retries) retries
+            → AreDue cmp left (remove_entry (is_at (cmp k)) es)
+        at None kept is = other is (ap retry_of kept)
+        at (Some f) kept is = staged f f.1.state refl kept is
 
     -- a key that was asked for waits
     pub due-waits : (f : K × Kept V) (attempt due : ℕ) → kept_at cmp es k ≡ Some f → f.1.state ≡ stages.Asked attempt → due < 2 ^ 95 → is_eq (cmp k f.0) ≡ true

@@ -1,5 +1,5 @@
 -- The demanded keys by what was done last for them.
-use Rattle.std.specs.Prelude.{◌≡◌, ◌≤◌, ◌<◌, ◌^◌, ℕ, Bool, false, ◌==◌, List, [], ◌∷◌, Option, None, Some, filter, find, if◌then◌else◌}
+use Rattle.std.specs.Prelude.{◌≡◌, ◌≤◌, ◌<◌, ◌^◌, ℕ, Bool, true, false, ◌==◌, List, [], ◌∷◌, Option, None, Some, filter, find, if◌then◌else◌}
 use Rattle.std.specs.List.Sorted.{IsStrictlySortedBy}
 use Rattle.std.specs.Map.{keys_of, lookup}
 use Rattle.std.specs.BTreeMap.{is_at}
@@ -34,6 +34,11 @@ attempt_in (stages.Waiting due) = None
 abbrev pub stands_under : (attempt : ℕ) → Option Stage → Bool
 stands_under attempt (Some (stages.Asked a)) = attempt == a
 stands_under attempt stage = false
+
+-- whether a key waits
+abbrev pub waits : Option Stage → Bool
+waits (Some (stages.Waiting due)) = true
+waits stage = false
 
 -- a key, if it stands under this attempt
 abbrev pub if_under : {K : Type 0} → (attempt : ℕ) → K → Stage → Option K

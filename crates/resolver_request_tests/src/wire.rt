@@ -7,6 +7,7 @@ use bytes::{Bytes, BytesMut};
 use resolver_base::base::Fault;
 use resolver_request::wire::{Message, Payload, max_message_size};
 use std::alloc::Global;
+use std::fmt::Debug;
 use std::process::Abort;
 use std::test::Fail;
 
@@ -46,19 +47,27 @@ fn wire_vectors(rt: HostRuntime) -> Result<(), Fail> {
 fn spelled(rt: &impl Abort, alloc: Global, message: &Message<Key>, bytes: &[u8]) -> Result<(), Fail>
     requires { IsShort message.now.payload }
 {
+    assert_eq!(rt; message.encode_size(), bytes.len());
     let mut out = BytesMut::new(alloc);
     message.write(&mut out)?;
     assert_eq!(rt; out.as_slice(), bytes);
-    assert_eq!(rt; message.encode_size(), bytes.len());
-    assert_eq!(rt;
-        Message::decode(Bytes::copy_from_slice(alloc, bytes)?)?,
-        message.clone()?
-    );
-
     out.extend_from_slice(&[7])?;
     let mut buffer = out.freeze()?;
-    assert_eq!(rt; Message::read(&mut buffer)?, message.clone()?);
+    gives(rt, Message::read(&mut buffer), message)?;
     assert_eq!(rt; buffer.as_slice(), [7].as_slice());
+    let alone = Bytes::copy_from_slice(alloc, bytes)?;
+    gives(rt, Message::decode(alone), message)
+}
+
+/// What was read is this.
+fn gives<T: PartialEq + Debug + Drop>(
+    rt: &impl Abort,
+    found: Result<T, Fault>,
+    wanted: &T,
+) -> Result<(), Fail> {
+    let found = found?;
+    assert_eq!(rt; &found, wanted);
+    drop(found);
     Ok(())
 }
 
@@ -137,17 +146,43 @@ fn responses_of_zeros(rt: HostRuntime) -> Result<(), Fail> {
         let message = Message { id: 0, payload };
         assert_eq!(rt; message.encode_size(), size);
         assert_eq!(rt; message.encode_inline_size(), inline_size);
-        let pieces = message.write_bufs(alloc)?;
-        assert_eq!(rt; pieces.len(), count);
-
-        let mut out = BytesMut::new(alloc);
-        message.write(&mut out)?;
-        assert_eq!(rt; out.len(), size);
-        assert!(rt; out.as_slice().starts_with(b"\0\0\0\0\0\0\0\0\x01"));
-        assert!(rt; out.as_slice().get(9..inline_size) == Some(length));
-        assert_eq!(rt; Message::decode(out.freeze()?)?, Clone::clone(&message)?);
+        let written = comes_in(&rt, alloc, &message, count);
+        let read = has_length(&rt, alloc, &message, length);
+        drop(message);
+        written?;
+        read?;
     }
     Ok(())
+}
+
+/// The message is written in so many pieces.
+fn comes_in(
+    rt: &impl Abort,
+    alloc: Global,
+    message: &Message<Key>,
+    count: usize,
+) -> Result<(), Fail> {
+    let pieces = message.write_bufs(alloc)?;
+    assert_eq!(rt; pieces.len(), count);
+    drop(pieces);
+    Ok(())
+}
+
+/// The message is a response under the id 0 whose value's length is written so, and is read again.
+fn has_length(
+    rt: &impl Abort,
+    alloc: Global,
+    message: &Message<Key>,
+    length: &[u8],
+) -> Result<(), Fail>
+    requires { IsShort message.now.payload }
+{
+    let mut out = BytesMut::new(alloc);
+    message.write(&mut out)?;
+    assert_eq!(rt; out.len(), message.encode_size());
+    assert!(rt; out.as_slice().starts_with(b"\0\0\0\0\0\0\0\0\x01"));
+    assert!(rt; out.as_slice().get(9..message.encode_inline_size()) == Some(length));
+    gives(rt, Message::decode(out.freeze()?), message)
 }
 
 #[test]
@@ -170,19 +205,22 @@ fn lengths_misspelled(rt: HostRuntime) -> Result<(), Fail> {
 
 #[test]
 fn keys_refused(rt: HostRuntime) -> Result<(), Fail> {
-    let mut bytes = BytesMut::zeroed(rt.alloc(), 73)?.freeze()?;
+    let alloc = rt.alloc();
     let request = Message {
         id: 0,
         payload: Payload::Request(Zeros),
     };
-    assert_eq!(rt; Message::decode(bytes.clone()?)?, request);
-    bytes.truncate(72);
+    let whole = BytesMut::zeroed(alloc, 73)?.freeze()?;
+    let read = gives(&rt, Message::decode(whole), &request);
+    drop(request);
+    read?;
+    let short = BytesMut::zeroed(alloc, 72)?.freeze()?;
     assert_eq!(rt;
-        Message::<Zeros>::decode(bytes).err(),
+        Message::<Zeros>::decode(short).err(),
         Some(Fault::EndOfBuffer)
     );
 
-    let mut bytes = BytesMut::zeroed(rt.alloc(), 72)?;
+    let mut bytes = BytesMut::zeroed(alloc, 72)?;
     bytes.extend_from_slice(&[1])?;
     let mut bytes = bytes.freeze()?;
     assert_eq!(rt; Message::<Zeros>::read(&mut bytes).err(), Some(Fault::Key));

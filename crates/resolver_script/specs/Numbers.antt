@@ -11,6 +11,10 @@ use Rattle.resolver_script.specs.declared.script.wrong.Why.TheVariants.{Above, M
 abbrev pub is_plain : List ℕ → Bool
 is_plain ds = nat_lt 0 (length ds) && (length ds == 1 || not (get_or ds 0 0 == 48)) && list_all is_ascii_digit ds
 
+-- a digit comes first, which is 0 only where it stands alone
+abbrev pub begins_plainly : List ℕ → Bool
+begins_plainly ds = nat_lt 0 (length ds) && (length ds == 1 || not (get_or ds 0 0 == 48)) && is_ascii_digit (get_or ds 0 0)
+
 -- whether these digits write a number within its limit
 abbrev pub is_number : (digits : List ℕ) → (most : ℕ) → Bool
 is_number digits most = is_plain digits && nat_le (digits_value 10 digits) most

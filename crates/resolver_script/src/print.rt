@@ -70,10 +70,11 @@ fn subscribers<W: Write>(output: &mut W, subscribers: &[(u16, u64)]) -> io::Resu
 /// Prints bytes as `x` and hexadecimal digits, behind a space.
 fn bytes<W: Write>(output: &mut W, bytes: &[u8]) -> io::Result<()> {
     output.write_all(b" x")?;
-    for byte in bytes {
-        let mut digits = [0; 2];
-        let _ = hex::encode_to_slice([*byte], &mut digits);
-        output.write_all(&digits)?;
+    for part in bytes.chunks(32) {
+        let mut digits = [0; 64];
+        let digits = &mut digits[..2 * part.len()];
+        let _ = hex::encode_to_slice(part, digits);
+        output.write_all(digits)?;
     }
     Ok(())
 }

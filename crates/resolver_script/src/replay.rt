@@ -5,6 +5,7 @@ use crate::opaque::Opaque;
 use crate::peers::Peers;
 use crate::script::{Command, Rejected, Said, Why, Wrong, is_skipped, parse};
 use log::{Log, trace};
+use memchr::memchr;
 use resolver::base::Moment;
 use resolver::p2p::fetcher::Answer;
 use std::alloc::Global;
@@ -63,17 +64,17 @@ fn feed_lines<L: Log, R: Read, W: Write>(
 ) -> Result<Ending, Fault> {
     let mut line = Vec::new(alloc);
     for number in 1..=u64::MAX {
-        if !has_line(input) {
-            written(output.flush())?;
-        }
-        if !read_line(input, &mut line)? {
-            break;
-        }
-        if is_skipped(&line) {
-            continue;
-        }
-        trace!(log; "line {number}");
-        if let Some(wrong) = take_line(alloc, session, &line, output)? {
+        let wrong = match take_buffered(log, alloc, number, session, input, output)? {
+            Some(wrong) => wrong,
+            None => {
+                written(output.flush())?;
+                if !read_line(input, &mut line)? {
+                    break;
+                }
+                take_line(log, alloc, number, session, &line, output)?
+            }
+        };
+        if let Some(wrong) = wrong {
             written(writeln!(output, "line {number} unreadable"))?;
             return Ok(Ending::Unreadable(Place {
                 line: number,
@@ -84,9 +85,23 @@ fn feed_lines<L: Log, R: Read, W: Write>(
     Ok(Ending::End)
 }
 
-/// Whether the next line can be read without waiting for more input.
-fn has_line<R: Read>(input: &BufReader<R>) -> bool {
-    input.buffer().contains(&b'\n')
+/// Does what the next line says, or answers what is wrong with it, where it can be read without waiting for
+/// more input.
+fn take_buffered<L: Log, R: Read, W: Write>(
+    log: &L,
+    alloc: Global,
+    number: u64,
+    session: &mut Option<Session>,
+    input: &mut BufReader<R>,
+    output: &mut W,
+) -> Result<Option<Option<Wrong>>, Fault> {
+    let buffer = input.buffer();
+    let Some(end) = memchr(b'\n', buffer) else {
+        return Ok(None);
+    };
+    let wrong = take_line(log, alloc, number, session, &buffer[..end], output)?;
+    input.consume(end + 1);
+    Ok(Some(wrong))
 }
 
 /// Reads the next line, without its LF, in place of the one there. False at the end of the input.
@@ -104,13 +119,19 @@ fn read_line<R: Read>(input: &mut BufReader<R>, line: &mut Vec<u8>) -> Result<bo
     Ok(count != 0)
 }
 
-/// Does what a line says, or answers what is wrong with it.
-fn take_line<W: Write>(
+/// Does what a line says, or answers what is wrong with it. The number of one that isn't skipped is traced.
+fn take_line<L: Log, W: Write>(
+    log: &L,
     alloc: Global,
+    number: u64,
     session: &mut Option<Session>,
     line: &[u8],
     output: &mut W,
 ) -> Result<Option<Wrong>, Fault> {
+    if is_skipped(line) {
+        return Ok(None);
+    }
+    trace!(log; "line {number}");
     let command = match parse(alloc, line) {
         Ok(command) => command,
         Err(Rejected::Unreadable(wrong)) => return Ok(Some(wrong)),

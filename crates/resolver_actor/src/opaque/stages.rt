@@ -9,7 +9,8 @@ ghost use Rattle.resolver_demand.specs.Entries.{accepted, changed, completed, de
 ghost use Rattle.resolver_actor.specs.declared.opaque.rows.Stage.TheVariants.{Asked};
 ghost use Rattle.resolver_actor.specs.OpaqueFound.{asked_key, first_due};
 ghost use Rattle.resolver_actor.specs.OpaqueOverdue.{by_due, due_of, first_key};
-ghost use Rattle.resolver_actor.specs.OpaqueStages.{IsAsked, attempt_in, resting, stands_under, unstaged};
+ghost use Rattle.resolver_actor.specs.OpaqueStages.{IsAsked, attempt_in, resting, stands_under, unstaged, waits};
+ghost use Rattle.resolver_base.specs.Priorities.{without};
 ghost use Rattle.resolver_base.specs.declared.base.fault.Fault.TheVariants.{OutOfMemory};
 
 use super::by_attempt::ByAttempt;
@@ -185,8 +186,7 @@ impl<K: Ord + Drop, S: Drop, V: Drop> Stages<K, S, V> {
         ensures { self.new ≡ record self.old { entries = removed K.cmp key.now self.old.entries } }
     {
         let taken = self.entries.take(key);
-        leave_taken(&mut self.asked, &taken);
-        self.retries.remove(key);
+        leave_taken(&mut self.asked, &mut self.retries, key, &taken);
     }
 
     /// Lets all keys go, and closes all deliveries. Numbers and attempts go on.
@@ -271,15 +271,26 @@ fn leave<K: Ord + Drop, S: Drop, V: Drop>(
     }
 }
 
-/// The attempt under which a key stood leads nowhere from now on.
-fn leave_taken<K: Drop, V>(asked: &mut ByAttempt<K>, taken: &Option<Entry<V, (), Stage>>)
-    ensures { (attempt : ℕ) → lookup (is_at (nat_cmp attempt)) asked.new
+/// The attempt under which a key stood leads nowhere from now on, or the key waits no more.
+fn leave_taken<K: Ord + Drop, V>(
+    asked: &mut ByAttempt<K>,
+    retries: &mut PrioritySet<K, u128>,
+    key: &K,
+    taken: &Option<Entry<V, (), Stage>>,
+)
+    ensures attempts { (attempt : ℕ) → lookup (is_at (nat_cmp attempt)) asked.new
         ≡ if stands_under attempt (option_map (λ e. e.state) taken.now) then None
         else lookup (is_at (nat_cmp attempt)) asked.old }
+    ensures dues { retries.new ≡ if waits (option_map (λ e. e.state) taken.now)
+        then without K.cmp key.now retries.old else retries.old }
 {
-    if let Some(entry) = taken {
-        if let Stage::Asked { attempt } = entry.state {
-            asked.remove(attempt);
+    let Some(entry) = taken else {
+        return;
+    };
+    match entry.state {
+        Stage::Asked { attempt } => asked.remove(attempt),
+        Stage::Waiting { .. } => {
+            retries.remove(key);
         }
     }
 }

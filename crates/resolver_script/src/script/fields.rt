@@ -1,13 +1,12 @@
 //! The fields of a line, and what each says. A field that is not there can't be read.
 
-ghost use Rattle.std.specs.Prelude.{◌≡◌, ◌≤◌, ◌<◌, ◌^◌, ◌⊎◌, ◌-◌, [], map, Ok, Err, IsTrue, IfOk, IfErr, IfNone, IfSome};
+ghost use Rattle.std.specs.Prelude.{◌≡◌, ◌≤◌, ◌<◌, ◌^◌, ◌⊎◌, ◌-◌, [], map, Ok, Err, IsTrue, IfOk, IfErr};
 ghost use Rattle.std.specs.Option.{option_copied};
 ghost use Rattle.std.specs.Char.{is_ascii_digit};
 ghost use Rattle.std.specs.List.{list_all};
-ghost use Rattle.std.specs.Str.Parse.{digits_value};
 ghost use Rattle.resolver_script.specs.declared.script.Unread.TheVariants.{OutOfMemory, Unreadable};
 ghost use Rattle.resolver_script.specs.declared.script.wrong.Why.TheVariants.{Zero};
-ghost use Rattle.resolver_script.specs.Numbers.{is_plain, list_of, number_of, numbers_in, parts_of};
+ghost use Rattle.resolver_script.specs.Numbers.{begins_plainly, list_of, number_in, number_of, numbers_in, parts_of, within};
 
 use crate::script::{Unread, Why};
 use bytes::Bytes;
@@ -121,36 +120,49 @@ fn number(field: Option<&str>, most: u128) -> Result<u128, Unread>
     ensures limit { IfOk result (λ n. n ≤ most) }
 {
     let digits = field.ok_or(Unread::Unreadable(Why::Missing))?;
-    if !is_plain(digits.as_bytes()) {
+    if !begins_plainly(digits.as_bytes()) {
         return Err(Unread::Unreadable(Why::NoNumber));
     }
-    match value_of(digits) {
-        Some(n) if n <= most => Ok(n),
-        Some(_) | None => Err(Unread::Unreadable(Why::Above(most))),
+    match digits.parse::<u64>() {
+        Ok(n) => within(u128::from(n), most),
+        Err(_) => long_number(digits, most),
     }
 }
 
-/// The number that digits write, if it has 128 bits at the most. Most have 64, and are read in as many.
-fn value_of(digits: &str) -> Option<u128>
-    requires plain { IsTrue (is_plain digits.now) }
-    ensures value { IfSome result (λ n. n ≡ digits_value 10 digits.now) }
-    ensures above { IfNone result (2 ^ 128 ≤ digits_value 10 digits.now) }
+/// The same, of a number that has more than 64 bits, if it is one.
+fn long_number(digits: &str, most: u128) -> Result<u128, Unread>
+    requires begins { IsTrue (begins_plainly digits.now) }
+    ensures { result ≡ number_in digits.now most }
 {
-    if let Ok(n) = digits.parse::<u64>() {
-        return Some(u128::from(n));
+    if !are_digits(digits.as_bytes()) {
+        return Err(Unread::Unreadable(Why::NoNumber));
     }
     match digits.parse::<u128>() {
-        Ok(n) => Some(n),
-        Err(_) => None,
+        Ok(n) => within(n, most),
+        Err(_) => Err(Unread::Unreadable(Why::Above(most))),
     }
 }
 
-/// Whether these are the digits of a number that has no leading zeros.
-fn is_plain(digits: &[u8]) -> bool
-    ensures { result ≡ is_plain digits.now }
+/// A number, if it is within its limit.
+fn within(number: u128, most: u128) -> Result<u128, Unread>
+    ensures { result ≡ within number most }
 {
-    let is_padded = digits.len() > 1 && digits[0] == b'0';
-    !digits.is_empty() && !is_padded && are_digits(digits)
+    if number <= most {
+        Ok(number)
+    } else {
+        Err(Unread::Unreadable(Why::Above(most)))
+    }
+}
+
+/// Whether a digit comes first, which is 0 only where it stands alone.
+fn begins_plainly(digits: &[u8]) -> bool
+    ensures { result ≡ begins_plainly digits.now }
+{
+    match digits {
+        [] => false,
+        [digit] => digit.is_ascii_digit(),
+        [first, ..] => first.is_ascii_digit() && *first != b'0',
+    }
 }
 
 /// Whether each byte is a decimal digit.

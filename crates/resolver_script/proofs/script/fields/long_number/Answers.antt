@@ -6,8 +6,8 @@ use Rattle.std.specs.Char.{is_ascii_digit}
 use Rattle.std.specs.List.{list_all}
 use Rattle.std.specs.Str.{all_ascii_digits}
 use Rattle.std.specs.Str.Parse.{digits_value}
-use Rattle.resolver_script.specs.Numbers.{is_plain}
-use Rattle.resolver_script.proofs.script.fields.value_of.Goals as goal
+use Rattle.resolver_script.specs.Numbers.{begins_plainly, is_plain, number_in}
+use Rattle.resolver_script.proofs.script.fields.long_number.Goals as goal
 
 all-digits : (ds : List ℕ) → list_all is_ascii_digit ds ≡ all_ascii_digits ds
 all-digits [] = refl
@@ -21,11 +21,14 @@ over number count some never = at (nat_le (2 ^ 128) number) refl
     at true is = leb-true (2 ^ 128) number is
     at false is = absurd (never (some, grind (arith, common_steps, is)))
 
-pub returns-in-Err-clause-above : goal.returns-in-Err-clause-above
-returns-in-Err-clause-above c =
+pub returns-in-Err : goal.returns-in-Err
+returns-in-Err c =
     let ds = c.args.digits.now in
-    let plain : is_plain ds ≡ true = search rules in
-    let digits : list_all is_ascii_digit ds ≡ true = grind (arith, common_steps, plain) in
-    let some : 0 < length ds = grind (arith, common_steps, plain) in
-    let read = parse_digits (numerals_by_value (λ ds. all_ascii_digits ds ≡ true) tells_all_ascii_digits) 128 ds c.parse-2.result c.parse-2.ensures.value.0 (rw (all-digits ds) at digits) in
-    over (digits_value 10 ds) (length ds) some (rw c.in-Err.is at read)
+    let begins : begins_plainly ds ≡ true = search rules in
+    let digits : list_all is_ascii_digit ds ≡ true = search rules in
+    let some : 0 < length ds = grind (arith, common_steps, begins) in
+    let plain : is_plain ds ≡ true = grind (arith, common_steps, begins, digits) in
+    let read = parse_digits (numerals_by_value (λ ds. all_ascii_digits ds ≡ true) tells_all_ascii_digits) 128 ds c.parse.result c.parse.ensures.value.0 (rw (all-digits ds) at digits) in
+    let above = over (digits_value 10 ds) (length ds) some (rw c.in-Err.is at read) in
+    let most = c.ranges.most.fits in
+    rw plain (grind (arith, common_steps, above, most))
