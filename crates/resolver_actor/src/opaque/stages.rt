@@ -274,15 +274,15 @@ fn leave<K: Ord + Drop, S: Drop, V: Drop>(
 /// The attempt under which a key stood leads nowhere from now on, or the key waits no more.
 fn leave_taken<K: Ord + Drop, V>(
     asked: &mut ByAttempt<K>,
-    retries: &mut PrioritySet<K, u128>,
+    waiting: &mut PrioritySet<K, u128>,
     key: &K,
     taken: &Option<Entry<V, (), Stage>>,
 )
     ensures attempts { (attempt : ℕ) → lookup (is_at (nat_cmp attempt)) asked.new
         ≡ if stands_under attempt (option_map (λ e. e.state) taken.now) then None
         else lookup (is_at (nat_cmp attempt)) asked.old }
-    ensures dues { retries.new ≡ if waits (option_map (λ e. e.state) taken.now)
-        then without K.cmp key.now retries.old else retries.old }
+    ensures dues { waiting.new ≡ if waits (option_map (λ e. e.state) taken.now)
+        then without K.cmp key.now waiting.old else waiting.old }
 {
     let Some(entry) = taken else {
         return;
@@ -290,7 +290,7 @@ fn leave_taken<K: Ord + Drop, V>(
     match entry.state {
         Stage::Asked { attempt } => asked.remove(attempt),
         Stage::Waiting { .. } => {
-            retries.remove(key);
+            waiting.remove(key);
         }
     }
 }
