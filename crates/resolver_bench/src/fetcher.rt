@@ -65,6 +65,12 @@ pub fn block(fetcher: &mut Node, peers: Vec<u16>) -> Result<(), Fault> {
     Ok(fetcher.set_blocked(peers)?)
 }
 
+/// The two look-ups with which `wait` begins, alone, so that they can be told from the rest of it.
+#[inline(never)]
+pub fn may_wait(fetcher: &Node, key: u64) -> bool {
+    !fetcher.is_scanning() && !fetcher.is_waiting(&key) && !fetcher.is_asked(&key)
+}
+
 /// Has a key wait that is in no phase. That it is in none takes two look-ups.
 #[inline(never)]
 pub fn wait(fetcher: &mut Node, key: u64) -> Result<(), Fault> {

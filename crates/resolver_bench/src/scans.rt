@@ -3,7 +3,8 @@
 
 use crate::fault::Fault;
 use crate::fetcher::{
-    Node, aim, among, begin, block, limit, named, record, request_of, respond, scan, wait, wakes,
+    Node, aim, among, begin, block, limit, may_wait, named, record, request_of, respond, scan,
+    wait, wakes,
 };
 use crate::spent::{Kind, Spent};
 use crate::workload::scattered;
@@ -171,7 +172,12 @@ fn take_all(
 /// Takes one step, and says whether a key waits then, is asked for or answered, or a scan goes on.
 fn take(alloc: Global, fetcher: &mut Node, kind: Kind, i: u64) -> Result<bool, Fault> {
     match kind {
-        Kind::Ready => wait(fetcher, scattered(i))?,
+        Kind::Ready => {
+            if !may_wait(fetcher, scattered(i)) {
+                return Ok(false);
+            }
+            wait(fetcher, scattered(i))?;
+        }
         Kind::Idle => return Ok(begin(fetcher)?.is_some()),
         Kind::Wake => return Ok(wakes(fetcher)),
         Kind::Respond => return Ok(answer(fetcher, scattered(i))),

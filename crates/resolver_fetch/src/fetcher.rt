@@ -287,6 +287,7 @@ impl<K: Ord + Drop, P: Ord + Drop> Fetcher<K, P> {
     /// Has a key wait, which may be asked for at once. Where memory is wanting, nothing changes.
     ///
     /// The key is cloned; clones are to equal their sources.
+    #[inline]
     pub fn add_ready(&mut self, key: K, now: u128) -> Result<(), Fault>
     where
         K: Clone,
@@ -426,6 +427,7 @@ impl<K: Ord + Drop, P: Ord + Drop> Fetcher<K, P> {
 
     /// Takes out the request that a response of this peer under this id answers, and says how long
     /// it took. Where there is none, nothing changes.
+    #[inline]
     pub fn pop_response(&mut self, id: ID, peer: &P, now: u128) -> Option<(K, u128)>
         requires closed { is_some self.old.scan ≡ false }
         requires moment { now < 2 ^ 94 }
@@ -440,6 +442,7 @@ impl<K: Ord + Drop, P: Ord + Drop> Fetcher<K, P> {
 
     /// Takes out the request that a response of this peer under this id answers, as
     /// `pop_response` does, and answers the whole of it.
+    #[inline]
     pub fn pop_request(&mut self, id: ID, peer: &P) -> Option<Request<K, P>>
         requires closed { is_some self.old.scan ≡ false }
         ensures popped { (result, self.new)
@@ -524,6 +527,7 @@ fn join_targets<K: Ord + Drop, P: Ord + Clone + Drop>(
 
 /// How many nanoseconds ago something began, at most `DURATION_MAX`; nothing where the clock went
 /// back.
+#[inline]
 pub fn elapsed_since(start: u128, now: u128) -> u128
     ensures { result ≡ elapsed_since start now }
 {

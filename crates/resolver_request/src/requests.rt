@@ -198,6 +198,7 @@ impl<K: Ord + Drop, P: Drop> Requests<K, P> {
 
 impl<K: Ord + Drop, P: Ord + Drop> Requests<K, P> {
     /// Takes out the request of this id, if it went to this peer.
+    #[inline]
     pub fn take_matching(&mut self, id: ID, peer: &P) -> Option<Request<K, P>>
         ensures taken { (result, self.new) ≡ taken_matching P.cmp self.old id peer.now }
         ensures out { IfSome result (IsTaken self.old self.new) }
@@ -213,6 +214,7 @@ impl<K: Ord + Drop, P: Ord + Drop> Requests<K, P> {
 
 /// Takes out the request of this id, if it went to this peer, with one look-up. Memory is wanting
 /// only where no request has this id.
+#[inline]
 fn take_from<K: Drop, P: Ord + Drop>(
     by_id: &mut BTreeMap<ID, Request<K, P>>,
     id: ID,

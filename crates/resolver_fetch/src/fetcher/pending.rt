@@ -130,6 +130,7 @@ impl<K: Ord + Drop> Pending<K> {
     /// changes.
     ///
     /// The key is cloned; clones are to equal their sources.
+    #[inline]
     pub(super) fn put(&mut self, key: K, place: Place) -> Result<(), Fault>
     where
         K: Clone,
@@ -177,6 +178,7 @@ fn move_to<K>(bound: &mut Option<(u128, K)>, moment: u128)
 }
 
 /// Has no key exceed a bound of this moment, though this one waits too.
+#[inline]
 fn raise<K: Ord + Clone + Drop>(
     bound: &mut Option<(u128, K)>,
     moment: u128,

@@ -114,6 +114,7 @@ impl<K: Ord + Drop> Queues<K> {
     /// changes.
     ///
     /// The key is cloned; clones are to equal their sources.
+    #[inline]
     pub(super) fn put(&mut self, key: K, place: Place) -> Result<(), Fault>
     where
         K: Clone,
