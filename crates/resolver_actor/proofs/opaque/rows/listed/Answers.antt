@@ -1,4 +1,4 @@
-use Rattle.std.proofs.Common.{◌≡◌, ◌∙◌, sym, ap, ◌∷◌, ◌++◌, [], append_assoc, refl, map, subst}
+use Rattle.std.proofs.Common.{◌≡◌, ◌∙◌, sym, ap, ◌∷◌, ◌++◌, [], append-nil, append_assoc, refl, map, subst}
 use Rattle.resolver_demand.specs.Rows.{AreListed}
 use Rattle.resolver_actor.specs.declared.opaque.rows.Row.{Row}
 use Rattle.resolver_actor.specs.OpaqueActor.{phase_of, rows_of}
@@ -20,3 +20,28 @@ loop-key-preserved g c =
           ∙ c.loop-key.invariant.made));
       some = (subst (AreListed g.S.Ord.cmp) c.in-Some.ensures.steps c.loop-key.invariant.some).1;
     }
+
+pub loop-key-init : goal.loop-key-init
+loop-key-init g c =
+    let keys = c.into_iter-key-iterator.ensures.into_iter_gives ∙ c.iter-key-items.ensures.rest in
+    record {
+      made = rw (c.in_ok-list.ensures.items, keys, c.iter-rest.ensures.rest) refl;
+      some = rw keys c.iter-key-items.ensures.listed;
+    }
+
+-- where no key is left, the list has all
+pub returns-clause-rows : goal.returns-clause-rows
+returns-clause-rows g c =
+    sym (append-nil c.loop-key.list.items)
+    ∙ ap (λ ts. c.loop-key.list.items ++ map listed (rows_of ts c.loop-key.rest)) (sym c.in-None.ensures.steps.0)
+    ∙ c.loop-key.invariant.made
+
+pub returns-in_default-clause-rows : goal.returns-in_default-clause-rows
+returns-in_default-clause-rows g c =
+    sym (append-nil c.loop-key.list.items)
+    ∙ ap (λ ts. c.loop-key.list.items ++ map listed (rows_of ts [])) (sym c.in-Some.ensures.steps)
+    ∙ ap (λ es. c.loop-key.list.items ++ map listed (rows_of c.loop-key.key-iterator es)) (sym c.in_default.ensures.steps.0)
+    ∙ c.loop-key.invariant.made
+
+pub returns-in_default-clause-ordered : goal.returns-in_default-clause-ordered
+returns-in_default-clause-ordered g c = c.iter-key-items.ensures.ordered
