@@ -139,6 +139,7 @@ impl<I: Ord + Drop, R: Ord + Drop> PrioritySet<I, R> {
     /// Where memory is wanting, nothing changes.
     ///
     /// The item and the priority are cloned; clones are to equal their sources.
+    #[inline]
     pub fn put(&mut self, item: I, priority: R) -> Result<(), Fault>
     where
         I: Clone,
