@@ -528,6 +528,7 @@ impl<K: Ord + Clone + Drop, P: Ord + Clone + Drop> Fetcher<K, P> {
             if trying.count() > 0 {
                 return Ok(Some(trying));
             }
+            drop(trying);
         }
         Ok(None)
     }
@@ -577,7 +578,10 @@ impl<K: Ord + Clone + Drop, P: Ord + Clone + Drop> Fetcher<K, P> {
     {
         let mut pool = self.peers_for(key, at_hand)?;
         for peer in trail.tried(key) {
-            pool.forget(peer)?;
+            if let Err(fault) = pool.forget(peer) {
+                drop(pool);
+                return Err(fault);
+            }
         }
         Ok(pool)
     }
