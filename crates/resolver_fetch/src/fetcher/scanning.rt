@@ -643,9 +643,11 @@ fn keep_pool<K: Ord + Drop, P: Ord + Drop>(
     ensures { peers.new ≡ peers.old }
 {
     if targets.contains_key(&trying.pair.1) {
+        drop(trying);
         return;
     }
-    let mut pool = trying.pool;
+    let Trying { pair, mut pool, .. } = trying;
+    drop(pair);
     pool.restore();
     peers.put_pool(Some(pool));
 }
