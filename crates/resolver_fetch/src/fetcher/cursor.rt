@@ -1,6 +1,6 @@
 //! Where an open scan stands.
 
-ghost use Rattle.std.specs.Prelude.{◌≡◌, [], ◌∷◌, ◌++◌, IfErr, OnErr, OnOk};
+ghost use Rattle.std.specs.Prelude.{◌≡◌, [], ◌∷◌, ◌++◌, Some, IfErr, OnErr, OnOk};
 ghost use Rattle.resolver_base.specs.declared.base.fault.Fault.TheVariants.{OutOfMemory};
 ghost use Rattle.resolver_fetch.specs.Trying.{apart_from};
 
@@ -58,4 +58,11 @@ impl<K: Ord + Clone + Drop, P: Ord + Clone + Drop> Cursor<K, P> {
         }
         Ok(())
     }
+}
+
+/// Has a place hold this. What it held is let go whole.
+pub(super) fn keep<T: Drop>(place: &mut Option<T>, value: T)
+    ensures { place.new ≡ Some value }
+{
+    drop(place.replace(value));
 }

@@ -19,6 +19,7 @@ use resolver_request::score::Score;
 use std::alloc::{AllocError, Global};
 use std::collections::{BTreeMap, BTreeSet};
 use std::marker::Model;
+use std::mem;
 
 /// The latest set of peers with their scores, the local name, and the peers that are blocked.
 ///
@@ -196,7 +197,7 @@ impl<P: Ord + Drop> Peers<P> {
         requires whole { IsWhole P.cmp self.old pool }
         ensures same { self.new ≡ self.old }
     {
-        self.pool = pool;
+        drop(mem::replace(&mut self.pool, pool));
     }
 
     /// Those that may be asked for a key with these targets: where it has none those at hand, if
@@ -250,8 +251,8 @@ impl<P: Ord + Drop> Peers<P> {
     {
         let set = rated(self.alloc, &self.set, peers)?;
         self.allowed = count_askable(&self.local, &set, &self.blocked);
-        self.set = set;
-        self.pool = None;
+        drop(mem::replace(&mut self.set, set));
+        drop(self.pool.take());
         Ok(())
     }
 
@@ -264,8 +265,8 @@ impl<P: Ord + Drop> Peers<P> {
     {
         let blocked = distinct(self.alloc, peers)?;
         self.allowed = count_askable(&self.local, &self.set, &blocked);
-        self.blocked = blocked;
-        self.pool = None;
+        drop(mem::replace(&mut self.blocked, blocked));
+        drop(self.pool.take());
         Ok(())
     }
 

@@ -13,7 +13,7 @@ ghost use Rattle.resolver_fetch.specs.Trying.{apart_from, at_place, at_weight, w
 
 use resolver_base::base::Fault;
 use resolver_request::sampling::WeightedIndex;
-use std::alloc::Global;
+use std::alloc::{AllocError, Global};
 use std::marker::Model;
 
 /// Peers in their order with what they weigh, and which of them are left. Contracts see both as
@@ -54,20 +54,19 @@ impl<P: Ord + Drop> Pool<P> {
             (λ pool. pool ≡ whole (weighing (keys_of peers.items) (weights_of peers.items))) }
         ensures only { IfErr result (λ fault. fault ≡ OutOfMemory) }
     {
-        let mut names = Vec::with_capacity(alloc, peers.len())?;
-        let mut weights = Vec::with_capacity(alloc, peers.len())?;
-        let mut marks = Vec::with_capacity(alloc, peers.len())?;
-        for (peer, weight) in peers {
-            names.push(peer)?;
-            weights.push(weight)?;
-            marks.push(mark(weight))?;
+        let (names, weights) = apart(alloc, peers)?;
+        match indices(alloc, &weights) {
+            Ok((weights, counts)) => Ok(Pool {
+                names,
+                weights,
+                counts,
+                taken: Vec::new(alloc),
+            }),
+            Err(fault) => {
+                drop(names);
+                Err(fault)
+            }
         }
-        Ok(Pool {
-            names,
-            weights: WeightedIndex::new(alloc, &weights)?,
-            counts: WeightedIndex::new(alloc, &marks)?,
-            taken: Vec::new(alloc),
-        })
     }
 
     /// What those left weigh together, in constant time.
@@ -150,6 +149,48 @@ impl<P: Ord + Drop> Pool<P> {
             }
         }
     }
+}
+
+/// The names of these peers, and what they weigh.
+fn apart<P: Drop>(alloc: Global, peers: Vec<(P, u64)>) -> Result<(Vec<P>, Vec<u64>), AllocError>
+    ensures names { IfOk result (λ lists. lists.0.items ≡ keys_of peers.items) }
+    ensures weights { IfOk result (λ lists. lists.1.items ≡ weights_of peers.items) }
+{
+    let mut names = Vec::with_capacity(alloc, peers.len())?;
+    let mut weights = Vec::with_capacity(alloc, peers.len())?;
+    for (peer, weight) in peers {
+        names.push(peer)?;
+        weights.push(weight)?;
+    }
+    Ok((names, weights))
+}
+
+/// An index of these weights, and one of their marks.
+fn indices(alloc: Global, weights: &[u64]) -> Result<(WeightedIndex, WeightedIndex), Fault>
+    ensures weights { IfOk result (λ indices. indices.0 ≡ weights.now) }
+    ensures marks { IfOk result (λ indices. indices.1 ≡ map mark weights.now) }
+    ensures only { IfErr result (λ fault. fault ≡ OutOfMemory) }
+{
+    let marks = marks_of(alloc, weights)?;
+    let counts = WeightedIndex::new(alloc, &marks)?;
+    match WeightedIndex::new(alloc, weights) {
+        Ok(index) => Ok((index, counts)),
+        Err(fault) => {
+            drop(counts);
+            Err(fault)
+        }
+    }
+}
+
+/// One for each weight, and zero for none.
+fn marks_of(alloc: Global, weights: &[u64]) -> Result<Vec<u64>, AllocError>
+    ensures { IfOk result (λ marks. marks.items ≡ map mark weights.now) }
+{
+    let mut marks = Vec::with_capacity(alloc, weights.len())?;
+    for weight in weights {
+        marks.push(mark(*weight))?;
+    }
+    Ok(marks)
 }
 
 /// Gives the places that were taken what they weighed, the last one first.

@@ -23,7 +23,7 @@ ghost use Rattle.resolver_fetch.specs.Seeking.{first_until, next_behind, next_of
 ghost use Rattle.resolver_fetch.specs.Waiting.{place_order};
 ghost use Rattle.resolver_fetch.specs.Stepping.{after_all, after_step, ask_for, expecting};
 
-use crate::fetcher::cursor::Cursor;
+use crate::fetcher::cursor::{Cursor, keep};
 use crate::fetcher::peers::Peers;
 use crate::fetcher::pool::Pool;
 use crate::fetcher::step::{Step, step_of};
@@ -35,6 +35,7 @@ use resolver_base::base::Fault;
 use resolver_request::requests::Requests;
 use std::collections::BTreeMap;
 use std::collections::btree_set::Range;
+use std::mem;
 
 impl<K: Ord + Clone + Drop, P: Ord + Clone + Drop> Fetcher<K, P> {
     /// Begins a scan at this moment, where none is open, and says what it asks; nothing where it is
@@ -90,7 +91,7 @@ impl<K: Ord + Clone + Drop, P: Ord + Clone + Drop> Fetcher<K, P> {
         match step_of(&cursor.trying, &cursor.expects, answer) {
             Ok(step) => self.go(cursor, step),
             Err(fault) => {
-                self.cursor = Some(cursor);
+                keep(&mut self.cursor, cursor);
                 Err(fault)
             }
         }
@@ -145,14 +146,15 @@ impl<K: Ord + Clone + Drop, P: Ord + Clone + Drop> Fetcher<K, P> {
     {
         match ask_for(self.priority_requests, &cursor.trying, &expected) {
             Ok(ask) => {
-                cursor.expects = expected;
-                self.cursor = Some(cursor);
+                drop(mem::replace(&mut cursor.expects, expected));
+                keep(&mut self.cursor, cursor);
                 self.last_id = last_id;
                 self.pending.wake();
                 Ok(Some(ask))
             }
             Err(fault) => {
-                self.cursor = Some(cursor);
+                drop(expected);
+                keep(&mut self.cursor, cursor);
                 Err(fault)
             }
         }
@@ -206,11 +208,18 @@ impl<K: Ord + Clone + Drop, P: Ord + Clone + Drop> Fetcher<K, P> {
             return self.pass(cursor, peer, reason);
         }
         if let Err(fault) = cursor.fail(&peer, reason) {
-            self.cursor = Some(cursor);
+            keep(&mut self.cursor, cursor);
             return Err(fault);
         }
-        let rest = Next::Try(cursor.trying);
-        Ok(self.go_on(cursor.moment, cursor.trail, rest))
+        let Cursor {
+            moment,
+            trail,
+            trying,
+            expects,
+        } = cursor;
+        drop(expects);
+        let rest = Next::Try(trying);
+        Ok(self.go_on(moment, trail, rest))
     }
 
     /// The last peer that was left was tried in vain: the scan goes on behind the key. Where memory
@@ -236,14 +245,24 @@ impl<K: Ord + Clone + Drop, P: Ord + Clone + Drop> Fetcher<K, P> {
         ensures only { IfErr result (λ fault. fault ≡ OutOfMemory) }
     {
         if let Err(fault) = cursor.note(&peer, reason) {
-            self.cursor = Some(cursor);
+            keep(&mut self.cursor, cursor);
             return Err(fault);
         }
         match self.find_behind(&cursor) {
-            Ok(next) => Ok(self.go_on(cursor.moment, cursor.trail, next)),
+            Ok(next) => {
+                let Cursor {
+                    moment,
+                    trail,
+                    trying,
+                    expects,
+                } = cursor;
+                drop(trying);
+                drop(expects);
+                Ok(self.go_on(moment, trail, next))
+            }
             Err(fault) => {
                 cursor.trail.pop();
-                self.cursor = Some(cursor);
+                keep(&mut self.cursor, cursor);
                 Err(fault)
             }
         }
@@ -310,13 +329,20 @@ impl<K: Ord + Clone + Drop, P: Ord + Clone + Drop> Fetcher<K, P> {
     {
         match put_request(&mut self.requests, &cursor, peer, id, self.fetch_timeout) {
             Ok(()) => {
-                self.pending
-                    .remove(&cursor.trying.pair.1, cursor.trying.is_retry);
-                keep_pool(&self.targets, &mut self.peers, cursor.trying);
+                let Cursor {
+                    trail,
+                    trying,
+                    expects,
+                    ..
+                } = cursor;
+                drop(trail);
+                drop(expects);
+                self.pending.remove(&trying.pair.1, trying.is_retry);
+                keep_pool(&self.targets, &mut self.peers, trying);
                 Ok(None)
             }
             Err(fault) => {
-                self.cursor = Some(cursor);
+                keep(&mut self.cursor, cursor);
                 Err(fault)
             }
         }
@@ -336,15 +362,17 @@ impl<K: Ord + Clone + Drop, P: Ord + Clone + Drop> Fetcher<K, P> {
             Next::Try(trying) => {
                 let bound = u128::from(trying.retries) + 4;
                 self.pending.wake();
-                self.cursor = Some(Cursor {
+                let cursor = Cursor {
                     moment,
                     trail,
                     trying,
                     expects: Expected::Mode,
-                });
+                };
+                keep(&mut self.cursor, cursor);
                 Some(Ask::Draw(bound))
             }
             Next::Wait(other) => {
+                drop(trail);
                 self.pending.sleep(moment, other);
                 None
             }
@@ -500,6 +528,7 @@ impl<K: Ord + Clone + Drop, P: Ord + Clone + Drop> Fetcher<K, P> {
             if trying.count() > 0 {
                 return Ok(Some(trying));
             }
+            drop(trying);
         }
         Ok(None)
     }
@@ -549,7 +578,10 @@ impl<K: Ord + Clone + Drop, P: Ord + Clone + Drop> Fetcher<K, P> {
     {
         let mut pool = self.peers_for(key, at_hand)?;
         for peer in trail.tried(key) {
-            pool.forget(peer)?;
+            if let Err(fault) = pool.forget(peer) {
+                drop(pool);
+                return Err(fault);
+            }
         }
         Ok(pool)
     }
@@ -611,9 +643,11 @@ fn keep_pool<K: Ord + Drop, P: Ord + Drop>(
     ensures { peers.new ≡ peers.old }
 {
     if targets.contains_key(&trying.pair.1) {
+        drop(trying);
         return;
     }
-    let mut pool = trying.pool;
+    let Trying { pair, mut pool, .. } = trying;
+    drop(pair);
     pool.restore();
     peers.put_pool(Some(pool));
 }

@@ -1,7 +1,7 @@
 use Rattle.std.proofs.Common.{ap, ◌∙◌, is_some}
-use Rattle.resolver_fetch.specs.declared.fetcher.cursor.Cursor.{Cursor}
 use Rattle.resolver_fetch.specs.Fetcher.{Fetcher}
 use Rattle.resolver_fetch.specs.Orders.{orders}
+use Rattle.resolver_fetch.specs.Trying.{Trying}
 use Rattle.resolver_fetch.proofs.Kept.{closed-any, kept-sent}
 use Rattle.resolver_fetch.proofs.Phases.{tried-apart, tried-kind}
 use Rattle.resolver_fetch.proofs.Weighing.{all-tried}
@@ -14,8 +14,8 @@ put_request-requires-clause-new_key g c =
 pub remove-requires : goal.remove-requires
 remove-requires g c =
     let kind = rw (← c.self.view_is) at (tried-kind (orders g.K.Ord.cmp g.P.Ord.cmp) g.met.K.Ord.total c.args.self.now c.args.cursor.moment c.args.cursor.trail c.args.cursor.trying c.requires.right.tries (rw (← c.self.view_is) c.self.invariant.0.once)) in
-    let key = ap (λ (n : Cursor g.row.K.Denot g.row.P.Denot). n.trying.key) c.cursor.view_is in
-    let is_retry = ap (λ (n : Cursor g.row.K.Denot g.row.P.Denot). n.trying.place.is_retry) c.cursor.view_is in
+    let key = ap (λ (t : Trying g.row.K.Denot g.row.P.Denot). t.key) c.trying.view_is in
+    let is_retry = ap (λ (t : Trying g.row.K.Denot g.row.P.Denot). t.place.is_retry) c.trying.view_is in
     rw (key, is_retry) (record { waits = kind })
 
 pub invariant_of-self : goal.invariant_of-self
@@ -25,40 +25,7 @@ invariant_of-self g c =
     let idle = rw (← c.self.view_is) at (tried-apart (orders g.K.Ord.cmp g.P.Ord.cmp) g.met.K.Ord.total c.args.self.now c.args.cursor.moment c.args.cursor.trail c.args.cursor.trying c.requires.right.tries (rw (← c.self.view_is) c.self.invariant.0.once)) in
     let new = rw (← c.self.view_is) at c.requires.new_id in
     let taken = rw (← c.self.view_is) at c.requires.taken in
-    let key = ap (λ (n : Cursor g.row.K.Denot g.row.P.Denot). n.trying.key) c.cursor.view_is in
-    rw (c.remove.ensures, c.in-Ok.ensures.ok, key)
-    (kept-sent g.met.K.Ord.total a.fetch_timeout a.retry_delay a.last_id a.pending.keys a.requests c.self.invariant.0 c.args.id _ new idle taken, closed-any a.cursor shut _)
-
-pub invariant_of-self-in-Ok-2 : goal.invariant_of-self-in-Ok-2
-invariant_of-self-in-Ok-2 g c =
-    let a = c.self.inside in
-    let shut = ap is_some (ap (λ (f : Fetcher g.row.K.Denot g.row.P.Denot). f.scan) c.self.view_is) ∙ c.requires.closed in
-    let idle = rw (← c.self.view_is) at (tried-apart (orders g.K.Ord.cmp g.P.Ord.cmp) g.met.K.Ord.total c.args.self.now c.args.cursor.moment c.args.cursor.trail c.args.cursor.trying c.requires.right.tries (rw (← c.self.view_is) c.self.invariant.0.once)) in
-    let new = rw (← c.self.view_is) at c.requires.new_id in
-    let taken = rw (← c.self.view_is) at c.requires.taken in
-    let key = ap (λ (n : Cursor g.row.K.Denot g.row.P.Denot). n.trying.key) c.cursor.view_is in
-    rw (c.remove.ensures, c.in-Ok.ensures.ok, key)
-    (kept-sent g.met.K.Ord.total a.fetch_timeout a.retry_delay a.last_id a.pending.keys a.requests c.self.invariant.0 c.args.id _ new idle taken, closed-any a.cursor shut _)
-
-pub invariant_of-self-in-Ok-3 : goal.invariant_of-self-in-Ok-3
-invariant_of-self-in-Ok-3 g c =
-    let a = c.self.inside in
-    let shut = ap is_some (ap (λ (f : Fetcher g.row.K.Denot g.row.P.Denot). f.scan) c.self.view_is) ∙ c.requires.closed in
-    let idle = rw (← c.self.view_is) at (tried-apart (orders g.K.Ord.cmp g.P.Ord.cmp) g.met.K.Ord.total c.args.self.now c.args.cursor.moment c.args.cursor.trail c.args.cursor.trying c.requires.right.tries (rw (← c.self.view_is) c.self.invariant.0.once)) in
-    let new = rw (← c.self.view_is) at c.requires.new_id in
-    let taken = rw (← c.self.view_is) at c.requires.taken in
-    let key = ap (λ (n : Cursor g.row.K.Denot g.row.P.Denot). n.trying.key) c.cursor.view_is in
-    rw (c.remove.ensures, c.in-Ok.ensures.ok, key)
-    (kept-sent g.met.K.Ord.total a.fetch_timeout a.retry_delay a.last_id a.pending.keys a.requests c.self.invariant.0 c.args.id _ new idle taken, closed-any a.cursor shut _)
-
-pub invariant_of-self-in-Ok-4 : goal.invariant_of-self-in-Ok-4
-invariant_of-self-in-Ok-4 g c =
-    let a = c.self.inside in
-    let shut = ap is_some (ap (λ (f : Fetcher g.row.K.Denot g.row.P.Denot). f.scan) c.self.view_is) ∙ c.requires.closed in
-    let idle = rw (← c.self.view_is) at (tried-apart (orders g.K.Ord.cmp g.P.Ord.cmp) g.met.K.Ord.total c.args.self.now c.args.cursor.moment c.args.cursor.trail c.args.cursor.trying c.requires.right.tries (rw (← c.self.view_is) c.self.invariant.0.once)) in
-    let new = rw (← c.self.view_is) at c.requires.new_id in
-    let taken = rw (← c.self.view_is) at c.requires.taken in
-    let key = ap (λ (n : Cursor g.row.K.Denot g.row.P.Denot). n.trying.key) c.cursor.view_is in
+    let key = ap (λ (t : Trying g.row.K.Denot g.row.P.Denot). t.key) c.trying.view_is in
     rw (c.remove.ensures, c.in-Ok.ensures.ok, key)
     (kept-sent g.met.K.Ord.total a.fetch_timeout a.retry_delay a.last_id a.pending.keys a.requests c.self.invariant.0 c.args.id _ new idle taken, closed-any a.cursor shut _)
 
@@ -69,7 +36,7 @@ keep_pool-requires g c = record {
 
 pub invariant_of-self-in-Err : goal.invariant_of-self-in-Err
 invariant_of-self-in-Err g c =
-    rw c.in-Err.ensures.err (
+    rw (c.in-Err.ensures.err, c.keep.ensures) (
       c.self.invariant.0,
       record {
         moment_fits = c.requires.right.moment_fits;

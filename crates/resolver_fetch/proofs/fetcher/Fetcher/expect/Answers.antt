@@ -7,13 +7,13 @@ pub returns-in-Ok-clause-asked : goal.returns-in-Ok-clause-asked
 returns-in-Ok-clause-asked g c =
     let o = orders g.K.Ord.cmp g.P.Ord.cmp in
     let t = c.args.cursor in
-    rw (c.in-Ok.ensures.ok, c.wake.ensures)
+    rw (c.in-Ok.ensures.ok, c.keep.ensures, c.replace.ensures.after, c.wake.ensures)
     (sym (rw (← c.self.view_is) at (asks-kept o c.args.self.now t.moment t.trail t.trying c.args.expected c.args.last_id None c.requires.right.tries)))
 
 pub invariant_of-self : goal.invariant_of-self
 invariant_of-self g c =
     let kept = c.self.invariant.0 in
-    rw c.wake.ensures (
+    rw (c.wake.ensures, c.keep.ensures, c.replace.ensures.after) (
       record {
         timely = kept.timely;
         once = kept.once;
@@ -27,41 +27,12 @@ invariant_of-self g c =
     )
 
 pub invariant_of-self-in-Err : goal.invariant_of-self-in-Err
-invariant_of-self-in-Err g c = (
-  c.self.invariant.0,
-  record {
-    moment_fits = c.requires.right.moment_fits;
-    tries = rw (← c.self.view_is) at c.requires.right.tries;
-    new_id = rw (← c.self.view_is) at c.requires.right.new_id;
-  },
-)
-
-pub invariant_of-self-in-Err-2 : goal.invariant_of-self-in-Err-2
-invariant_of-self-in-Err-2 g c = (
-  c.self.invariant.0,
-  record {
-    moment_fits = c.requires.right.moment_fits;
-    tries = rw (← c.self.view_is) at c.requires.right.tries;
-    new_id = rw (← c.self.view_is) at c.requires.right.new_id;
-  },
-)
-
-pub invariant_of-self-in-Err-3 : goal.invariant_of-self-in-Err-3
-invariant_of-self-in-Err-3 g c = (
-  c.self.invariant.0,
-  record {
-    moment_fits = c.requires.right.moment_fits;
-    tries = rw (← c.self.view_is) at c.requires.right.tries;
-    new_id = rw (← c.self.view_is) at c.requires.right.new_id;
-  },
-)
-
-pub invariant_of-self-in-Err-4 : goal.invariant_of-self-in-Err-4
-invariant_of-self-in-Err-4 g c = (
-  c.self.invariant.0,
-  record {
-    moment_fits = c.requires.right.moment_fits;
-    tries = rw (← c.self.view_is) at c.requires.right.tries;
-    new_id = rw (← c.self.view_is) at c.requires.right.new_id;
-  },
-)
+invariant_of-self-in-Err g c =
+    rw c.keep-in-Err.ensures (
+      c.self.invariant.0,
+      record {
+        moment_fits = c.requires.right.moment_fits;
+        tries = rw (← c.self.view_is) at c.requires.right.tries;
+        new_id = rw (← c.self.view_is) at c.requires.right.new_id;
+      },
+    )

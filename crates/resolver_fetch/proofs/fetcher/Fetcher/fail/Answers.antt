@@ -26,7 +26,7 @@ go_on-requires-clause-next g c =
 
 pub invariant_of-self : goal.invariant_of-self
 invariant_of-self g c =
-    rw c.in-Err.ensures.err (
+    rw (c.keep.ensures, c.in-Err.ensures.err) (
       c.self.invariant.0,
       record {
         moment_fits = c.requires.right.moment_fits;

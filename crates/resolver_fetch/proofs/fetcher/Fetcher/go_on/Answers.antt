@@ -3,9 +3,12 @@ use Rattle.resolver_fetch.specs.Fetcher.{Fetcher}
 use Rattle.resolver_fetch.specs.Pending.{waits_until}
 use Rattle.resolver_fetch.specs.Orders.{orders}
 use Rattle.resolver_fetch.specs.Seeking.{next_of}
-use Rattle.resolver_fetch.specs.declared.fetcher.trying.Next.TheVariants.{Wait}
+use Rattle.resolver_fetch.specs.declared.fetcher.trail.Expected.TheVariants.{Mode}
+use Rattle.resolver_fetch.specs.declared.fetcher.trying.Next.TheVariants.{Try as Tries, Wait}
+use Rattle.resolver_fetch.specs.Trying.{Trying}
 use Rattle.resolver_fetch.proofs.Kept.{closed-none}
-use Rattle.resolver_fetch.proofs.Nexts.{waits-after}
+use Rattle.resolver_fetch.proofs.Nexts.{next-tries, waits-after}
+use Rattle.resolver_fetch.proofs.Stepping.{asks-kept}
 use Rattle.resolver_fetch.proofs.fetcher.Fetcher.go_on.Goals as goal
 
 pub returns-in-Wait-clause-after : goal.returns-in-Wait-clause-after
@@ -16,3 +19,25 @@ returns-in-Wait-clause-after g c =
     rw (c.sleep.ensures, closed-none c.self.inside.cursor shut)
     (ap (λ (f : Fetcher g.row.K.Denot g.row.P.Denot). record f { scan = None; waiter = Some (waits_until c.args.moment c.in-Wait.other f.waiting) }) c.self.view_is
     ∙ sym (waits-after o c.args.self.now c.args.moment c.args.trail c.in-Wait.other is))
+
+pub invariant_of-self : goal.invariant_of-self
+invariant_of-self g c =
+    let o = orders g.K.Ord.cmp g.P.Ord.cmp in
+    let is : next_of o c.args.self.now c.args.moment c.args.trail ≡ Tries c.in-Try.trying = sym c.requires.next ∙ c.in-Try.is in
+    rw (c.keep.ensures, c.wake.ensures) (
+      c.self.invariant.0,
+      record {
+        moment_fits = c.requires.moment;
+        tries = rw (← c.self.view_is) at (next-tries o c.args.self.now c.args.moment c.args.trail c.in-Try.trying is);
+        new_id = tt;
+      },
+    )
+
+pub returns-in-Try-clause-asked : goal.returns-in-Try-clause-asked
+returns-in-Try-clause-asked g c =
+    let o = orders g.K.Ord.cmp g.P.Ord.cmp in
+    let is : next_of o c.args.self.now c.args.moment c.args.trail ≡ Tries c.in-Try.trying = sym c.requires.next ∙ c.in-Try.is in
+    let tries = next-tries o c.args.self.now c.args.moment c.args.trail c.in-Try.trying is in
+    let retries = ap (λ (t : Trying g.row.K.Denot g.row.P.Denot). t.retries) c.trying.view_is in
+    rw (c.from-bound.ensures, retries, c.keep.ensures, c.wake.ensures)
+    (sym (rw (← c.self.view_is) at (asks-kept o c.args.self.now c.args.moment c.args.trail c.in-Try.trying Mode c.self.inside.last_id None tries)))

@@ -1,6 +1,7 @@
 use Rattle.std.proofs.Common.{refl, ap, ◌∙◌, sym, [], ◌∷◌, ◌++◌}
 use Rattle.resolver_fetch.specs.declared.fetcher.cursor.Cursor.{Cursor}
 use Rattle.resolver_fetch.specs.declared.fetcher.trail.Try.{Try}
+use Rattle.resolver_fetch.specs.Cursor.{opened}
 use Rattle.resolver_fetch.specs.Orders.{orders}
 use Rattle.resolver_fetch.specs.Seeking.{next_for, scan_at, tried_again}
 use Rattle.resolver_fetch.proofs.Passes.{passes}
@@ -22,7 +23,7 @@ invariant_of-self-in-Err-find_behind g c =
     let t = c.args.cursor in
     let noted = c.in_default.ensures.ok in
     let back = c.pop.ensures t.trail (record { key = t.trying.key; peer = c.args.peer; reason = c.args.reason }) (ap (λ (n : Cursor g.row.K.Denot g.row.P.Denot). n.trail) noted) in
-    rw (back, noted) (
+    rw (c.keep-in-Err-find_behind.ensures, back, noted) (
       c.self-in-Err-find_behind.invariant.0,
       record {
         moment_fits = c.requires.right.moment_fits;
@@ -35,3 +36,22 @@ pub returns-in-Ok-clause-ok : goal.returns-in-Ok-clause-ok
 returns-in-Ok-clause-ok g c =
     let noted = c.in_default.ensures.ok in
     rw (noted, c.find_behind.ensures.same) at c.go_on.ensures.after
+
+pub invariant_of-self : goal.invariant_of-self
+invariant_of-self g c =
+    rw (c.keep.ensures, c.in-Err.ensures.err) (
+      c.self.invariant.0,
+      record {
+        moment_fits = c.requires.right.moment_fits;
+        tries = rw (← c.self.view_is) at c.requires.right.tries;
+        new_id = rw (← c.self.view_is) at c.requires.right.new_id;
+      },
+    )
+
+pub returns-clause-err : goal.returns-clause-err
+returns-clause-err g c =
+    let t = c.args.cursor in
+    let noted = c.in_default.ensures.ok in
+    let back = c.pop.ensures t.trail (record { key = t.trying.key; peer = c.args.peer; reason = c.args.reason }) (ap (λ (n : Cursor g.row.K.Denot g.row.P.Denot). n.trail) noted) in
+    rw (c.keep-in-Err-find_behind.ensures, back, noted)
+    (ap (opened t) (c.self-in-Err-find_behind.view_is ∙ c.find_behind.ensures.same))

@@ -24,9 +24,9 @@ loop-peer-preserved g c =
     let first : drop c.loop-peer.peer-index tried ≡ c.peer-item.result ∷ drop (c.loop-peer.peer-index + 1) tried =
     drop-first tried c.loop-peer.peer-index c.peer-item.result c.loop-peer-test.true c.peer-item.is in
     record {
-      all = ap (λ (p : Pool g.row.P.Denot). p.all) c.in_ok-forget.ensures.ok ∙ c.loop-peer.invariant.all;
+      all = ap (λ (p : Pool g.row.P.Denot). p.all) c.in_default.ensures.ok ∙ c.loop-peer.invariant.all;
       left =
-          rw c.in_ok-forget.ensures.ok
+          rw c.in_default.ensures.ok
           (untried-more g.P.Ord.cmp c.peer-item.result (drop (c.loop-peer.peer-index + 1) tried) c.loop-peer.pool.left
           ∙ ap (λ (ps : List g.row.P.Denot). untried g.P.Ord.cmp ps c.loop-peer.pool.left) (sym first)
           ∙ c.loop-peer.invariant.left);
