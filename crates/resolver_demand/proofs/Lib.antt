@@ -2,6 +2,7 @@ pub mod ListedRows
 pub mod Emptied
 pub mod Marks
 pub mod Right
+pub mod Served
 pub mod Queue
 pub mod Pruned
 pub mod Drained
