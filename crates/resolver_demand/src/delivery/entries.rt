@@ -182,11 +182,18 @@ impl<K: Ord + Drop, S: Drop, V: Drop, Context: Drop, State: Drop> Entries<K, S, 
         ensures err { OnErr result (self.new ≡ self.old) }
         ensures only { IfErr result (λ fault. fault ≡ refusal_at self.old.next) }
     {
-        let number = self.numbers.peek().ok_or(Fault::Exhausted)?;
+        let Some(number) = self.numbers.peek() else {
+            drop(delivery);
+            return Err(Fault::Exhausted);
+        };
+        let Ok(again) = context.clone() else {
+            drop(delivery);
+            return Err(Fault::OutOfMemory);
+        };
         let response = Response {
             name: number,
             value,
-            context: context.clone()?,
+            context: again,
             accepted: false,
         };
         let begun = Open {
@@ -335,9 +342,12 @@ where
     let Some(entry) = keys.get_mut(&begun.delivery.key) else {
         unreachable!()
     };
-    put_in(going, number, begun)?;
+    if let Err(error) = put_in(going, number, begun) {
+        drop(response);
+        return Err(error);
+    }
     entry.number = Some(number);
-    entry.response = Some(response);
+    drop(entry.response.replace(response));
     Ok(())
 }
 
