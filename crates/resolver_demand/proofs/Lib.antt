@@ -3,6 +3,7 @@ pub mod Emptied
 pub mod Marks
 pub mod Right
 pub mod Served
+pub mod Items
 pub mod Queue
 pub mod Pruned
 pub mod Drained
