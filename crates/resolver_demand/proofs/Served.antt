@@ -1,5 +1,5 @@
 -- What a key's subscribers are once some of them are served.
-use Rattle.std.proofs.Common.{◌≡◌, ◌∙◌, ◌<◌, ℕ, List, [], ◌∷◌, None, Some, length, arith, refl, sym, ap}
+use Rattle.std.proofs.Common.{◌≡◌, ◌∙◌, ◌<◌, ℕ, List, [], ◌∷◌, None, Some, length, arith, refl, ap}
 use Rattle.std.specs.Map.{lookup, remove_entry, set_value}
 use Rattle.resolver_base.specs.Names.{Names, same_key}
 use Rattle.resolver_base.specs.Subscribers.{without}

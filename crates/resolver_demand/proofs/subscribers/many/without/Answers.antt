@@ -1,5 +1,5 @@
-use Rattle.std.proofs.Common.{◌≡◌, ◌∙◌, sym, ap, refl, ◌∷◌, ◌++◌}
-use Rattle.resolver_base.specs.Subscribers.{is_among, without}
+use Rattle.std.proofs.Common.{◌≡◌, ◌∙◌, sym, ap, refl, ◌++◌}
+use Rattle.resolver_base.specs.Subscribers.{without}
 use Rattle.resolver_demand.proofs.subscribers.many.without.Goals as goal
 
 -- one that is named is passed over

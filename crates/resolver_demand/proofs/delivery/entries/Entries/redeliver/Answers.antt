@@ -6,7 +6,7 @@ use Rattle.resolver_base.specs.declared.root.Delivery.{Delivery}
 use Rattle.resolver_demand.specs.declared.delivery.entry.Entry.{Entry}
 use Rattle.resolver_demand.specs.declared.delivery.entry.Open.{Open}
 use Rattle.resolver_demand.specs.declared.delivery.entry.Response.{Response}
-use Rattle.resolver_demand.specs.Entries.{Numbered, begun_again, changed_at, entry_of, numbered, redelivered, response_of}
+use Rattle.resolver_demand.specs.Entries.{Numbered, changed_at, entry_of, numbered, redelivered, response_of}
 use Rattle.resolver_demand.proofs.delivery.entries.Entries.redeliver.Goals as goal
 
 begun-again : {K S V C State : Type 0} (cmp : K → K → Ordering) (delivery : Delivery K S) (d : Numbered K S V C State) (r : Response V C)

@@ -1,4 +1,4 @@
-use Rattle.std.proofs.Common.{◌≡◌, ◌∙◌, sym, ap, take}
+use Rattle.std.proofs.Common.{◌∙◌, sym, ap, take}
 use Rattle.resolver_base.specs.Names.{names}
 use Rattle.resolver_demand.specs.Backlog.{backlog_of, behind_first, waiting}
 use Rattle.resolver_demand.proofs.Drained.{filed-none}
