@@ -138,7 +138,7 @@ impl<K: Ord + Drop, S: Ord + Drop> Tracker<K, S> {
         ensures only { IfErr result (λ fault. fault ≡ OutOfMemory) }
     {
         let fresh = Subscribers::fresh(self.alloc, subscribers.into_vec())?;
-        self.demand.insert(key, fresh)?;
+        drop(self.demand.insert(key, fresh)?);
         Ok(())
     }
 
