@@ -2,6 +2,8 @@ pub mod ListedRows
 pub mod Emptied
 pub mod Marks
 pub mod Right
+pub mod Served
+pub mod Items
 pub mod Queue
 pub mod Pruned
 pub mod Drained

@@ -138,7 +138,7 @@ impl<K: Ord + Drop, S: Ord + Drop> Tracker<K, S> {
         ensures only { IfErr result (λ fault. fault ≡ OutOfMemory) }
     {
         let fresh = Subscribers::fresh(self.alloc, subscribers.into_vec())?;
-        self.demand.insert(key, fresh)?;
+        drop(self.demand.insert(key, fresh)?);
         Ok(())
     }
 
@@ -326,21 +326,46 @@ fn serve<K: Ord + Drop, S: Ord + Clone + Drop>(
     match demand.entry(key)? {
         Entry::Occupied(place) => {
             let named = Named::new(alloc, delivered)?;
-            let rest = place.get().without(alloc, &named)?;
-            match NonEmptyVec::try_from(rest) {
-                Ok(rest) => {
+            match others(alloc, place.get(), &named) {
+                Ok(Some(rest)) => {
                     place.into_mut().detach_all(&named);
+                    drop(named);
                     Ok(Some(rest))
                 }
-                Err(_) => {
-                    place.remove();
+                Ok(None) => {
+                    drop(named);
+                    drop(place.remove());
                     Ok(None)
+                }
+                Err(error) => {
+                    drop(named);
+                    Err(Fault::from(error))
                 }
             }
         }
         // Of a vacant entry that is let go nothing says that its map is as it was.
         Entry::Vacant(place) => {
-            place.insert_entry(Subscribers::new(alloc)).remove();
+            drop(place.insert_entry(Subscribers::new(alloc)).remove());
+            Ok(None)
+        }
+    }
+}
+
+/// Clones of the subscribers that aren't named, in their order, if there are any.
+fn others<S: Ord + Clone + Drop>(
+    alloc: Global,
+    subscribers: &Subscribers<S>,
+    named: &Named<'_, S>,
+) -> Result<Option<NonEmptyVec<(S, u64)>>, AllocError>
+    requires { (x y : S) → S.is_clone x y → y ≡ x }
+    ensures { IfOk result (λ rest. MatchOption rest
+        (without S.cmp named.now.list.now subscribers.now ≡ [])
+        (λ list. (list ≡ without S.cmp named.now.list.now subscribers.now) × (0 < length list))) }
+{
+    match NonEmptyVec::try_from(subscribers.without(alloc, named)?) {
+        Ok(rest) => Ok(Some(rest)),
+        Err(none) => {
+            drop(none);
             Ok(None)
         }
     }

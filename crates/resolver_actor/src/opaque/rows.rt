@@ -1,11 +1,11 @@
 //! The demanded keys of the actor: who wants each, and what is being done for it.
 
-ghost use Rattle.std.specs.Prelude.{◌≡◌, ◌++◌, IfErr, IfOk, OnOk, map};
+ghost use Rattle.std.specs.Prelude.{◌≡◌, ◌<◌, ◌++◌, IfErr, IfOk, OnOk, length, map};
 ghost use Rattle.std.specs.List.Sorted.{IsStrictlySortedBy};
 ghost use Rattle.std.specs.Map.{keys_of};
 ghost use Rattle.resolver_base.specs.declared.base.fault.Fault.TheVariants.{OutOfMemory};
 ghost use Rattle.resolver_actor.specs.Opaque.{called_off};
-ghost use Rattle.resolver_actor.specs.OpaqueActor.{phase_of, rows_of};
+ghost use Rattle.resolver_actor.specs.OpaqueActor.{phase_of, row_of, rows_of};
 ghost use Rattle.resolver_actor.specs.OpaqueFound.{all_kept_called_off, each_called_off, without_each};
 ghost use Rattle.resolver_actor.specs.OpaqueListed.{listed, listed_phase};
 
@@ -13,8 +13,8 @@ use super::actor::Effect;
 use super::stages::Stages;
 use resolver_base::base::{Fault, NonEmptyVec};
 use resolver_demand::delivery::{Entries, Entry};
-use resolver_demand::subscribers::Tracker;
-use std::alloc::Global;
+use resolver_demand::subscribers::{Subscribers, Tracker};
+use std::alloc::{AllocError, Global};
 
 /// What is being done for a demanded key.
 #[derive(Clone, Copy, Debug, PartialEq, Eq)]
@@ -67,17 +67,36 @@ pub fn listed<K: Ord + Clone + Drop, V: Drop, S: Ord + Clone + Drop>(
         let Some((_, entry)) = rest.next() else {
             return Ok(list);
         };
-        let subscribers = subscribers.copied(alloc)?;
-        let Ok(subscribers) = NonEmptyVec::try_from(subscribers) else {
-            unreachable!()
-        };
-        list.push(Row {
-            key: key.clone()?,
-            subscribers,
-            phase: listed_phase(entry),
-        })?;
+        list.push(row_at(alloc, key, subscribers, entry)?)?;
     }
     Ok(list)
+}
+
+/// One key as the actor's callers see it.
+fn row_at<K: Clone + Drop, V, S: Ord + Clone + Drop>(
+    alloc: Global,
+    key: &K,
+    subscribers: &Subscribers<S>,
+    entry: &Entry<V, (), Stage>,
+) -> Result<Row<K, S>, AllocError>
+    requires keys_clone { (x y : K) → K.is_clone x y → y ≡ x }
+    requires subscribers_clone { (x y : S) → S.is_clone x y → y ≡ x }
+    requires some { 0 < length subscribers.now }
+    ensures { IfOk result
+        (λ row. row ≡ listed (key.now, row_of (subscribers.now, entry.now))) }
+{
+    let Ok(subscribers) = NonEmptyVec::try_from(subscribers.copied(alloc)?) else {
+        unreachable!()
+    };
+    let Ok(key) = key.clone() else {
+        drop(subscribers);
+        return Err(AllocError);
+    };
+    Ok(Row {
+        key,
+        subscribers,
+        phase: listed_phase(entry),
+    })
 }
 
 /// What is being done for a key.

@@ -182,11 +182,18 @@ impl<K: Ord + Drop, S: Drop, V: Drop, Context: Drop, State: Drop> Entries<K, S, 
         ensures err { OnErr result (self.new ≡ self.old) }
         ensures only { IfErr result (λ fault. fault ≡ refusal_at self.old.next) }
     {
-        let number = self.numbers.peek().ok_or(Fault::Exhausted)?;
+        let Some(number) = self.numbers.peek() else {
+            drop(delivery);
+            return Err(Fault::Exhausted);
+        };
+        let Ok(again) = context.clone() else {
+            drop(delivery);
+            return Err(Fault::OutOfMemory);
+        };
         let response = Response {
             name: number,
             value,
-            context: context.clone()?,
+            context: again,
             accepted: false,
         };
         let begun = Open {
@@ -213,14 +220,21 @@ impl<K: Ord + Drop, S: Drop, V: Drop, Context: Drop, State: Drop> Entries<K, S, 
         ensures err { OnErr result (self.new ≡ self.old) }
         ensures only { IfErr result (λ fault. fault ≡ refusal_at self.old.next) }
     {
-        let number = self.numbers.peek().ok_or(Fault::Exhausted)?;
+        let Some(number) = self.numbers.peek() else {
+            drop(delivery);
+            return Err(Fault::Exhausted);
+        };
         let Some(response) = self.response(&delivery.key) else {
             unreachable!()
+        };
+        let Ok(context) = response.context.clone() else {
+            drop(delivery);
+            return Err(Fault::OutOfMemory);
         };
         let begun = Open {
             response: response.name,
             delivery,
-            context: response.context.clone()?,
+            context,
             accepted: response.accepted,
         };
         begin(&mut self.keys, &mut self.going, number, begun)?;
@@ -328,9 +342,12 @@ where
     let Some(entry) = keys.get_mut(&begun.delivery.key) else {
         unreachable!()
     };
-    going.insert(number, begun)?;
+    if let Err(error) = put_in(going, number, begun) {
+        drop(response);
+        return Err(error);
+    }
     entry.number = Some(number);
-    entry.response = Some(response);
+    drop(entry.response.replace(response));
     Ok(())
 }
 
@@ -355,8 +372,21 @@ where
     let Some(entry) = keys.get_mut(&begun.delivery.key) else {
         unreachable!()
     };
-    going.insert(number, begun)?;
+    put_in(going, number, begun)?;
     entry.number = Some(number);
+    Ok(())
+}
+
+/// Puts a value into a map. Where memory is wanting, nothing changes.
+fn put_in<K: Ord + Drop, X: Drop>(
+    map: &mut BTreeMap<K, X>,
+    key: K,
+    value: X,
+) -> Result<(), AllocError>
+    ensures ok { OnOk result (map.new.entries ≡ insert_entry K.cmp map.old.entries key value) }
+    ensures err { OnErr result (map.new.entries ≡ map.old.entries) }
+{
+    map.insert(key, value)?;
     Ok(())
 }
 

@@ -1,8 +1,10 @@
 //! Fetches that wait, one for each key, and their places by key.
 
-ghost use Rattle.std.specs.Prelude.{◌≡◌, ◌≤◌, [], ◌∷◌, length, map, IfOk, OnOk, OnErr};
+ghost use Rattle.std.specs.Prelude.{◌≡◌, ◌≤◌, ◌<◌, [], ◌∷◌, ◌++◌, List, None, length, map, IfOk, OnOk, OnErr};
 ghost use Rattle.std.specs.List.{list_any};
-ghost use Rattle.std.specs.Vec.{vec_capacity};
+ghost use Rattle.std.specs.Vec.{vec_capacity, vec_len};
+ghost use Rattle.std.specs.BTreeMap.{is_at};
+ghost use Rattle.std.specs.Map.{lookup, remove_entry};
 ghost use Rattle.std.specs.Option.{option_to_list};
 ghost use Rattle.resolver_base.specs.Names.{names};
 ghost use Rattle.resolver_demand.specs.Backlog.{IsApart, item_of, kept, keys_kept, keys_of_items, merged_item, queued, queued_all, undone, undone_all};
@@ -61,14 +63,35 @@ pub(super) fn put<K: Ord + Clone + Drop, S: Ord + Clone + Drop, M: Metadata + Dr
     ensures err_places { OnErr result (places.new ≡ places.old) }
 {
     let Some(place) = places.get(&item.key) else {
-        batch.reserve(1)?;
-        places.insert(item.key.clone()?)?;
+        if let Err(error) = make_place(batch, places, &item.key) {
+            drop(item);
+            return Err(error);
+        }
         batch.push_reserved(item);
         return Ok(None);
     };
     let both = merged(alloc, &batch[place], item)?;
     let was = mem::replace(&mut batch[place], both);
     Ok(Some((place, was)))
+}
+
+/// Makes a place for a new key, and room for its fetch. Where memory is wanting, there is no place.
+fn make_place<K: Ord + Clone + Drop, S, M>(
+    batch: &mut Vec<FetchKey<K, S, M>>,
+    places: &mut Places<K>,
+    key: &K,
+) -> Result<(), AllocError>
+    requires keys_clone { (x y : K) → K.is_clone x y → y ≡ x }
+    requires absent { lookup (is_at (K.cmp key.now)) places.old ≡ None }
+    ensures same { batch.new.items ≡ batch.old.items }
+    ensures room { OnOk result (vec_len batch.new < vec_capacity batch.new) }
+    ensures placed { OnOk result ((keys : List K)
+        → IsPlaced K.cmp places.old keys → IsPlaced K.cmp places.new (keys ++ key.now ∷ [])) }
+    ensures back { OnOk result (remove_entry (is_at (K.cmp key.now)) places.new ≡ places.old) }
+    ensures err { OnErr result (places.new ≡ places.old) }
+{
+    batch.reserve(1)?;
+    places.insert(key.clone()?)
 }
 
 /// Puts some fetches into the batch, one after another. Where memory is wanting, what was put is

@@ -1,17 +1,21 @@
 use Rattle.std.proofs.Common.{◌≡◌, ◌∙◌, sym, ap, ◌∷◌, ◌++◌, [], append-nil, append_assoc, refl, map, subst}
 use Rattle.resolver_demand.specs.Rows.{AreListed}
-use Rattle.resolver_actor.specs.declared.opaque.rows.Row.{Row}
-use Rattle.resolver_actor.specs.OpaqueActor.{phase_of, rows_of}
-use Rattle.resolver_actor.specs.OpaqueListed.{listed, listed_phase}
+use Rattle.resolver_actor.specs.OpaqueActor.{row_of, rows_of}
+use Rattle.resolver_actor.specs.OpaqueListed.{listed}
 use Rattle.resolver_actor.proofs.opaque.rows.listed.Goals as goal
+
+pub row_at-requires : goal.row_at-requires
+row_at-requires g c = record {
+  keys_clone = c.requires.keys_clone;
+  subscribers_clone = c.requires.subscribers_clone;
+  some = (subst (AreListed g.S.Ord.cmp) c.in-Some.ensures.steps c.loop-key.invariant.some).0.some;
+}
 
 pub loop-key-preserved : goal.loop-key-preserved
 loop-key-preserved g c =
     let so_far = c.loop-key.list.items in
-    let shown : Row _ _ = record { key = c.in-Some.key.now; subscribers = c.in-Some.subscribers.now; phase = listed_phase (phase_of c.in-Some-next.entry.now) } in
-    let subscribers = c.in-Ok.ensures.ok ∙ c.in_ok-subscribers.ensures in
-    let pushed : c.push.new.self.items ≡ so_far ++ shown ∷ [] =
-    rw (c.in_ok-push.ensures.items, c.requires.keys_clone _ _ c.in_ok-clone.ensures.cases, subscribers, c.listed_phase.ensures) refl in
+    let shown = listed (c.in-Some.key.now, row_of (c.in-Some.subscribers.now, c.in-Some-next.entry.now)) in
+    let pushed : c.push.new.self.items ≡ so_far ++ shown ∷ [] = c.in_ok-push.ensures.items ∙ ap (λ row. so_far ++ row ∷ []) c.in_ok-row_at.ensures in
     record {
       made =
           rw (pushed, append_assoc)

@@ -1,4 +1,4 @@
-use Rattle.std.proofs.Common.{◌≡◌, ap, rules, None, Some, ◌∷◌, ◌++◌, []}
+use Rattle.std.proofs.Common.{◌≡◌, ap, refl, rules, None, Some, ◌∷◌, ◌++◌, []}
 use Rattle.std.specs.List.{position}
 use Rattle.std.specs.Map.{lookup}
 use Rattle.std.specs.BTreeMap.{is_at}
@@ -9,12 +9,6 @@ use Rattle.resolver_demand.proofs.Queue.{keys-present, keys-pushed, queued-absen
 use Rattle.resolver_demand.proofs.ingress.batch.put.Goals as goal
 
 -- a new key
-
-pub insert-requires : goal.insert-requires
-insert-requires g c =
-    let key : c.in_ok-clone.field-0 ≡ c.args.item.key = c.requires.keys_clone c.args.item.key c.in_ok-clone.field-0 (search rules) in
-    let absent : lookup (is_at (g.K.Ord.cmp c.args.item.key)) c.args.places.now ≡ None = search rules in
-    record { absent = rw key absent }
 
 pub returns-in_default-clause-ok : goal.returns-in_default-clause-ok
 returns-in_default-clause-ok g c =
@@ -30,18 +24,16 @@ returns-in_default-clause-undone g c =
 
 pub returns-in_default-clause-placed : goal.returns-in_default-clause-placed
 returns-in_default-clause-placed g c =
-    let key : c.in_ok-clone.field-0 ≡ c.args.item.key = c.requires.keys_clone c.args.item.key c.in_ok-clone.field-0 (search rules) in
     let pushed : c.push_reserved.new.self.items ≡ c.args.batch.now.items ++ c.args.item ∷ [] = search rules in
-    rw (keys-pushed c.args.batch.now.items c.push_reserved.new.self.items c.args.item c.in_ok-clone.field-0 pushed key)
-    (c.in_ok-insert.ensures.placed (keys_of_items c.args.batch.now.items) c.requires.placed)
+    rw (keys-pushed c.args.batch.now.items c.push_reserved.new.self.items c.args.item c.args.item.key pushed refl)
+    (c.in_default-make_place.ensures.placed (keys_of_items c.args.batch.now.items) c.requires.placed)
 
 pub returns-in_default-clause-grows : goal.returns-in_default-clause-grows
 returns-in_default-clause-grows g c =
-    let key : c.in_ok-clone.field-0 ≡ c.args.item.key = c.requires.keys_clone c.args.item.key c.in_ok-clone.field-0 (search rules) in
     let pushed : c.push_reserved.new.self.items ≡ c.args.batch.now.items ++ c.args.item ∷ [] = search rules in (
-      c.in_ok-clone.field-0 ∷ [],
-      keys-pushed c.args.batch.now.items c.push_reserved.new.self.items c.args.item c.in_ok-clone.field-0 pushed key,
-      c.in_ok-insert.ensures.back,
+      c.args.item.key ∷ [],
+      keys-pushed c.args.batch.now.items c.push_reserved.new.self.items c.args.item c.args.item.key pushed refl,
+      c.in_default-make_place.ensures.back,
     )
 
 -- a key that is there

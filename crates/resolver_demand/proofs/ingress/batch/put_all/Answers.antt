@@ -21,11 +21,12 @@ loop-item-init g c = record {
 pub loop-item-preserved : goal.loop-item-preserved
 loop-item-preserved g c =
     let before = c.loop-item.invariant in
-    let left : into_iter_items c.loop-item.item-iterator ≡ c.in-Some.item ∷ into_iter_items c.next.new.self = search rules in
-    let pushed : c.push_reserved.new.self.items ≡ c.loop-item.changes.items ++ c.in-Ok.change ∷ [] = search rules in
+    let left : into_iter_items c.loop-item.item-iterator ≡ c.in-Some.item ∷ into_iter_items c.next.new.self = c.in-Some.ensures.steps.0 in
+    let pushed : c.push_reserved.new.self.items ≡ c.loop-item.changes.items ++ c.in-Ok.change ∷ [] = c.push_reserved.ensures.items in
     let put-it = c.in-Ok.ensures.ok in
+    let one-less = ap length left in
     record {
-      room = search rules;
+      room = omega (arith, one-less, before.room, c.push_reserved.ensures.len, c.push_reserved.ensures.capacity);
       makes = rw put-it (ap (λ items. queued_all (names g.K.Ord.cmp g.S.Ord.cmp) g.M.Metadata.merged (map item_of c.loop-item.batch.items) (map item_of items)) (sym left) ∙ before.makes);
       back = rw pushed (undone_all-push c.loop-item.changes.items c.in-Ok.change c.put.new.batch.items ∙ ap (undone_all c.loop-item.changes.items) c.in-Ok.ensures.undone ∙ before.back);
       placed = c.in-Ok.ensures.placed;
@@ -33,6 +34,14 @@ loop-item-preserved g c =
           c.args.places.now c.loop-item.places c.put.new.places before.grown c.in-Ok.ensures.grows;
       counted = before.counted;
     }
+
+pub push_reserved-requires : goal.push_reserved-requires
+push_reserved-requires g c =
+    let one-less = ap length c.in-Some.ensures.steps.0 in
+    omega (arith, one-less, c.loop-item.invariant.room)
+
+pub returns-in-Err-clause-err : goal.returns-in-Err-clause-err
+returns-in-Err-clause-err g c = c.take_back.ensures ∙ ap (undone_all c.loop-item.changes.items) c.in-Err.ensures.err ∙ c.loop-item.invariant.back
 
 pub split_at-requires : goal.split_at-requires
 split_at-requires g c =

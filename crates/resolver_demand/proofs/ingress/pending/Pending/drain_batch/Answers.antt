@@ -18,13 +18,13 @@ invariant_of-self-in-Some g c =
     (c.in-Some.ensures.same ∙ ap (λ batch. map item_of batch.items) c.replace-batch.ensures.value) c.self.invariant
 
 pub invariant_of-self : goal.invariant_of-self
-invariant_of-self g c = filed-none (names g.K.Ord.cmp g.S.Ord.cmp) _ _ (search rules) (search rules)
+invariant_of-self g c = filed-none (names g.K.Ord.cmp g.S.Ord.cmp) _ _ c.clear.ensures (ap (λ batch. batch.items) c.replace-batch.ensures.after ∙ c.new.ensures.items)
 
 pub returns-in-None-clause-drains : goal.returns-in-None-clause-drains
 returns-in-None-clause-drains g c =
     let was : c.args.self.now.batch ≡ map item_of c.self.inside.batch.items = ap (λ backlog. backlog.batch) (sym c.self.view_is) in
     let some : 0 < length c.self.inside.batch.items = search rules in
-    let none : c.replace-batch.new.dest.items ≡ [] = search rules in
+    let none : c.replace-batch.new.dest.items ≡ [] = ap (λ batch. batch.items) c.replace-batch.ensures.after ∙ c.new.ensures.items in
     subst (λ (left : List (FetchKey g.row.K.Denot g.row.S.Denot g.row.M.Denot)). Drains (goal.F-step g) c.args.push.now (batch_told c.args.self.now.batch) (batch_told (map item_of left))) (sym none)
     (drains-batch (goal.F-step g) c.args.push.now c.offer_batch.new.push c.args.self.now.batch c.self.inside.batch.items (messages.Fetch c.replace-batch.result) was
     (ap (λ batch. told_of (messages.Fetch batch)) c.replace-batch.ensures.value) some c.in-None.ensures.step)

@@ -1,9 +1,13 @@
-use Rattle.std.proofs.Common.{◌≡◌, ◌∙◌, ap, rules, ◌∷◌, ◌++◌, [], map}
+use Rattle.std.proofs.Common.{◌≡◌, ◌∙◌, ap, rules, List, ◌∷◌, ◌++◌, [], map}
 use Rattle.resolver_base.specs.Names.{names}
-use Rattle.resolver_demand.specs.Backlog.{backlog_of, item_of, kept, keys_kept, keys_of_items}
+use Rattle.resolver_demand.specs.Backlog.{Backlog, Item, backlog_of, item_of, kept, keys_kept, keys_of_items}
 use Rattle.resolver_demand.proofs.Pruned.{apart-kept, keys-of-items}
 use Rattle.resolver_demand.proofs.Right.{flips-by, follows-by, right-retain}
 use Rattle.resolver_demand.proofs.ingress.pending.Pending.retain.Goals as goal
+
+same_backlog : {K S M Q : Type 0} (r s : List Q) (b d : List (Item K S M)) → r ≡ s → b ≡ d
+    → ◌≡◌ {A = Backlog K S M Q} (record { retains = r; batch = b }) (record { retains = s; batch = d })
+same_backlog r s b d retains batch = λ i. record { retains = retains i; batch = batch i }
 
 pub invariant_of-self-2 : goal.invariant_of-self-2
 invariant_of-self-2 g c =
@@ -28,3 +32,10 @@ returns-clause-right g c =
     let pruned : map item_of c.prune_all.result.items ≡ kept (g.Q.Predicate.keeps c.args.keep) (map item_of c.self.inside.batch.items) = search rules in
     let retains : c.push_back_reserved.new.self.items ≡ c.self.inside.retains.items ++ c.args.keep ∷ [] = search rules in
     λ d k s. rw (← c.self.view_is, retains, pruned) (right d k s)
+
+pub returns-clause-ok : goal.returns-clause-ok
+returns-clause-ok g c =
+    let retains : c.push_back_reserved.new.self.items ≡ c.self.inside.retains.items ++ c.args.keep ∷ [] = c.push_back_reserved.ensures.items ∙ ap (λ items. items ++ c.args.keep ∷ []) c.reserve.ensures.items in
+    let pruned : map item_of c.prune_all.result.items ≡ kept (g.Q.Predicate.keeps c.args.keep) (map item_of c.self.inside.batch.items) =
+    c.prune_all.ensures ∙ ap (λ batch. kept (g.Q.Predicate.keeps c.args.keep) (map item_of batch.items)) c.replace-batch.ensures.value in
+    rw (← c.self.view_is) (same_backlog _ _ _ _ retains pruned)
