@@ -1,4 +1,7 @@
-use Rattle.std.proofs.Common.{◌∙◌, ap, sym, refl, rules}
+use Rattle.std.proofs.Common.{◌≡◌, ◌∙◌, ℕ, List, ◌∷◌, ◌++◌, [], ap, sym, refl, rules}
+use Rattle.resolver_base.specs.declared.root.Delivery.{Delivery}
+use Rattle.resolver_actor.specs.declared.opaque.actor.Effect.{Effect}
+use Rattle.resolver_actor.specs.declared.opaque.actor.Effect.TheVariants.{Deliver}
 use Rattle.resolver_base.specs.Names.{names}
 use Rattle.resolver_actor.specs.OpaqueActor.{status_of}
 use Rattle.resolver_actor.proofs.Going.{hand_out_goes, agree-delivered, asked-idle, asked-stage, at-idle, idle-asked, idle-tracked, idle-free_number, asked-none}
@@ -36,6 +39,10 @@ invariant_of-self-2 g c = record {
   agree = agree-delivered (names g.K.Ord.cmp g.S.Ord.cmp) c.self.inside.demand c.self.inside.stages.entries c.self.invariant.agree c.self.inside.stages.next_attempt c.self.inside.delay (status_of c.self.inside.status) c.args.key c.in-Some.subscribers c.in_ok-copy.copy c.deliver.new.self.entries (ap (λ s. s.entries) c.in_ok-number.ensures.ok);
 }
 
+told-is : {K V S : Type 0} (before after : List (Effect K V S)) (number : ℕ) (told delivery : Delivery K S) (value : V)
+    → after ≡ before ++ Deliver number number told value ∷ [] → told ≡ delivery → after ≡ before ++ Deliver number number delivery value ∷ []
+told-is before after number told delivery value put same = put ∙ ap (λ one. before ++ Deliver number number one value ∷ []) same
+
 pub returns : goal.returns
 returns g c =
     let idle = asked-idle _ (rw (← c.self.view_is) at c.requires.asked) in
@@ -44,4 +51,5 @@ returns g c =
     rw (← c.self.view_is, ap (λ s. s.next_attempt) c.in_ok-number.ensures.ok)
     (at-idle _ _ idle (λ row found waits.
     hand_out_goes (names g.K.Ord.cmp g.S.Ord.cmp) c.self.inside.demand c.self.inside.stages.entries c.self.invariant.agree c.self.inside.stages.next_attempt c.self.inside.delay (status_of c.self.inside.status) c.args.key row c.in-Some.subscribers c.args.value c.args.effects.now.items c.push.new.self.items c.deliver.new.self.entries c.in_ok-number.number
-    found wanted c.in_ok-number.ensures.number (search rules) put (search rules)))
+    found wanted c.in_ok-number.ensures.number (search rules) put
+    (told-is _ _ _ _ _ _ c.in_ok-push.ensures.items c.in_ok-told.ensures.same)))
