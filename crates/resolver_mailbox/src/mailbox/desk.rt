@@ -2,12 +2,14 @@
 
 ghost use Rattle.std.specs.Prelude.{◌≡◌, ◌≤◌, ◌<◌, ◌∷◌, ◌++◌, ◌↔◌, [], map, take, nat_lt, None, Some, is_some, true, false, IsTrue, IfOk, IfErr, OnOk, OnErr, MatchOption, ◌≢◌, ◌+◌, ◌^◌, if◌then◌else◌, length};
 ghost use Rattle.std.specs.Option.{ForSome, option_copied, option_map};
+ghost use Rattle.std.specs.Vec.{vec_len, vec_capacity};
 ghost use Rattle.std.specs.VecDeque.{deque_capacity};
 ghost use Rattle.resolver_base.specs.declared.base.fault.Fault.TheVariants.{Exhausted, OutOfMemory};
 ghost use Rattle.resolver_base.specs.Names.{names};
 ghost use Rattle.resolver_demand.specs.Backlog.{IsRight, behind_first, handled, told_of, waiting};
 ghost use Rattle.resolver_mailbox.specs.Book.{Close, Take, call_of, closes};
-ghost use Rattle.resolver_mailbox.specs.Desk.{IsKept, IsOver, answered, book_of, calls_of, desk_closed, desk_put, desk_taken, empty_book, empty_desk, feedback_of, has_room, with_call};
+ghost use Rattle.resolver_mailbox.specs.Desk.{IsKept, IsOver, answered, book_of, calls_of, desk_closed, desk_put, desk_taken, empty_book, empty_desk, feedback_of, has_room, next_of, number_of, with_call};
+ghost use Rattle.indexmap.specs.IndexMap.{spare};
 
 use crate::mailbox::book::Book;
 use crate::mailbox::entry::Entry;
@@ -113,16 +115,27 @@ impl<
             → ForSome self.old.book (λ book. book.next_handle + 1 < 2 ^ 64)) }
     {
         if self.is_closed {
+            drop(message);
             return Ok((Feedback::Closed, handle));
         }
         let Some(book) = &mut self.book else {
             let is_ok = place(&mut self.ready, &mut self.pending, self.capacity, message)?;
             return Ok((feedback(is_ok), None));
         };
-        let (number, next) = book.number(handle)?;
-        let copy = message.copy(self.alloc)?;
-        book.reserve()?;
-        let is_ok = place(&mut self.ready, &mut self.pending, self.capacity, message)?;
+        let (number, next, copy) = match prepare(book, handle, &message, self.alloc) {
+            Ok(prepared) => prepared,
+            Err(fault) => {
+                drop(message);
+                return Err(fault);
+            }
+        };
+        let is_ok = match place(&mut self.ready, &mut self.pending, self.capacity, message) {
+            Ok(is_ok) => is_ok,
+            Err(fault) => {
+                drop(copy);
+                return Err(fault);
+            }
+        };
         book.put(number, next, copy, is_ok);
         Ok((feedback(is_ok), Some(number)))
     }
@@ -194,6 +207,33 @@ impl<
         note_close(&mut self.book);
         self.is_closed = true;
     }
+}
+
+/// What a put by this handle needs of its book: the number of the handle, that of the next one, a
+/// copy of the message, and room for it and for a close behind it. The calls stay the same.
+fn prepare<K: Clone + Drop, S: Clone + Drop, M: Metadata + Drop, Q: Clone + Drop>(
+    book: &mut Book<K, S, M, Q>,
+    handle: Option<u64>,
+    message: &Message<K, S, M, Q>,
+    alloc: Global,
+) -> Result<(u64, u64, Message<K, S, M, Q>), Fault>
+    requires keys_clone { (x y : K) → K.is_clone x y → y ≡ x }
+    requires subscribers_clone { (x y : S) → S.is_clone x y → y ≡ x }
+    requires tests_clone { (x y : Q) → Q.is_clone x y → y ≡ x }
+    ensures same { book_of book.new ≡ book_of book.old }
+    ensures calls { OnOk result (vec_len book.new.calls + 2 ≤ vec_capacity book.new.calls) }
+    ensures counts { OnOk result (1 ≤ spare book.new.counts) }
+    ensures number { IfOk result (λ ready. ready.0 ≡ number_of handle (book_of book.old)) }
+    ensures next { IfOk result (λ ready. ready.1 ≡ next_of handle (book_of book.old)) }
+    ensures copy { IfOk result (λ ready. told_of ready.2 ≡ told_of message.now) }
+    ensures only { IfErr result (λ fault. fault ≢ OutOfMemory → fault ≡ Exhausted) }
+    ensures exhausted { IfErr result (λ fault. fault ≡ Exhausted
+        → (handle ≡ None) × (book.old.next_handle + 1 ≡ 2 ^ 64)) }
+{
+    let (number, next) = book.number(handle)?;
+    book.reserve()?;
+    let copy = message.copy(alloc)?;
+    Ok((number, next, copy))
 }
 
 /// Books a take of this message, where there is a book. Where memory is wanting, nothing changes.

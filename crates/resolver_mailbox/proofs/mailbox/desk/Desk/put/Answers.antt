@@ -15,14 +15,14 @@ invariant_of-self-2 g c =
     let merged = g.M.Metadata.merged in
     let desk = c.self.inside in
     let told = told_of c.args.message in
-    let is_ok = c.in_ok-is_ok-2.is_ok in
-    let placed = c.in_ok-is_ok-2.ensures in
+    let is_ok = c.in-Ok-place.is_ok in
+    let placed = c.in-Ok-place.ensures in
     let found : c.self.inside.book ≡ Some c.in-Some.book = search rules in
     let was : IsKept n keeps (desk_of desk.capacity desk.ready.items desk.pending false (Some c.in-Some.book)) =
     subst (λ (book : Option (Raw g.row.K.Denot g.row.S.Denot g.row.M.Denot g.row.Q.Denot)). IsKept n keeps (desk_of desk.capacity desk.ready.items desk.pending false book)) found
     (subst (λ (t : Bool). IsKept n keeps (desk_of desk.capacity desk.ready.items desk.pending t desk.book)) c.if-self.false c.self.invariant.1) in
     let noted : book_of c.put.new.self ≡ with_put c.args.handle told is_ok (book_of c.in-Some.book) =
-    c.put.ensures ∙ (λ i. with_put_of (c.in_ok-number.ensures.number i) (c.in_ok-number.ensures.next i) (c.in_ok-copy.ensures i) is_ok (c.in_ok-reserve.ensures.same i)) in
+    c.put.ensures ∙ (λ i. with_put_of (c.in-Ok.ensures.number i) (c.in-Ok.ensures.next i) (c.in-Ok.ensures.copy i) is_ok (c.in-Ok.ensures.same i)) in
     let right : has_room (desk_of desk.capacity desk.ready.items desk.pending false (Some c.in-Some.book)) ≡ false → IsRight n keeps (waiting desk.pending ++ told ∷ []) (waiting (handled n merged keeps desk.pending told)) =
     λ room.
     let off : is_ok ≡ false = placed.is_ok ∙ ap (λ (l : ℕ). nat_lt l desk.capacity) (sym (length-map desk.ready.items told_of)) ∙ room in
