@@ -164,6 +164,7 @@ impl<
     {
         let share = &mut seat.share;
         if self.desk.is_closed() {
+            drop(message);
             if let Some(share) = share {
                 share.mark();
             }
@@ -183,7 +184,7 @@ impl<
             &mut totals.spare,
             message,
         )?;
-        *share = Some(first);
+        drop(share.replace(first));
         Ok(feedback)
     }
 

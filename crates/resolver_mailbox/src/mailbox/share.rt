@@ -105,7 +105,7 @@ impl<
         ensures err_total { OnErr result (total.new.total ≡ total.old.total) }
         ensures only { IfErr result (λ fault. fault ≡ OutOfMemory) }
     {
-        let copy = match copied(alloc, &mut self.puts, &message) {
+        let copy = match ready_copy(alloc, &mut self.puts, &message) {
             Ok(copy) => copy,
             Err(failed) => {
                 drop(message);
@@ -179,8 +179,13 @@ impl<
     }
 }
 
-/// A copy of the message, and room for it in this list.
-fn copied<K: Faithful + Drop, S: Faithful + Drop, M: Metadata + Drop, Q: Faithful + Drop>(
+/// A copy of the message, for which this list then has room.
+pub(super) fn ready_copy<
+    K: Faithful + Drop,
+    S: Faithful + Drop,
+    M: Metadata + Drop,
+    Q: Faithful + Drop,
+>(
     alloc: Global,
     puts: &mut Vec<Message<K, S, M, Q>>,
     message: &Message<K, S, M, Q>,
