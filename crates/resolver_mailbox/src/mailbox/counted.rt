@@ -177,15 +177,19 @@ impl<
         if let Some(share) = share {
             return share.put(alloc, &mut self.desk, &mut totals.puts, message);
         }
-        let (feedback, first) = Share::first(
+        match Share::first(
             alloc,
             &mut self.desk,
             &mut totals.puts,
             &mut totals.spare,
             message,
-        )?;
-        drop(share.replace(first));
-        Ok(feedback)
+        ) {
+            Ok((feedback, first)) => {
+                keep(share, first);
+                Ok(feedback)
+            }
+            Err(fault) => Err(fault),
+        }
     }
 
     /// Takes a message, and keeps a copy in the receiver's list where the mailbox is recorded.
@@ -237,4 +241,11 @@ impl<
     {
         self.desk.is_over()
     }
+}
+
+/// Keeps a value in this place. What was there is dropped.
+fn keep<T: Drop>(place: &mut Option<T>, value: T)
+    ensures { place.new ≡ Some value }
+{
+    drop(place.replace(value));
 }
