@@ -1,6 +1,6 @@
 //! What lies under a mailbox's lock.
 
-ghost use Rattle.std.specs.Prelude.{◌≡◌, ◌≢◌, ◌<◌, ◌↔◌, ◌++◌, [], false, true, is_some, map, None, Some, IsTrue, IfOk, IfErr, OnOk, OnErr};
+ghost use Rattle.std.specs.Prelude.{◌≡◌, ◌≢◌, ◌<◌, ◌↔◌, ◌++◌, [], false, true, is_some, map, None, Some, Ok, Err, IsTrue, IfOk, IfErr, OnOk, OnErr};
 ghost use Rattle.std.specs.Option.{ForSome, option_copied, option_map, option_to_list};
 ghost use Rattle.resolver_base.specs.declared.base.fault.Fault.TheVariants.{Exhausted, OutOfMemory};
 ghost use Rattle.resolver_base.specs.declared.base.feedback.Feedback.TheVariants.{Closed};
@@ -177,19 +177,14 @@ impl<
         if let Some(share) = share {
             return share.put(alloc, &mut self.desk, &mut totals.puts, message);
         }
-        match Share::first(
+        let first = Share::first(
             alloc,
             &mut self.desk,
             &mut totals.puts,
             &mut totals.spare,
             message,
-        ) {
-            Ok((feedback, first)) => {
-                keep(share, first);
-                Ok(feedback)
-            }
-            Err(fault) => Err(fault),
-        }
+        );
+        keep(share, first)
     }
 
     /// Takes a message, and keeps a copy in the receiver's list where the mailbox is recorded.
@@ -243,9 +238,17 @@ impl<
     }
 }
 
-/// Keeps a value in this place. What was there is dropped.
-fn keep<T: Drop>(place: &mut Option<T>, value: T)
-    ensures { place.new ≡ Some value }
+/// Keeps what came with an answer in this place. What was there is dropped.
+fn keep<T: Drop>(
+    place: &mut Option<T>,
+    made: Result<(Feedback, T), Fault>,
+) -> Result<Feedback, Fault>
+    ensures feedback { IfOk made (λ made. result ≡ Ok made.0) }
+    ensures kept { IfOk made (λ made. place.new ≡ Some made.1) }
+    ensures err { IfErr made (λ fault. result ≡ Err fault) }
+    ensures same { OnErr made (place.new ≡ place.old) }
 {
+    let (feedback, value) = made?;
     drop(place.replace(value));
+    Ok(feedback)
 }
