@@ -3,7 +3,7 @@ use Rattle.std.specs.Option.{ForSome}
 use Rattle.std.proofs.lemmas.List.{length-map}
 use Rattle.resolver_base.specs.Names.{names}
 use Rattle.resolver_demand.specs.Backlog.{Backlog, IsRight, handled, told_of, waiting}
-use Rattle.resolver_mailbox.specs.Desk.{Desk, IsKept, desk_of, has_room}
+use Rattle.resolver_mailbox.specs.Desk.{Desk, IsKept, desk_of, desk_put, has_room}
 use Rattle.resolver_demand.proofs.Right.{follows-by}
 use Rattle.resolver_mailbox.proofs.Desks.{kept-put, put-is}
 use Rattle.resolver_mailbox.proofs.mailbox.desk.Desk.put.Goals as goal
@@ -37,3 +37,17 @@ invariant_of-self-2 g c =
 pub returns-clause-numbers : goal.returns-clause-numbers
 returns-clause-numbers g c unclosed new =
     subst (λ (desk : Desk g.row.K.Denot g.row.S.Denot g.row.M.Denot g.row.Q.Denot). ForSome desk.book (λ book. book.next_handle + 1 < 2 ^ 64)) c.self.view_is (c.in_ok-is_ok.ensures.numbers new)
+
+pub returns-clause-ok : goal.returns-clause-ok
+returns-clause-ok g c =
+    let n = names g.K.Ord.cmp g.S.Ord.cmp in
+    let keeps = g.Q.Predicate.keeps in
+    let merged = g.M.Metadata.merged in
+    let desk = c.self.inside in
+    let told = told_of c.args.message in
+    let posted = c.in_ok-is_ok.ensures in
+    ap (λ (t : Bool). desk_of desk.capacity c.post.new.ready.items c.post.new.pending t c.post.new.book) c.if-self.false
+    ∙ put-is n merged keeps desk.capacity desk.ready.items c.post.new.ready.items desk.pending c.post.new.pending desk.book c.post.new.book c.args.handle told c.in_ok-is_ok.is_ok
+    posted.is_ok posted.ready posted.pending posted.book
+    ∙ ap (λ (t : Bool). desk_put n merged keeps c.args.handle told (desk_of desk.capacity desk.ready.items desk.pending t desk.book)) (sym c.if-self.false)
+    ∙ ap (desk_put n merged keeps c.args.handle told) c.self.view_is
