@@ -1,6 +1,6 @@
 //! What lies under a mailbox's lock.
 
-ghost use Rattle.std.specs.Prelude.{◌≡◌, ◌≢◌, ◌<◌, ◌↔◌, ◌++◌, [], false, true, is_some, map, None, Some, IsTrue, IfOk, IfErr, OnOk, OnErr};
+ghost use Rattle.std.specs.Prelude.{◌≡◌, ◌≢◌, ◌<◌, ◌↔◌, ◌++◌, [], false, true, is_some, map, None, Some, Ok, Err, IsTrue, IfOk, IfErr, OnOk, OnErr};
 ghost use Rattle.std.specs.Option.{ForSome, option_copied, option_map, option_to_list};
 ghost use Rattle.resolver_base.specs.declared.base.fault.Fault.TheVariants.{Exhausted, OutOfMemory};
 ghost use Rattle.resolver_base.specs.declared.base.feedback.Feedback.TheVariants.{Closed};
@@ -164,6 +164,7 @@ impl<
     {
         let share = &mut seat.share;
         if self.desk.is_closed() {
+            drop(message);
             if let Some(share) = share {
                 share.mark();
             }
@@ -176,15 +177,14 @@ impl<
         if let Some(share) = share {
             return share.put(alloc, &mut self.desk, &mut totals.puts, message);
         }
-        let (feedback, first) = Share::first(
+        let first = Share::first(
             alloc,
             &mut self.desk,
             &mut totals.puts,
             &mut totals.spare,
             message,
-        )?;
-        *share = Some(first);
-        Ok(feedback)
+        );
+        keep(share, first)
     }
 
     /// Takes a message, and keeps a copy in the receiver's list where the mailbox is recorded.
@@ -236,4 +236,19 @@ impl<
     {
         self.desk.is_over()
     }
+}
+
+/// Keeps what came with an answer in this place. What was there is dropped.
+fn keep<T: Drop>(
+    place: &mut Option<T>,
+    made: Result<(Feedback, T), Fault>,
+) -> Result<Feedback, Fault>
+    ensures feedback { IfOk made (λ made. result ≡ Ok made.0) }
+    ensures kept { IfOk made (λ made. place.new ≡ Some made.1) }
+    ensures err { IfErr made (λ fault. result ≡ Err fault) }
+    ensures same { OnErr made (place.new ≡ place.old) }
+{
+    let (feedback, value) = made?;
+    drop(place.replace(value));
+    Ok(feedback)
 }

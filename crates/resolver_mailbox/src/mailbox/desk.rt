@@ -2,12 +2,14 @@
 
 ghost use Rattle.std.specs.Prelude.{◌≡◌, ◌≤◌, ◌<◌, ◌∷◌, ◌++◌, ◌↔◌, [], map, take, nat_lt, None, Some, is_some, true, false, IsTrue, IfOk, IfErr, OnOk, OnErr, MatchOption, ◌≢◌, ◌+◌, ◌^◌, if◌then◌else◌, length};
 ghost use Rattle.std.specs.Option.{ForSome, option_copied, option_map};
+ghost use Rattle.std.specs.Vec.{vec_len, vec_capacity};
 ghost use Rattle.std.specs.VecDeque.{deque_capacity};
 ghost use Rattle.resolver_base.specs.declared.base.fault.Fault.TheVariants.{Exhausted, OutOfMemory};
 ghost use Rattle.resolver_base.specs.Names.{names};
 ghost use Rattle.resolver_demand.specs.Backlog.{IsRight, behind_first, handled, told_of, waiting};
 ghost use Rattle.resolver_mailbox.specs.Book.{Close, Take, call_of, closes};
-ghost use Rattle.resolver_mailbox.specs.Desk.{IsKept, IsOver, answered, book_of, calls_of, desk_closed, desk_put, desk_taken, empty_book, empty_desk, feedback_of, has_room, with_call};
+ghost use Rattle.resolver_mailbox.specs.Desk.{IsKept, IsOver, answered, book_of, calls_of, desk_closed, desk_put, desk_taken, empty_book, empty_desk, feedback_of, has_room, next_of, number_of, with_call, with_put};
+ghost use Rattle.indexmap.specs.IndexMap.{spare};
 
 use crate::mailbox::book::Book;
 use crate::mailbox::entry::Entry;
@@ -113,18 +115,19 @@ impl<
             → ForSome self.old.book (λ book. book.next_handle + 1 < 2 ^ 64)) }
     {
         if self.is_closed {
+            drop(message);
             return Ok((Feedback::Closed, handle));
         }
-        let Some(book) = &mut self.book else {
-            let is_ok = place(&mut self.ready, &mut self.pending, self.capacity, message)?;
-            return Ok((feedback(is_ok), None));
-        };
-        let (number, next) = book.number(handle)?;
-        let copy = message.copy(self.alloc)?;
-        book.reserve()?;
-        let is_ok = place(&mut self.ready, &mut self.pending, self.capacity, message)?;
-        book.put(number, next, copy, is_ok);
-        Ok((feedback(is_ok), Some(number)))
+        let (is_ok, number) = post(
+            &mut self.book,
+            &mut self.ready,
+            &mut self.pending,
+            self.capacity,
+            self.alloc,
+            handle,
+            message,
+        )?;
+        Ok((feedback(is_ok), number))
     }
 
     /// The message that a take would give.
@@ -194,6 +197,98 @@ impl<
         note_close(&mut self.book);
         self.is_closed = true;
     }
+}
+
+/// Places a message, and books its put by this handle where there is a book. Says whether the ready
+/// list had room, and the number of the handle. Where memory or a number is wanting, nothing changes.
+fn post<
+    K: Ord + Hash + Clone + Drop,
+    S: Ord + Clone + Drop,
+    M: Metadata + Drop,
+    Q: Predicate<K, S> + Clone + Drop,
+>(
+    book: &mut Option<Book<K, S, M, Q>>,
+    ready: &mut VecDeque<Message<K, S, M, Q>>,
+    pending: &mut Pending<K, S, M, Q>,
+    capacity: usize,
+    alloc: Global,
+    handle: Option<u64>,
+    message: Message<K, S, M, Q>,
+) -> Result<(bool, Option<u64>), Fault>
+    requires keys_clone { (x y : K) → K.is_clone x y → y ≡ x }
+    requires subscribers_clone { (x y : S) → S.is_clone x y → y ≡ x }
+    requires tests_clone { (x y : Q) → Q.is_clone x y → y ≡ x }
+    requires room { capacity ≤ deque_capacity ready.old }
+    ensures is_ok { IfOk result (λ posted. posted.0 ≡ nat_lt (length ready.old.items) capacity) }
+    ensures number { IfOk result (λ posted. posted.1
+        ≡ option_map (number_of handle) (option_map book_of book.old)) }
+    ensures ready { IfOk result (λ posted. map told_of ready.new.items
+        ≡ (if posted.0 then map told_of ready.old.items ++ told_of message ∷ []
+        else map told_of ready.old.items)) }
+    ensures pending { IfOk result (λ posted. pending.new ≡ (if posted.0 then pending.old
+        else handled (names K.cmp S.cmp) M.merged Q.keeps pending.old (told_of message))) }
+    ensures right { IfOk result (λ posted. posted.0 ≡ false → IsRight (names K.cmp S.cmp) Q.keeps
+        (waiting pending.old ++ told_of message ∷ []) (waiting pending.new)) }
+    ensures book { IfOk result (λ posted. option_map book_of book.new
+        ≡ option_map (with_put handle (told_of message) posted.0) (option_map book_of book.old)) }
+    ensures capacity { deque_capacity ready.new ≡ deque_capacity ready.old }
+    ensures err { OnErr result ((map told_of ready.new.items ≡ map told_of ready.old.items)
+        × (pending.new ≡ pending.old) × (option_map book_of book.new ≡ option_map book_of book.old)) }
+    ensures full { OnErr result (nat_lt (length (map told_of ready.old.items)) capacity ≡ true
+        → is_some book.old ≡ true) }
+    ensures only { IfErr result (λ fault. fault ≢ OutOfMemory → fault ≡ Exhausted) }
+    ensures exhausted { IfErr result (λ fault. fault ≡ Exhausted → (handle ≡ None)
+        × MatchOption book.old ⊥ (λ book. book.next_handle + 1 ≡ 2 ^ 64)) }
+    ensures numbers { OnOk result (handle ≡ None
+        → ForSome (option_map book_of book.old) (λ book. book.next_handle + 1 < 2 ^ 64)) }
+{
+    let Some(book) = book else {
+        let is_ok = place(ready, pending, capacity, message)?;
+        return Ok((is_ok, None));
+    };
+    let (number, next, copy) = match prepare(book, handle, &message, alloc) {
+        Ok(prepared) => prepared,
+        Err(fault) => {
+            drop(message);
+            return Err(fault);
+        }
+    };
+    let is_ok = match place(ready, pending, capacity, message) {
+        Ok(is_ok) => is_ok,
+        Err(fault) => {
+            drop(copy);
+            return Err(fault);
+        }
+    };
+    book.put(number, next, copy, is_ok);
+    Ok((is_ok, Some(number)))
+}
+
+/// What a put by this handle needs of its book: the number of the handle, that of the next one, a
+/// copy of the message, and room for it and for a close behind it. The calls stay the same.
+fn prepare<K: Clone + Drop, S: Clone + Drop, M: Metadata + Drop, Q: Clone + Drop>(
+    book: &mut Book<K, S, M, Q>,
+    handle: Option<u64>,
+    message: &Message<K, S, M, Q>,
+    alloc: Global,
+) -> Result<(u64, u64, Message<K, S, M, Q>), Fault>
+    requires keys_clone { (x y : K) → K.is_clone x y → y ≡ x }
+    requires subscribers_clone { (x y : S) → S.is_clone x y → y ≡ x }
+    requires tests_clone { (x y : Q) → Q.is_clone x y → y ≡ x }
+    ensures same { book_of book.new ≡ book_of book.old }
+    ensures calls { OnOk result (vec_len book.new.calls + 2 ≤ vec_capacity book.new.calls) }
+    ensures counts { OnOk result (1 ≤ spare book.new.counts) }
+    ensures number { IfOk result (λ ready. ready.0 ≡ number_of handle (book_of book.old)) }
+    ensures next { IfOk result (λ ready. ready.1 ≡ next_of handle (book_of book.old)) }
+    ensures copy { IfOk result (λ ready. told_of ready.2 ≡ told_of message.now) }
+    ensures only { IfErr result (λ fault. fault ≢ OutOfMemory → fault ≡ Exhausted) }
+    ensures exhausted { IfErr result (λ fault. fault ≡ Exhausted
+        → (handle ≡ None) × (book.old.next_handle + 1 ≡ 2 ^ 64)) }
+{
+    let (number, next) = book.number(handle)?;
+    book.reserve()?;
+    let copy = message.copy(alloc)?;
+    Ok((number, next, copy))
 }
 
 /// Books a take of this message, where there is a book. Where memory is wanting, nothing changes.

@@ -92,17 +92,33 @@ fn ends<
         arrived: Source::new(),
         state: Mutex::new(state),
     };
-    let shared = Arc::new(alloc, shared)?;
-    let sender = Sender {
-        alloc,
-        shared: Arc::try_clone(&shared)?,
-        seat: Seat::new(rt),
-    };
-    let receiver = Receiver {
-        rt,
-        alloc,
-        shared,
-        taken,
-    };
-    Ok((sender, receiver))
+    match shared_by_two(alloc, shared) {
+        Ok((shared, same)) => {
+            let sender = Sender {
+                alloc,
+                shared: same,
+                seat: Seat::new(rt),
+            };
+            let receiver = Receiver {
+                rt,
+                alloc,
+                shared,
+                taken,
+            };
+            Ok((sender, receiver))
+        }
+        Err(fault) => {
+            drop(taken);
+            Err(fault)
+        }
+    }
+}
+
+/// A value that two share.
+fn shared_by_two<T: Drop>(alloc: Global, value: T) -> Result<(Arc<T>, Arc<T>), Fault>
+    ensures only { IfErr result (λ fault. fault ≡ OutOfMemory) }
+{
+    let shared = Arc::new(alloc, value)?;
+    let same = Arc::try_clone(&shared)?;
+    Ok((shared, same))
 }

@@ -1,6 +1,7 @@
 //! What one handle has put.
 
-ghost use Rattle.std.specs.Prelude.{◌≡◌, ◌≢◌, ◌≤◌, ◌<◌, ◌+◌, ◌^◌, ◌-◌, false, true, is_some, map, None, Some, IfOk, IfErr, OnOk, OnErr};
+ghost use Rattle.std.specs.Prelude.{◌≡◌, ◌≢◌, ◌≤◌, ◌<◌, ◌+◌, ◌^◌, ◌-◌, ◌∷◌, [], false, true, is_some, map, None, Some, IfOk, IfErr, OnOk, OnErr};
+ghost use Rattle.std.specs.Vec.{vec_len, vec_capacity};
 ghost use Rattle.resolver_base.specs.declared.base.fault.Fault.TheVariants.{Exhausted, OutOfMemory};
 ghost use Rattle.resolver_base.specs.Names.{names};
 ghost use Rattle.resolver_demand.specs.Backlog.{told_of};
@@ -11,7 +12,7 @@ use crate::mailbox::desk::Desk;
 use crate::mailbox::naming::{Names, Puts};
 use resolver_base::base::{Faithful, Fault, Feedback, Predicate};
 use resolver_demand::ingress::{Message, Metadata};
-use std::alloc::Global;
+use std::alloc::{AllocError, Global};
 use std::hash::Hash;
 use std::marker::Model;
 use std::sync::ledger;
@@ -104,12 +105,24 @@ impl<
         ensures err_total { OnErr result (total.new.total ≡ total.old.total) }
         ensures only { IfErr result (λ fault. fault ≡ OutOfMemory) }
     {
-        let copy = message.copy(alloc)?;
-        self.puts.reserve(1)?;
-        let (feedback, _) = desk.put(Some(self.handle), message)?;
-        total.add(&mut self.part, 1);
-        self.puts.push_reserved(copy);
-        Ok(feedback)
+        let copy = match ready_copy(alloc, &mut self.puts, &message) {
+            Ok(copy) => copy,
+            Err(failed) => {
+                drop(message);
+                return Err(Fault::from(failed));
+            }
+        };
+        match desk.put(Some(self.handle), message) {
+            Ok((feedback, _)) => {
+                total.add(&mut self.part, 1);
+                self.puts.push_reserved(copy);
+                Ok(feedback)
+            }
+            Err(fault) => {
+                drop(copy);
+                Err(fault)
+            }
+        }
     }
 
     /// Puts the first message of a handle on an open recorded desk, which numbers the handle. Where
@@ -138,19 +151,69 @@ impl<
         ensures err_spare { OnErr result (spare.new.parts ≡ spare.old.parts) }
         ensures only { IfErr result (λ fault. fault ≢ OutOfMemory → fault ≡ Exhausted) }
     {
-        let copy = message.copy(alloc)?;
-        let mut puts = Vec::with_capacity(alloc, 1)?;
-        let (feedback, number) = desk.put(None, message)?;
-        let Some(handle) = number else { unreachable!() };
-        let mut part = spare.split_off(1, 0);
-        total.add(&mut part, 1);
-        puts.push_reserved(copy);
-        let share = Share {
-            handle,
-            puts,
-            is_closed: false,
-            part,
+        let puts = match first_copied(alloc, &message) {
+            Ok(puts) => puts,
+            Err(failed) => {
+                drop(message);
+                return Err(Fault::from(failed));
+            }
         };
-        Ok((feedback, share))
+        match desk.put(None, message) {
+            Ok((feedback, Some(handle))) => {
+                let mut part = spare.split_off(1, 0);
+                total.add(&mut part, 1);
+                let share = Share {
+                    handle,
+                    puts,
+                    is_closed: false,
+                    part,
+                };
+                Ok((feedback, share))
+            }
+            Ok((_, None)) => unreachable!(),
+            Err(fault) => {
+                drop(puts);
+                Err(fault)
+            }
+        }
+    }
+}
+
+/// A copy of the message, for which this list then has room.
+pub(super) fn ready_copy<
+    K: Faithful + Drop,
+    S: Faithful + Drop,
+    M: Metadata + Drop,
+    Q: Faithful + Drop,
+>(
+    alloc: Global,
+    puts: &mut Vec<Message<K, S, M, Q>>,
+    message: &Message<K, S, M, Q>,
+) -> Result<Message<K, S, M, Q>, AllocError>
+    ensures same { puts.new.items ≡ puts.old.items }
+    ensures room { OnOk result (vec_len puts.new < vec_capacity puts.new) }
+    ensures copy { IfOk result (λ copy. told_of copy ≡ told_of message.now) }
+{
+    puts.reserve(1)?;
+    message.copy(alloc)
+}
+
+/// A list of a copy of the message.
+fn first_copied<K: Faithful + Drop, S: Faithful + Drop, M: Metadata + Drop, Q: Faithful + Drop>(
+    alloc: Global,
+    message: &Message<K, S, M, Q>,
+) -> Result<Vec<Message<K, S, M, Q>>, AllocError>
+    ensures { IfOk result (λ puts. map told_of puts.items ≡ told_of message.now ∷ []) }
+{
+    let mut puts = Vec::with_capacity(alloc, 1)?;
+    match message.copy(alloc) {
+        Ok(copy) => {
+            puts.push_reserved(copy);
+            Ok(puts)
+        }
+        Err(failed) => {
+            drop(puts);
+            Err(failed)
+        }
     }
 }

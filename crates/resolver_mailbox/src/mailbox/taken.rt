@@ -8,6 +8,7 @@ ghost use Rattle.resolver_mailbox.specs.Desk.{desk_taken};
 
 use crate::mailbox::desk::Desk;
 use crate::mailbox::naming::{Naming, Takes};
+use crate::mailbox::share::ready_copy;
 use resolver_base::base::{Faithful, Fault, Predicate};
 use resolver_demand::ingress::{Message, Metadata};
 use std::alloc::Global;
@@ -103,13 +104,18 @@ impl<
         let Some(front) = desk.front() else {
             return Ok(None);
         };
-        let copy = front.copy(alloc)?;
-        self.items.reserve(1)?;
-        let Some(message) = desk.take()? else {
-            unreachable!()
-        };
-        total.add(part, 1);
-        self.items.push_reserved(copy);
-        Ok(Some(message))
+        let copy = ready_copy(alloc, &mut self.items, front)?;
+        match desk.take() {
+            Ok(Some(message)) => {
+                total.add(part, 1);
+                self.items.push_reserved(copy);
+                Ok(Some(message))
+            }
+            Ok(None) => unreachable!(),
+            Err(fault) => {
+                drop(copy);
+                Err(fault)
+            }
+        }
     }
 }
