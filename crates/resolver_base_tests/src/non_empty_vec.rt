@@ -2,6 +2,8 @@ ghost use Rattle.std.specs.Prelude.{nat_le};
 ghost use Rattle.std.proofs.Common.{rules};
 
 use resolver_base::base::{NonEmptyVec, Predicate};
+use std::alloc::Global;
+use std::process::Abort;
 use std::test::Fail;
 
 #[test]
@@ -31,17 +33,22 @@ fn takes_a_list_that_has_items(rt: HostRuntime) -> Result<(), Fail> {
 
 #[test]
 fn gives_its_items(rt: HostRuntime) -> Result<(), Fail> {
-    let list = NonEmptyVec::try_from([5u8, 6].to_vec(rt.alloc())?)
-        .ok()
-        .ok_or("two items")?;
+    let list = list_of(rt.alloc(), &[5u8, 6])?;
     let mut given = Vec::new(rt.alloc());
     for item in list.iter() {
         given.push(*item)?;
     }
     assert_eq!(rt; given.as_slice(), [5, 6].as_slice());
-    assert_eq!(rt; list.clone()?.as_slice(), [5, 6].as_slice());
+    Ok(())
+}
+
+#[test]
+fn is_cloned_and_mapped(rt: HostRuntime) -> Result<(), Fail> {
+    let list = list_of(rt.alloc(), &[5u8, 6])?;
+    let same = list.clone();
     let halves = list.map_into(rt.alloc(), |item| u16::from(item) / 2)?;
     assert_eq!(rt; halves.as_slice(), [2, 3].as_slice());
+    assert_eq!(rt; same?.as_slice(), [5, 6].as_slice());
     Ok(())
 }
 
@@ -71,32 +78,48 @@ fn keeps_subscribers_or_all(rt: HostRuntime) -> Result<(), Fail> {
     Ok(())
 }
 
-#[test]
-fn joins_without_repeats(rt: HostRuntime) -> Result<(), Fail> {
-    let alloc = rt.alloc();
-    let mut peers = NonEmptyVec::new(alloc, 5u8)?;
-    let more = NonEmptyVec::try_from([6u8, 5, 6].to_vec(alloc)?);
-    peers.join(alloc, more.ok().ok_or("three items")?)?;
-    assert_eq!(rt; peers.as_slice(), [5, 6].as_slice());
+/// A list of these items, of which there is one at least.
+fn list_of<T: Copy>(alloc: Global, items: &[T]) -> Result<NonEmptyVec<T>, Fail> {
+    match NonEmptyVec::try_from(Vec::from_slice(alloc, items)?) {
+        Ok(list) => Ok(list),
+        Err(_) => Err("no item".into()),
+    }
+}
 
-    let mut subscribers = NonEmptyVec::new(alloc, (5u8, 1u64))?;
-    let more = NonEmptyVec::try_from([(4u8, 2u64), (5, 3), (4, 4)].to_vec(alloc)?);
-    subscribers.join_subscribers(alloc, more.ok().ok_or("three items")?)?;
-    assert_eq!(rt; subscribers.as_slice(), [(5, 1), (4, 2)].as_slice());
+/// A list of 5 that is joined by these items has all of these then.
+fn joins(rt: &impl Abort, alloc: Global, more: &[u8], all: &[u8]) -> Result<(), Fail> {
+    let mut peers = list_of(alloc, &[5])?;
+    peers.join(alloc, list_of(alloc, more)?)?;
+    assert_eq!(rt; peers.as_slice(), all);
     Ok(())
 }
 
 #[test]
-fn joins_many_without_repeats(rt: HostRuntime) -> Result<(), Fail> {
-    let alloc = rt.alloc();
-    let mut peers = NonEmptyVec::new(alloc, 5u8)?;
-    let more = NonEmptyVec::try_from([9u8, 8, 7, 6, 5, 4, 3, 4, 5, 6].to_vec(alloc)?);
-    peers.join(alloc, more.ok().ok_or("ten items")?)?;
-    assert_eq!(rt; peers.as_slice(), [5, 9, 8, 7, 6, 4, 3].as_slice());
+fn joins_without_repeats(rt: HostRuntime) -> Result<(), Fail> {
+    joins(&rt, rt.alloc(), &[6, 5, 6], &[5, 6])?;
+    let more = [9, 8, 7, 6, 5, 4, 3, 4, 5, 6];
+    joins(&rt, rt.alloc(), &more, &[5, 9, 8, 7, 6, 4, 3])
+}
 
-    let mut subscribers = NonEmptyVec::new(alloc, (5u8, 1u64))?;
-    let more = [
-        (9u8, 0u64),
+/// Subscriber 5 alone that is joined by these subscribers has all of these beside it then.
+fn joins_subscribers(
+    rt: &impl Abort,
+    alloc: Global,
+    more: &[(u8, u64)],
+    all: &[(u8, u64)],
+) -> Result<(), Fail> {
+    let mut subscribers = list_of(alloc, &[(5, 1)])?;
+    subscribers.join_subscribers(alloc, list_of(alloc, more)?)?;
+    assert_eq!(rt; subscribers.as_slice(), all);
+    Ok(())
+}
+
+#[test]
+fn joins_subscribers_without_repeats(rt: HostRuntime) -> Result<(), Fail> {
+    let few = [(4, 2), (5, 3), (4, 4)];
+    joins_subscribers(&rt, rt.alloc(), &few, &[(5, 1), (4, 2)])?;
+    let many = [
+        (9, 0),
         (8, 1),
         (7, 2),
         (6, 3),
@@ -106,11 +129,6 @@ fn joins_many_without_repeats(rt: HostRuntime) -> Result<(), Fail> {
         (4, 7),
         (5, 8),
     ];
-    let more = NonEmptyVec::try_from(more.to_vec(alloc)?);
-    subscribers.join_subscribers(alloc, more.ok().ok_or("nine items")?)?;
-    assert_eq!(rt;
-        subscribers.as_slice(),
-        [(5, 1), (9, 0), (8, 1), (7, 2), (6, 3), (4, 5), (3, 6)].as_slice()
-    );
-    Ok(())
+    let all = [(5, 1), (9, 0), (8, 1), (7, 2), (6, 3), (4, 5), (3, 6)];
+    joins_subscribers(&rt, rt.alloc(), &many, &all)
 }

@@ -74,14 +74,26 @@ fn replaces_a_priority(rt: HostRuntime) -> Result<(), Fail> {
     Ok(())
 }
 
-fn gives_from_20(rt: &impl Abort, alloc: Global, set: &Set) -> Result<(), Fail> {
+/// The pairs of a set from a priority on.
+fn listed_from(alloc: Global, set: &Set, priority: u16) -> Result<Vec<(u16, u8)>, Fail> {
     let mut listed = Vec::new(alloc);
-    for pair in set.range_from(20)? {
+    for pair in set.range_from(priority)? {
         listed.push(*pair)?;
     }
+    Ok(listed)
+}
+
+/// The first pair of a set from a priority on.
+fn first_from(set: &Set, priority: u16) -> Result<Option<(u16, u8)>, Fault> {
+    Ok(set.range_from(priority)?.next().copied())
+}
+
+fn gives_from_20(rt: &impl Abort, alloc: Global, set: &Set) -> Result<(), Fail> {
+    let listed = listed_from(alloc, set, 20)?;
     assert_eq!(rt; listed.as_slice(), [(20, 1), (20, 3), (30, 2)].as_slice());
-    assert_eq!(rt; set.range_from(21)?.next(), Some(&(30, 2)));
-    assert_eq!(rt; set.range_from(31)?.next(), None);
+    drop(listed);
+    assert_eq!(rt; first_from(set, 21)?, Some((30, 2)));
+    assert_eq!(rt; first_from(set, 31)?, None);
     Ok(())
 }
 
@@ -93,13 +105,18 @@ fn gives_what_is_from_a_priority_on(rt: HostRuntime) -> Result<(), Fail> {
     given
 }
 
+/// The pair of a set that follows this one.
+fn first_after(set: &Set, pair: (u16, u8)) -> Option<(u16, u8)> {
+    set.range_after(&pair).next().copied()
+}
+
 #[test]
 fn gives_what_follows_a_pair(rt: HostRuntime) -> Result<(), Fail> {
     let set = set_of(rt, &[(3, 20), (1, 20), (2, 30), (4, 10)])?;
-    assert_eq!(rt; set.range_after(&(20, 1)).next(), Some(&(20, 3)));
-    assert_eq!(rt; set.range_after(&(20, 3)).next(), Some(&(30, 2)));
-    assert_eq!(rt; set.range_after(&(10, 9)).next(), Some(&(20, 1)));
-    assert_eq!(rt; set.range_after(&(30, 2)).next(), None);
+    assert_eq!(rt; first_after(&set, (20, 1)), Some((20, 3)));
+    assert_eq!(rt; first_after(&set, (20, 3)), Some((30, 2)));
+    assert_eq!(rt; first_after(&set, (10, 9)), Some((20, 1)));
+    assert_eq!(rt; first_after(&set, (30, 2)), None);
     drop(set);
     Ok(())
 }

@@ -2,6 +2,7 @@ use resolver_base::base::NonEmptyVec;
 use resolver_base::root::{Delivery, Fetch, Outcome, Resolution, laws};
 use std::alloc::{AllocError, Global};
 use std::cmp::Ordering;
+use std::process::Abort;
 use std::test::Fail;
 
 fn delivery(alloc: Global, key: u8, subscribers: &[(u16, u64)]) -> Result<Delivery<u8, u16>, Fail> {
@@ -33,11 +34,18 @@ fn deliveries_compare_by_key_and_subscribers(rt: HostRuntime) -> Result<(), Fail
     for (key, subscribers, other_key, others, order) in cases {
         let one = delivery(rt.alloc(), key, subscribers)?;
         let other = delivery(rt.alloc(), other_key, others)?;
-        assert_eq!(rt; one.cmp(&other), order);
-        assert_eq!(rt; one.partial_cmp(&other), Some(order));
-        assert_eq!(rt; one == other, order.is_eq());
+        compares(&rt, &one, &other, order);
+        drop(one);
+        drop(other);
     }
     Ok(())
+}
+
+/// Compares to another so.
+fn compares<T: Ord>(rt: &impl Abort, one: &T, other: &T, order: Ordering) {
+    assert_eq!(rt; one.cmp(other), order);
+    assert_eq!(rt; one.partial_cmp(other), Some(order));
+    assert_eq!(rt; one == other, order.is_eq());
 }
 
 #[test]
@@ -72,7 +80,7 @@ fn copied<T: Clone>(value: &T) -> Result<T, AllocError> {
 }
 
 #[test]
-fn clones_keep_the_marks(rt: HostRuntime) -> Result<(), Fail> {
+fn clones_of_a_fetch_keep_the_mark(rt: HostRuntime) -> Result<(), Fail> {
     let fetch = Fetch {
         key: 1u8,
         subscriber: 10u16,
@@ -81,12 +89,24 @@ fn clones_keep_the_marks(rt: HostRuntime) -> Result<(), Fail> {
     for same in [fetch.clone()?, copied(&fetch)?] {
         assert_eq!(rt; (same.key, same.subscriber, same.mark), (1, 10, 7));
     }
-    let handed = delivery(rt.alloc(), 1, &[(10, 7), (11, 8)])?;
-    for same in [handed.clone()?, copied(&handed)?] {
-        assert_eq!(rt; same.key, 1);
-        assert_eq!(rt; same.subscribers.as_slice(), [(10, 7), (11, 8)].as_slice());
-    }
     Ok(())
+}
+
+#[test]
+fn clones_of_a_delivery_keep_the_marks(rt: HostRuntime) -> Result<(), Fail> {
+    let handed = delivery(rt.alloc(), 1, &[(10, 7), (11, 8)])?;
+    let (same, again) = (handed.clone(), copied(&handed));
+    drop(handed);
+    has_two_marks(&rt, same?);
+    has_two_marks(&rt, again?);
+    Ok(())
+}
+
+/// It is the delivery of key 1 to subscribers 10 and 11, with the marks 7 and 8.
+fn has_two_marks(rt: &impl Abort, same: Delivery<u8, u16>) {
+    assert_eq!(rt; same.key, 1);
+    assert_eq!(rt; same.subscribers.as_slice(), [(10, 7), (11, 8)].as_slice());
+    drop(same);
 }
 
 #[test]
