@@ -378,6 +378,11 @@ fn completes_what_was_removed(rt: HostRuntime) -> Result<(), Fail> {
         completed_without_a_key(rt.alloc(), None)?.as_str(),
         " true 0 true aborted aborted None"
     );
+    Ok(())
+}
+
+#[test]
+fn completes_what_was_removed_and_tracked_again(rt: HostRuntime) -> Result<(), Fail> {
     assert_eq!(rt;
         completed_for_another(rt.alloc(), IGNORED)?.as_str(),
         " true 0 true true response 0 of 40 key 1 (10, 7) Some(Ignored) true false aborted None"

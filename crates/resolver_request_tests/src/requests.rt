@@ -50,12 +50,16 @@ fn next_id(alloc: Global, held: &[(ID, u128)], last: ID) -> Result<ID, Fault> {
 
 #[test]
 fn next_id_passes_held_ids(rt: HostRuntime) -> Result<(), Fail> {
-    let alloc = rt.alloc();
-    assert_eq!(rt; next_id(alloc, &[], 4)?, 5);
-    assert_eq!(rt; next_id(alloc, &[(5, 0), (6, 0)], 4)?, 7);
-    assert_eq!(rt; next_id(alloc, &[(6, 0)], 4)?, 5);
-    assert_eq!(rt; next_id(alloc, &[], u64::MAX)?, 0);
-    assert_eq!(rt; next_id(alloc, &[(0, 0)], u64::MAX)?, 1);
+    let cases: [(&[(ID, u128)], ID, ID); 5] = [
+        (&[], 4, 5),
+        (&[(5, 0), (6, 0)], 4, 7),
+        (&[(6, 0)], 4, 5),
+        (&[], u64::MAX, 0),
+        (&[(0, 0)], u64::MAX, 1),
+    ];
+    for (held, last, next) in cases {
+        assert_eq!(rt; next_id(rt.alloc(), held, last)?, next);
+    }
     Ok(())
 }
 

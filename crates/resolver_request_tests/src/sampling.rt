@@ -2,6 +2,7 @@
 
 use resolver_base::base::Fault;
 use resolver_request::sampling::{Selection, Visits, WeightedIndex, is_weighted};
+use std::alloc::Global;
 use std::process::Abort;
 use std::test::Fail;
 
@@ -34,7 +35,13 @@ fn index_choices(rt: HostRuntime) -> Result<(), Fail> {
         assert!(rt; number < index.total());
         assert_eq!(rt; index.pick(number), place, "at {number}");
     }
-    let mut selection = begun(index)?;
+    drop(index);
+    Ok(())
+}
+
+#[test]
+fn takes_one_place(rt: HostRuntime) -> Result<(), Fail> {
+    let mut selection = begun(WeightedIndex::new(rt.alloc(), &[3, 0, 2])?)?;
     assert!(rt; selection.left_total() > 0);
     assert_eq!(rt; selection.take_weighted(0), 0);
     assert_eq!(rt; selection.left_total(), 2);
@@ -116,13 +123,18 @@ fn widest_weights(rt: HostRuntime) -> Result<(), Fail> {
     Ok(())
 }
 
-#[test]
-fn index_thousand_places(rt: HostRuntime) -> Result<(), Fail> {
-    let mut weights = Vec::with_capacity(rt.alloc(), 1_000)?;
+/// An index of a thousand places, each of which weighs its number.
+fn thousand_places(alloc: Global) -> Result<WeightedIndex, Fail> {
+    let mut weights = Vec::with_capacity(alloc, 1_000)?;
     for weight in 0..1_000_u64 {
         weights.push(weight)?;
     }
-    let mut index = WeightedIndex::new(rt.alloc(), &weights)?;
+    Ok(WeightedIndex::new(alloc, &weights)?)
+}
+
+#[test]
+fn index_thousand_places(rt: HostRuntime) -> Result<(), Fail> {
+    let index = thousand_places(rt.alloc())?;
     assert_eq!(rt; index.total(), 499_500);
     for (number, place) in [(0, 1), (498_500, 998), (499_499, 999)] {
         let mut visits = Visits::new();
@@ -134,6 +146,13 @@ fn index_thousand_places(rt: HostRuntime) -> Result<(), Fail> {
         );
         assert!(rt; visits.count() <= 11, "at {number}");
     }
+    drop(index);
+    Ok(())
+}
+
+#[test]
+fn index_sets_one_of_a_thousand_places(rt: HostRuntime) -> Result<(), Fail> {
+    let mut index = thousand_places(rt.alloc())?;
     let mut visits = Visits::new();
     assert_eq!(rt; visits.count(), 0);
     assert!(rt; index.count() > 998);
