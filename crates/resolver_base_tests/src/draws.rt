@@ -1,5 +1,6 @@
 ghost use Rattle.std.proofs.Common.{arith};
 
+use crate::asserts::equal;
 use resolver_base::base::Draws;
 
 /// Draws the greatest number.
@@ -18,5 +19,5 @@ fn die<D: Draws>(draws: &mut D) -> u128 {
 
 #[test]
 fn draws_below_the_bound(rt: HostRuntime) {
-    assert_eq!(rt; die(&mut Greatest), 5);
+    equal(&rt, &die(&mut Greatest), &5);
 }

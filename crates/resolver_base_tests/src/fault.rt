@@ -1,3 +1,4 @@
+use crate::asserts::{equal, equal_texts};
 use resolver_base::base::Fault;
 use std::alloc::{AllocError, AllocFailed};
 use std::test::Fail;
@@ -19,15 +20,19 @@ fn has_a_number_and_a_name(rt: HostRuntime) {
         (Fault::Key, 12, "Key"),
         (Fault::Uneven, 13, "Uneven"),
     ] {
-        assert_eq!(rt; fault.number(), number);
-        assert_eq!(rt; fault.name(), name);
+        equal(&rt, &fault.number(), &number);
+        equal(&rt, &fault.name(), &name);
     }
 }
 
 #[test]
 fn says_that_memory_is_wanting(rt: HostRuntime) {
-    assert_eq!(rt; Fault::from(AllocError), Fault::OutOfMemory);
-    assert_eq!(rt; Fault::from(AllocFailed { value: 5u8 }), Fault::OutOfMemory);
+    equal(&rt, &Fault::from(AllocError), &Fault::OutOfMemory);
+    equal(
+        &rt,
+        &Fault::from(AllocFailed { value: 5u8 }),
+        &Fault::OutOfMemory,
+    );
 }
 
 #[test]
@@ -47,7 +52,7 @@ fn says_why(rt: HostRuntime) -> Result<(), Fail> {
         (Fault::Key, "the bytes are no key"),
         (Fault::Uneven, "the book says otherwise"),
     ] {
-        assert_eq!(rt; fault.to_string(rt.alloc())?.as_str(), text);
+        equal_texts(&rt, fault.to_string(rt.alloc())?.as_str(), text);
     }
     Ok(())
 }

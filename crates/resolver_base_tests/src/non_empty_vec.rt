@@ -1,6 +1,7 @@
 ghost use Rattle.std.specs.Prelude.{nat_le};
 ghost use Rattle.std.proofs.Common.{rules};
 
+use crate::asserts::{equal, equal_lists, holds};
 use resolver_base::base::{NonEmptyVec, Predicate};
 use std::alloc::Global;
 use std::process::Abort;
@@ -9,13 +10,13 @@ use std::test::Fail;
 #[test]
 fn grows_in_order(rt: HostRuntime) -> Result<(), Fail> {
     let mut list = NonEmptyVec::new(rt.alloc(), 5u8)?;
-    assert_eq!(rt; *list.first(), 5);
+    equal(&rt, list.first(), &5);
     list.push(7)?;
     list.insert(1, 6)?;
-    assert_eq!(rt; list.len(), 3);
-    assert_eq!(rt; list.as_slice(), [5, 6, 7].as_slice());
-    assert!(rt; list.contains(&6));
-    assert!(rt; !list.contains(&8));
+    equal(&rt, &list.len(), &3);
+    equal_lists(&rt, list.as_slice(), &[5, 6, 7]);
+    holds(&rt, list.contains(&6));
+    holds(&rt, !list.contains(&8));
     Ok(())
 }
 
@@ -23,11 +24,11 @@ fn grows_in_order(rt: HostRuntime) -> Result<(), Fail> {
 fn takes_a_list_that_has_items(rt: HostRuntime) -> Result<(), Fail> {
     let items = [5u8, 6].to_vec(rt.alloc())?;
     let list = NonEmptyVec::try_from(items).ok().ok_or("two items")?;
-    assert_eq!(rt; list.into_vec().as_slice(), [5, 6].as_slice());
+    equal_lists(&rt, list.into_vec().as_slice(), &[5, 6]);
     let back = NonEmptyVec::<u8>::try_from(Vec::new(rt.alloc()))
         .err()
         .ok_or("no item")?;
-    assert!(rt; back.is_empty());
+    holds(&rt, back.is_empty());
     Ok(())
 }
 
@@ -38,7 +39,7 @@ fn gives_its_items(rt: HostRuntime) -> Result<(), Fail> {
     for item in list.iter() {
         given.push(*item)?;
     }
-    assert_eq!(rt; given.as_slice(), [5, 6].as_slice());
+    equal_lists(&rt, given.as_slice(), &[5, 6]);
     Ok(())
 }
 
@@ -47,8 +48,8 @@ fn is_cloned_and_mapped(rt: HostRuntime) -> Result<(), Fail> {
     let list = list_of(rt.alloc(), &[5u8, 6])?;
     let same = list.clone();
     let halves = list.map_into(rt.alloc(), |item| u16::from(item) / 2)?;
-    assert_eq!(rt; halves.as_slice(), [2, 3].as_slice());
-    assert_eq!(rt; same?.as_slice(), [5, 6].as_slice());
+    equal_lists(&rt, halves.as_slice(), &[2, 3]);
+    equal_lists(&rt, same?.as_slice(), &[5, 6]);
     Ok(())
 }
 
@@ -69,12 +70,12 @@ impl Predicate<u8, u16> for UpTo {
 fn keeps_subscribers_or_all(rt: HostRuntime) -> Result<(), Fail> {
     let mut list = NonEmptyVec::new(rt.alloc(), (10u16, 7))?;
     list.push((11, 8))?;
-    assert!(rt; !list.keeps_any(&1, &UpTo(9)));
-    assert!(rt; !list.retain_kept(&1, &UpTo(9)));
-    assert_eq!(rt; list.len(), 2);
-    assert!(rt; list.keeps_any(&1, &UpTo(10)));
-    assert!(rt; list.retain_kept(&1, &UpTo(10)));
-    assert_eq!(rt; list.as_slice(), [(10, 7)].as_slice());
+    holds(&rt, !list.keeps_any(&1, &UpTo(9)));
+    holds(&rt, !list.retain_kept(&1, &UpTo(9)));
+    equal(&rt, &list.len(), &2);
+    holds(&rt, list.keeps_any(&1, &UpTo(10)));
+    holds(&rt, list.retain_kept(&1, &UpTo(10)));
+    equal_lists(&rt, list.as_slice(), &[(10, 7)]);
     Ok(())
 }
 
@@ -90,7 +91,7 @@ fn list_of<T: Copy>(alloc: Global, items: &[T]) -> Result<NonEmptyVec<T>, Fail> 
 fn joins(rt: &impl Abort, alloc: Global, more: &[u8], all: &[u8]) -> Result<(), Fail> {
     let mut peers = list_of(alloc, &[5])?;
     peers.join(alloc, list_of(alloc, more)?)?;
-    assert_eq!(rt; peers.as_slice(), all);
+    equal_lists(rt, peers.as_slice(), all);
     Ok(())
 }
 
@@ -110,7 +111,7 @@ fn joins_subscribers(
 ) -> Result<(), Fail> {
     let mut subscribers = list_of(alloc, &[(5, 1)])?;
     subscribers.join_subscribers(alloc, list_of(alloc, more)?)?;
-    assert_eq!(rt; subscribers.as_slice(), all);
+    equal_lists(rt, subscribers.as_slice(), all);
     Ok(())
 }
 

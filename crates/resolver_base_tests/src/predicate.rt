@@ -1,6 +1,7 @@
 ghost use Rattle.std.specs.Prelude.{◌==◌, ◌%◌};
 ghost use Rattle.std.proofs.Common.{rules};
 
+use crate::asserts::holds;
 use resolver_base::base::Predicate;
 
 /// Keeps the even subscribers of every key.
@@ -22,6 +23,6 @@ fn kept<Q: Predicate<u8, u16>>(test: &Q, subscriber: u16) -> bool {
 
 #[test]
 fn keeps_by_subscriber(rt: HostRuntime) {
-    assert!(rt; kept(&Even, 20));
-    assert!(rt; !kept(&Even, 21));
+    holds(&rt, kept(&Even, 20));
+    holds(&rt, !kept(&Even, 21));
 }

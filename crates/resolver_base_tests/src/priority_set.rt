@@ -1,3 +1,4 @@
+use crate::asserts::{equal, equal_lists, holds};
 use resolver_base::base::{Fault, PrioritySet};
 use resolver_base::root::Fetch;
 use std::alloc::Global;
@@ -46,12 +47,9 @@ fn drained(rt: HostRuntime, mut set: Set) -> Result<Vec<(u8, u16)>, Fail> {
 #[test]
 fn gives_by_priority_and_then_by_item(rt: HostRuntime) -> Result<(), Fail> {
     let set = set_of(rt, &[(3, 20), (1, 20), (2, 30), (4, 10)])?;
-    assert_eq!(rt; set.peek(), Some((&4, &10)));
+    equal(&rt, &set.peek(), &Some((&4, &10)));
     let given = drained(rt, set)?;
-    assert_eq!(rt;
-        given.as_slice(),
-        [(4, 10), (1, 20), (3, 20), (2, 30)].as_slice()
-    );
+    equal_lists(&rt, given.as_slice(), &[(4, 10), (1, 20), (3, 20), (2, 30)]);
     Ok(())
 }
 
@@ -67,10 +65,10 @@ fn listed(rt: HostRuntime, set: &Set) -> Result<Vec<(u16, u8)>, Fail> {
 #[test]
 fn replaces_a_priority(rt: HostRuntime) -> Result<(), Fail> {
     let set = set_of(rt, &[(1, 10), (2, 20), (1, 30), (2, 20), (3, 5), (3, 25)])?;
-    assert_eq!(rt; set.len(), 3);
+    equal(&rt, &set.len(), &3);
     let listed = listed(rt, &set);
     drop(set);
-    assert_eq!(rt; listed?.as_slice(), [(20, 2), (25, 3), (30, 1)].as_slice());
+    equal_lists(&rt, listed?.as_slice(), &[(20, 2), (25, 3), (30, 1)]);
     Ok(())
 }
 
@@ -90,10 +88,10 @@ fn first_from(set: &Set, priority: u16) -> Result<Option<(u16, u8)>, Fault> {
 
 fn gives_from_20(rt: &impl Abort, alloc: Global, set: &Set) -> Result<(), Fail> {
     let listed = listed_from(alloc, set, 20)?;
-    assert_eq!(rt; listed.as_slice(), [(20, 1), (20, 3), (30, 2)].as_slice());
+    equal_lists(rt, listed.as_slice(), &[(20, 1), (20, 3), (30, 2)]);
     drop(listed);
-    assert_eq!(rt; first_from(set, 21)?, Some((30, 2)));
-    assert_eq!(rt; first_from(set, 31)?, None);
+    equal(rt, &first_from(set, 21)?, &Some((30, 2)));
+    equal(rt, &first_from(set, 31)?, &None);
     Ok(())
 }
 
@@ -113,10 +111,10 @@ fn first_after(set: &Set, pair: (u16, u8)) -> Option<(u16, u8)> {
 #[test]
 fn gives_what_follows_a_pair(rt: HostRuntime) -> Result<(), Fail> {
     let set = set_of(rt, &[(3, 20), (1, 20), (2, 30), (4, 10)])?;
-    assert_eq!(rt; first_after(&set, (20, 1)), Some((20, 3)));
-    assert_eq!(rt; first_after(&set, (20, 3)), Some((30, 2)));
-    assert_eq!(rt; first_after(&set, (10, 9)), Some((20, 1)));
-    assert_eq!(rt; first_after(&set, (30, 2)), None);
+    equal(&rt, &first_after(&set, (20, 1)), &Some((20, 3)));
+    equal(&rt, &first_after(&set, (20, 3)), &Some((30, 2)));
+    equal(&rt, &first_after(&set, (10, 9)), &Some((20, 1)));
+    equal(&rt, &first_after(&set, (30, 2)), &None);
     drop(set);
     Ok(())
 }
@@ -135,8 +133,8 @@ fn keeps_the_first(rt: &impl Abort, set: &mut PrioritySet<Fetch<u8, u8>, u16>) -
     set.put(marked(2), 30)?;
     set.put(marked(3), 30)?;
     let kept = set.pop().map(|entry| (entry.0.mark, entry.1));
-    assert_eq!(rt; kept, Some((1, 30)));
-    assert!(rt; set.is_empty());
+    equal(rt, &kept, &Some((1, 30)));
+    holds(rt, set.is_empty());
     Ok(())
 }
 
@@ -151,16 +149,16 @@ fn an_item_that_is_there_stays(rt: HostRuntime) -> Result<(), Fail> {
 #[test]
 fn takes_items_out(rt: HostRuntime) -> Result<(), Fail> {
     let mut set = set_of(rt, &[(1, 10), (2, 20), (3, 30)])?;
-    assert!(rt; set.remove(&2));
-    assert!(rt; !set.remove(&2));
-    assert!(rt; !set.contains(&2));
-    assert!(rt; set.contains(&3));
+    holds(&rt, set.remove(&2));
+    holds(&rt, !set.remove(&2));
+    holds(&rt, !set.contains(&2));
+    holds(&rt, set.contains(&3));
     let given = drained(rt, set)?;
-    assert_eq!(rt; given.as_slice(), [(1, 10), (3, 30)].as_slice());
+    equal_lists(&rt, given.as_slice(), &[(1, 10), (3, 30)]);
     let mut empty = set_of(rt, &[])?;
-    assert!(rt; empty.is_empty());
-    assert!(rt; empty.peek().is_none());
-    assert!(rt; empty.pop().is_none());
+    holds(&rt, empty.is_empty());
+    holds(&rt, empty.peek().is_none());
+    holds(&rt, empty.pop().is_none());
     drop(empty);
     Ok(())
 }
@@ -168,7 +166,7 @@ fn takes_items_out(rt: HostRuntime) -> Result<(), Fail> {
 /// Keeps the even items, and puts one of the others again.
 fn keeps_even(rt: &impl Abort, set: &mut Set) -> Result<(), Fault> {
     set.retain(|item| item % 2 == 0);
-    assert!(rt; !set.contains(&3));
+    holds(rt, !set.contains(&3));
     set.put(3, 35)?;
     Ok(())
 }
@@ -179,6 +177,6 @@ fn keeps_what_passes(rt: HostRuntime) -> Result<(), Fail> {
     let kept = keeps_even(&rt, &mut set);
     let given = drained(rt, set)?;
     kept?;
-    assert_eq!(rt; given.as_slice(), [(4, 10), (2, 30), (3, 35)].as_slice());
+    equal_lists(&rt, given.as_slice(), &[(4, 10), (2, 30), (3, 35)]);
     Ok(())
 }

@@ -1,3 +1,4 @@
+use crate::asserts::holds;
 use resolver_base::base::PublicKey;
 
 /// A name of one byte.
@@ -12,6 +13,6 @@ fn is_before<P: PublicKey>(one: &P, other: &P) -> bool {
 
 #[test]
 fn names_are_ordered(rt: HostRuntime) {
-    assert!(rt; is_before(&Peer(1), &Peer(2)));
-    assert!(rt; !is_before(&Peer(2), &Peer(2)));
+    holds(&rt, is_before(&Peer(1), &Peer(2)));
+    holds(&rt, !is_before(&Peer(2), &Peer(2)));
 }

@@ -1,3 +1,4 @@
+use crate::asserts::{equal, equal_lists, holds};
 use resolver_base::base::NonEmptyVec;
 use resolver_base::root::{Delivery, Fetch, Outcome, Resolution, laws};
 use std::alloc::{AllocError, Global};
@@ -43,9 +44,9 @@ fn deliveries_compare_by_key_and_subscribers(rt: HostRuntime) -> Result<(), Fail
 
 /// Compares to another so.
 fn compares<T: Ord>(rt: &impl Abort, one: &T, other: &T, order: Ordering) {
-    assert_eq!(rt; one.cmp(other), order);
-    assert_eq!(rt; one.partial_cmp(other), Some(order));
-    assert_eq!(rt; one == other, order.is_eq());
+    equal(rt, &one.cmp(other), &order);
+    equal(rt, &one.partial_cmp(other), &Some(order));
+    equal(rt, &(one == other), &order.is_eq());
 }
 
 #[test]
@@ -55,14 +56,21 @@ fn fetches_compare_by_key_and_subscriber(rt: HostRuntime) {
         subscriber,
         mark,
     };
-    assert!(rt; fetch(1, 10, 7) == fetch(1, 10, 8));
-    assert!(rt; fetch(1, 10, 7) < fetch(1, 11, 0));
-    assert!(rt; fetch(2, 0, 0) > fetch(1, 11, 9));
-    assert!(rt; laws::are_equal_fetches(&fetch(1, 10, 7), &fetch(1, 10, 8)));
-    assert!(rt; laws::is_fetch_below(&fetch(1, 10, 7), &fetch(1, 11, 0)));
-    assert_eq!(rt;
-        laws::order_of_fetches(&fetch(2, 0, 0), &fetch(1, 11, 9)),
-        Ordering::Greater
+    holds(&rt, fetch(1, 10, 7) == fetch(1, 10, 8));
+    holds(&rt, fetch(1, 10, 7) < fetch(1, 11, 0));
+    holds(&rt, fetch(2, 0, 0) > fetch(1, 11, 9));
+    holds(
+        &rt,
+        laws::are_equal_fetches(&fetch(1, 10, 7), &fetch(1, 10, 8)),
+    );
+    holds(
+        &rt,
+        laws::is_fetch_below(&fetch(1, 10, 7), &fetch(1, 11, 0)),
+    );
+    equal(
+        &rt,
+        &laws::order_of_fetches(&fetch(2, 0, 0), &fetch(1, 11, 9)),
+        &Ordering::Greater,
     );
 }
 
@@ -70,8 +78,12 @@ fn fetches_compare_by_key_and_subscriber(rt: HostRuntime) {
 fn deliveries_compare_whatever_their_marks(rt: HostRuntime) -> Result<(), Fail> {
     let one = delivery(rt.alloc(), 1, &[(10, 7)])?;
     let other = delivery(rt.alloc(), 1, &[(10, 8)])?;
-    assert!(rt; laws::are_equal_deliveries(&one, &other));
-    assert_eq!(rt; laws::order_of_deliveries(&one, &other), Ordering::Equal);
+    holds(&rt, laws::are_equal_deliveries(&one, &other));
+    equal(
+        &rt,
+        &laws::order_of_deliveries(&one, &other),
+        &Ordering::Equal,
+    );
     Ok(())
 }
 
@@ -87,7 +99,7 @@ fn clones_of_a_fetch_keep_the_mark(rt: HostRuntime) -> Result<(), Fail> {
         mark: 7,
     };
     for same in [fetch.clone()?, copied(&fetch)?] {
-        assert_eq!(rt; (same.key, same.subscriber, same.mark), (1, 10, 7));
+        equal(&rt, &(same.key, same.subscriber, same.mark), &(1, 10, 7));
     }
     Ok(())
 }
@@ -104,18 +116,19 @@ fn clones_of_a_delivery_keep_the_marks(rt: HostRuntime) -> Result<(), Fail> {
 
 /// It is the delivery of key 1 to subscribers 10 and 11, with the marks 7 and 8.
 fn has_two_marks(rt: &impl Abort, same: Delivery<u8, u16>) {
-    assert_eq!(rt; same.key, 1);
-    assert_eq!(rt; same.subscribers.as_slice(), [(10, 7), (11, 8)].as_slice());
+    equal(rt, &same.key, &1);
+    equal_lists(rt, same.subscribers.as_slice(), &[(10, 7), (11, 8)]);
     drop(same);
 }
 
 #[test]
 fn from_a_key_and_from_an_answer(rt: HostRuntime) {
     let fetch: Fetch<u8, u16> = Fetch::from(5);
-    assert_eq!(rt; (fetch.key, fetch.subscriber, fetch.mark), (5, 0, 0));
-    assert_eq!(rt;
-        Outcome::from(true),
-        Outcome::Resolved(Resolution::Complete)
+    equal(&rt, &(fetch.key, fetch.subscriber, fetch.mark), &(5, 0, 0));
+    equal(
+        &rt,
+        &Outcome::from(true),
+        &Outcome::Resolved(Resolution::Complete),
     );
-    assert_eq!(rt; Outcome::from(false), Outcome::Invalid);
+    equal(&rt, &Outcome::from(false), &Outcome::Invalid);
 }

@@ -1,3 +1,4 @@
+use crate::asserts::equal;
 use bytes::Bytes;
 use resolver_base::base::{Check, Feedback, PublicKey, Sender, Unreliable};
 use std::test::Fail;
@@ -55,11 +56,11 @@ fn sends_to_a_peer(rt: HostRuntime) -> Result<(), Fail> {
     };
     let short = Bytes::copy_from_slice(rt.alloc(), &[5, 6])?;
     let (check, sent) = tried(&mut wire, &Peer(1), short, true);
-    assert_eq!(rt; check, Check::Clear);
-    assert_eq!(rt; sent, Unreliable::Outcome(Feedback::Ok));
+    equal(&rt, &check, &Check::Clear);
+    equal(&rt, &sent, &Unreliable::Outcome(Feedback::Ok));
     let long = Bytes::copy_from_slice(rt.alloc(), &[5, 6, 7])?;
     let (check, sent) = tried(&mut wire, &Peer(2), long, false);
-    assert_eq!(rt; check, Check::Until(7));
-    assert_eq!(rt; sent, Unreliable::Rejected);
+    equal(&rt, &check, &Check::Until(7));
+    equal(&rt, &sent, &Unreliable::Rejected);
     Ok(())
 }

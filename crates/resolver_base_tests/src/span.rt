@@ -1,6 +1,7 @@
 ghost use Rattle.std.specs.Prelude.{◌≡◌, [], ◌∷◌, Option, None, Some, refl};
 ghost use Rattle.std.proofs.Common.{arith, rules};
 
+use crate::asserts::{equal, equal_lists};
 use bytes::{BufMut, BytesMut};
 use resolver_base::base::Span;
 use std::alloc::AllocError;
@@ -44,7 +45,7 @@ fn is_read_as_it_was_written(rt: HostRuntime) -> Result<(), Fail> {
     let mut out = BytesMut::new(rt.alloc());
     Letter(123).write(&mut out)?;
     Letter(5).write(&mut out)?;
-    assert_eq!(rt; out.as_slice(), [123, 5].as_slice());
-    assert_eq!(rt; Letter::read(&[123]), Some(Letter(123)));
+    equal_lists(&rt, out.as_slice(), &[123, 5]);
+    equal(&rt, &Letter::read(&[123]), &Some(Letter(123)));
     Ok(())
 }
