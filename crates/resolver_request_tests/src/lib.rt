@@ -3,6 +3,8 @@
 //! They stand in a crate of their own, so that the library isn't proved a second time with them.
 #![tactic(auto)]
 
+#[cfg(test)]
+mod asserts;
 pub mod keys;
 #[cfg(test)]
 mod requests;

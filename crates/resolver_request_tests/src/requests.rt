@@ -1,5 +1,6 @@
 //! Requests by their ids, by their deadlines and by their keys.
 
+use crate::asserts::{equal, equal_lists};
 use resolver_base::base::Fault;
 use resolver_request::requests::{ID, Request, Requests};
 use std::alloc::Global;
@@ -58,7 +59,7 @@ fn next_id_passes_held_ids(rt: HostRuntime) -> Result<(), Fail> {
         (&[(0, 0)], u64::MAX, 1),
     ];
     for (held, last, next) in cases {
-        assert_eq!(rt; next_id(rt.alloc(), held, last)?, next);
+        equal(&rt, &next_id(rt.alloc(), held, last)?, &next);
     }
     Ok(())
 }
@@ -103,8 +104,8 @@ fn over(alloc: Global, ids: &[(ID, u128)], now: u128) -> Result<(Vec<u128>, usiz
 fn the_soonest_is_over_first(rt: HostRuntime) -> Result<(), Fail> {
     let ids = [(1, 30), (2, 10), (3, 40), (4, 20)];
     let (deadlines, left) = over(rt.alloc(), &ids, 30)?;
-    assert_eq!(rt; deadlines.as_slice(), [10, 20, 30].as_slice());
-    assert_eq!(rt; left, 1);
+    equal_lists(&rt, deadlines.as_slice(), &[10, 20, 30]);
+    equal(&rt, &left, &1);
     Ok(())
 }
 
@@ -128,8 +129,8 @@ fn answered(alloc: Global, peer: u8) -> Result<(bool, usize, Option<u128>), Faul
 
 #[test]
 fn an_answer_of_another_peer_finds_nothing(rt: HostRuntime) -> Result<(), Fail> {
-    assert_eq!(rt; answered(rt.alloc(), 4)?, (true, 1, Some(20)));
-    assert_eq!(rt; answered(rt.alloc(), 3)?, (false, 2, Some(10)));
+    equal(&rt, &answered(rt.alloc(), 4)?, &(true, 1, Some(20)));
+    equal(&rt, &answered(rt.alloc(), 3)?, &(false, 2, Some(10)));
     Ok(())
 }
 
@@ -153,7 +154,7 @@ fn let_go(alloc: Global) -> Result<(usize, Option<u128>, bool, usize), Fault> {
 
 #[test]
 fn requests_are_let_go(rt: HostRuntime) -> Result<(), Fail> {
-    assert_eq!(rt; let_go(rt.alloc())?, (1, Some(20), true, 0));
+    equal(&rt, &let_go(rt.alloc())?, &(1, Some(20), true, 0));
     Ok(())
 }
 
@@ -182,9 +183,10 @@ fn by_key(alloc: Global) -> Result<[Option<(ID, u128)>; 4], Fault> {
 
 #[test]
 fn a_key_is_asked_for_under_its_id(rt: HostRuntime) -> Result<(), Fail> {
-    assert_eq!(rt;
-        by_key(rt.alloc())?,
-        [Some((5, 10)), None, None, Some((6, 20))]
+    equal(
+        &rt,
+        &by_key(rt.alloc())?,
+        &[Some((5, 10)), None, None, Some((6, 20))],
     );
     Ok(())
 }

@@ -1,5 +1,6 @@
 //! What indexes and selections choose.
 
+use crate::asserts::{equal, holds};
 use resolver_base::base::Fault;
 use resolver_request::sampling::{Selection, Visits, WeightedIndex, is_weighted};
 use std::alloc::Global;
@@ -8,9 +9,9 @@ use std::test::Fail;
 
 /// Compares an index's weights.
 fn has_weights(rt: &impl Abort, index: &WeightedIndex, weights: &[u64]) {
-    assert_eq!(rt; index.count(), weights.len());
+    equal(rt, &index.count(), &weights.len());
     for (place, weight) in weights.iter().enumerate() {
-        assert!(rt; place < index.count());
+        holds(rt, place < index.count());
         assert_eq!(rt; index.weight(place), *weight, "at {place}");
     }
 }
@@ -30,9 +31,9 @@ fn begun(index: WeightedIndex) -> Result<Selection, Fault> {
 #[test]
 fn index_choices(rt: HostRuntime) -> Result<(), Fail> {
     let index = WeightedIndex::new(rt.alloc(), &[3, 0, 2])?;
-    assert_eq!(rt; index.total(), 5);
+    equal(&rt, &index.total(), &5);
     for (number, place) in [(0, 0), (1, 0), (2, 0), (3, 2), (4, 2)] {
-        assert!(rt; number < index.total());
+        holds(&rt, number < index.total());
         assert_eq!(rt; index.pick(number), place, "at {number}");
     }
     drop(index);
@@ -42,10 +43,10 @@ fn index_choices(rt: HostRuntime) -> Result<(), Fail> {
 #[test]
 fn takes_one_place(rt: HostRuntime) -> Result<(), Fail> {
     let mut selection = begun(WeightedIndex::new(rt.alloc(), &[3, 0, 2])?)?;
-    assert!(rt; selection.left_total() > 0);
-    assert_eq!(rt; selection.take_weighted(0), 0);
-    assert_eq!(rt; selection.left_total(), 2);
-    assert_eq!(rt; selection.left_count(), 1);
+    holds(&rt, selection.left_total() > 0);
+    equal(&rt, &selection.take_weighted(0), &0);
+    equal(&rt, &selection.left_total(), &2);
+    equal(&rt, &selection.left_count(), &1);
     ends_with(&rt, selection, &[3, 0, 2]);
     Ok(())
 }
@@ -53,21 +54,21 @@ fn takes_one_place(rt: HostRuntime) -> Result<(), Fail> {
 #[test]
 fn takes_all_places(rt: HostRuntime) -> Result<(), Fail> {
     let mut index = WeightedIndex::new(rt.alloc(), &[1, 1, 1, 1])?;
-    assert_eq!(rt; index.count(), 4);
+    equal(&rt, &index.count(), &4);
     index.set(1, 0);
     index.update(&[(0, 7), (2, 2), (0, 3), (3, 5)]);
     has_weights(&rt, &index, &[3, 0, 2, 5]);
     let mut selection = begun(index)?;
-    assert!(rt; selection.left_count() > 1);
-    assert_eq!(rt; selection.take_uniform(1), 2);
-    assert_eq!(rt; selection.left_total(), 8);
-    assert!(rt; selection.left_total() > 3);
-    assert_eq!(rt; selection.take_weighted(3), 3);
-    assert!(rt; !selection.is_empty());
-    assert!(rt; selection.left_count() > 0);
-    assert_eq!(rt; selection.take_uniform(0), 0);
-    assert!(rt; selection.is_empty());
-    assert_eq!(rt; selection.left_total(), 0);
+    holds(&rt, selection.left_count() > 1);
+    equal(&rt, &selection.take_uniform(1), &2);
+    equal(&rt, &selection.left_total(), &8);
+    holds(&rt, selection.left_total() > 3);
+    equal(&rt, &selection.take_weighted(3), &3);
+    holds(&rt, !selection.is_empty());
+    holds(&rt, selection.left_count() > 0);
+    equal(&rt, &selection.take_uniform(0), &0);
+    holds(&rt, selection.is_empty());
+    equal(&rt, &selection.left_total(), &0);
     ends_with(&rt, selection, &[3, 0, 2, 5]);
     Ok(())
 }
@@ -78,11 +79,11 @@ fn nothing_to_choose(rt: HostRuntime) -> Result<(), Fail> {
     let zeros = [0, 0, 0];
     for weights in [none.as_slice(), zeros.as_slice()] {
         let index = WeightedIndex::new(rt.alloc(), weights)?;
-        assert_eq!(rt; index.total(), 0);
+        equal(&rt, &index.total(), &0);
         let selection = begun(index)?;
-        assert!(rt; selection.is_empty());
-        assert_eq!(rt; selection.left_count(), 0);
-        assert_eq!(rt; selection.left_total(), 0);
+        holds(&rt, selection.is_empty());
+        equal(&rt, &selection.left_count(), &0);
+        equal(&rt, &selection.left_total(), &0);
         ends_with(&rt, selection, weights);
     }
     Ok(())
@@ -99,7 +100,7 @@ fn weights_of_each_length(rt: HostRuntime) -> Result<(), Fail> {
     let mut index = WeightedIndex::new(rt.alloc(), &[1, 1, 1])?;
     index.update(&[]);
     has_weights(&rt, &index, &[1, 1, 1]);
-    assert!(rt; index.count() == 3);
+    holds(&rt, index.count() == 3);
     index.update(&[(1, 4)]);
     has_weights(&rt, &index, &[1, 4, 1]);
     index.update(&[(2, 5), (0, 6), (2, 7)]);
@@ -111,12 +112,12 @@ fn weights_of_each_length(rt: HostRuntime) -> Result<(), Fail> {
 #[test]
 fn widest_weights(rt: HostRuntime) -> Result<(), Fail> {
     let index = WeightedIndex::new(rt.alloc(), &[u64::MAX; 3])?;
-    assert_eq!(rt; index.total(), 55_340_232_221_128_654_845);
+    equal(&rt, &index.total(), &55_340_232_221_128_654_845);
     for (number, place) in [
         (18_446_744_073_709_551_614, 0),
         (36_893_488_147_419_103_230, 2),
     ] {
-        assert!(rt; number < index.total());
+        holds(&rt, number < index.total());
         assert_eq!(rt; index.pick(number), place, "at {number}");
     }
     drop(index);
@@ -135,10 +136,10 @@ fn thousand_places(alloc: Global) -> Result<WeightedIndex, Fail> {
 #[test]
 fn index_thousand_places(rt: HostRuntime) -> Result<(), Fail> {
     let index = thousand_places(rt.alloc())?;
-    assert_eq!(rt; index.total(), 499_500);
+    equal(&rt, &index.total(), &499_500);
     for (number, place) in [(0, 1), (498_500, 998), (499_499, 999)] {
         let mut visits = Visits::new();
-        assert!(rt; number < index.total());
+        holds(&rt, number < index.total());
         assert_eq!(rt;
             index.pick_counted(number, &mut visits),
             place,
@@ -154,11 +155,11 @@ fn index_thousand_places(rt: HostRuntime) -> Result<(), Fail> {
 fn index_sets_one_of_a_thousand_places(rt: HostRuntime) -> Result<(), Fail> {
     let mut index = thousand_places(rt.alloc())?;
     let mut visits = Visits::new();
-    assert_eq!(rt; visits.count(), 0);
-    assert!(rt; index.count() > 998);
+    equal(&rt, &visits.count(), &0);
+    holds(&rt, index.count() > 998);
     index.set_counted(998, 0, &mut visits);
-    assert_eq!(rt; index.weight(998), 0);
-    assert!(rt; visits.count() <= 22);
+    equal(&rt, &index.weight(998), &0);
+    holds(&rt, visits.count() <= 22);
     drop(index);
     Ok(())
 }
@@ -166,12 +167,12 @@ fn index_sets_one_of_a_thousand_places(rt: HostRuntime) -> Result<(), Fail> {
 #[test]
 fn index_wide_weights(rt: HostRuntime) -> Result<(), Fail> {
     let index = WeightedIndex::new(rt.alloc(), &[u64::MAX; 3])?;
-    assert_eq!(rt; index.total(), 55_340_232_221_128_654_845);
+    equal(&rt, &index.total(), &55_340_232_221_128_654_845);
     let mut visits = Visits::new();
     let number = 36_893_488_147_419_103_230;
-    assert!(rt; number < index.total());
-    assert_eq!(rt; index.pick_counted(number, &mut visits), 2);
-    assert!(rt; visits.count() <= 3);
+    holds(&rt, number < index.total());
+    equal(&rt, &index.pick_counted(number, &mut visits), &2);
+    holds(&rt, visits.count() <= 3);
     drop(index);
     Ok(())
 }
@@ -180,13 +181,13 @@ fn index_wide_weights(rt: HostRuntime) -> Result<(), Fail> {
 fn draws_are_counted(rt: HostRuntime) -> Result<(), Fail> {
     let mut selection = begun(WeightedIndex::new(rt.alloc(), &[3, 0, 2, 5])?)?;
     let mut visits = Visits::new();
-    assert!(rt; selection.left_count() > 1);
-    assert_eq!(rt; selection.take_uniform_counted(1, &mut visits), 2);
-    assert!(rt; visits.count() <= 12);
+    holds(&rt, selection.left_count() > 1);
+    equal(&rt, &selection.take_uniform_counted(1, &mut visits), &2);
+    holds(&rt, visits.count() <= 12);
     let mut visits = Visits::new();
-    assert!(rt; selection.left_total() > 3);
-    assert_eq!(rt; selection.take_weighted_counted(3, &mut visits), 3);
-    assert!(rt; visits.count() <= 12);
+    holds(&rt, selection.left_total() > 3);
+    equal(&rt, &selection.take_weighted_counted(3, &mut visits), &3);
+    holds(&rt, visits.count() <= 12);
     ends_with(&rt, selection, &[3, 0, 2, 5]);
     Ok(())
 }

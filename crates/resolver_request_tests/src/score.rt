@@ -1,5 +1,6 @@
 //! Weights of observed peers, computed outside of this crate.
 
+use crate::asserts::equal;
 use resolver_request::score::{DURATION_MAX, Score};
 use std::process::Abort;
 use std::test::Fail;
@@ -9,7 +10,7 @@ const MILLISECOND: u128 = 1_000_000;
 /// Takes in observations, each its nanoseconds and its bytes, and compares the weight after each.
 fn weighs(rt: &impl Abort, observations: &[(u128, u64, u64)]) {
     let mut score = Score::default();
-    assert_eq!(rt; score.weight(), 1);
+    equal(rt, &score.weight(), &1);
     for (elapsed, bytes, weight) in observations {
         score.record(*elapsed, *bytes);
         assert_eq!(rt;
@@ -61,11 +62,11 @@ fn score_recovery(rt: HostRuntime) {
 fn score_extremes(rt: HostRuntime) {
     let mut score = Score::default();
     score.record(0, u64::MAX);
-    assert_eq!(rt; score.weight(), u64::MAX);
+    equal(&rt, &score.weight(), &u64::MAX);
     idle(&mut score, 64);
-    assert_eq!(rt; score.weight(), 1_000_000_000);
+    equal(&rt, &score.weight(), &1_000_000_000);
     idle(&mut score, 32);
-    assert_eq!(rt; score.weight(), 1);
+    equal(&rt, &score.weight(), &1);
 }
 
 #[test]
@@ -73,11 +74,11 @@ fn thirty_two_observations(rt: HostRuntime) {
     let mut score = Score::default();
     score.record(1, u64::MAX);
     idle(&mut score, 31);
-    assert_eq!(rt; score.weight(), 8_589_934_592_000_000_000);
+    equal(&rt, &score.weight(), &8_589_934_592_000_000_000);
     idle(&mut score, 1);
-    assert_eq!(rt; score.weight(), 4_294_967_296_000_000_000);
+    equal(&rt, &score.weight(), &4_294_967_296_000_000_000);
     idle(&mut score, 1);
-    assert_eq!(rt; score.weight(), 2_147_483_648_000_000_000);
+    equal(&rt, &score.weight(), &2_147_483_648_000_000_000);
 }
 
 #[test]
@@ -86,8 +87,8 @@ fn a_clone_is_its_source(rt: HostRuntime) -> Result<(), Fail> {
     score.record(MILLISECOND, 1000);
     let cloned = score.clone()?;
     score.record(MILLISECOND, 0);
-    assert_eq!(rt; cloned.weight(), 1_000_001);
-    assert_eq!(rt; score.weight(), 500_001);
+    equal(&rt, &cloned.weight(), &1_000_001);
+    equal(&rt, &score.weight(), &500_001);
     Ok(())
 }
 

@@ -2,6 +2,7 @@
 
 ghost use Rattle.resolver_request.specs.Spelling.{IsShort};
 
+use crate::asserts::{equal, equal_lists, holds};
 use crate::keys::{Key, Zeros};
 use bytes::{Bytes, BytesMut};
 use resolver_base::base::Fault;
@@ -37,9 +38,9 @@ fn wire_vectors(rt: HostRuntime) -> Result<(), Fail> {
         decodes(&rt, alloc, bytes, Some(fault))?;
     }
 
-    assert_eq!(rt; max_message_size::<Key>(0), 14);
-    assert_eq!(rt; max_message_size::<Key>(100), 114);
-    assert_eq!(rt; max_message_size::<Zeros>(0), 73);
+    equal(&rt, &max_message_size::<Key>(0), &14);
+    equal(&rt, &max_message_size::<Key>(100), &114);
+    equal(&rt, &max_message_size::<Zeros>(0), &73);
     Ok(())
 }
 
@@ -47,14 +48,14 @@ fn wire_vectors(rt: HostRuntime) -> Result<(), Fail> {
 fn spelled(rt: &impl Abort, alloc: Global, message: &Message<Key>, bytes: &[u8]) -> Result<(), Fail>
     requires { IsShort message.now.payload }
 {
-    assert_eq!(rt; message.encode_size(), bytes.len());
+    equal(rt, &message.encode_size(), &bytes.len());
     let mut out = BytesMut::new(alloc);
     message.write(&mut out)?;
-    assert_eq!(rt; out.as_slice(), bytes);
+    equal_lists(rt, out.as_slice(), bytes);
     out.extend_from_slice(&[7])?;
     let mut buffer = out.freeze()?;
     gives(rt, Message::read(&mut buffer), message)?;
-    assert_eq!(rt; buffer.as_slice(), [7].as_slice());
+    equal_lists(rt, buffer.as_slice(), &[7]);
     let alone = Bytes::copy_from_slice(alloc, bytes)?;
     gives(rt, Message::decode(alone), message)
 }
@@ -66,7 +67,7 @@ fn gives<T: PartialEq + Debug + Drop>(
     wanted: &T,
 ) -> Result<(), Fail> {
     let found = found?;
-    assert_eq!(rt; &found, wanted);
+    equal(rt, &found, wanted);
     drop(found);
     Ok(())
 }
@@ -79,7 +80,7 @@ fn decodes(rt: &impl Abort, alloc: Global, bytes: &[u8], fault: Option<Fault>) -
             assert_eq!(rt; None, fault, "at {bytes:?}");
             let mut out = BytesMut::new(alloc);
             message.write(&mut out)?;
-            assert_eq!(rt; out.as_slice(), bytes);
+            equal_lists(rt, out.as_slice(), bytes);
         }
     }
     Ok(())
@@ -144,8 +145,8 @@ fn responses_of_zeros(rt: HostRuntime) -> Result<(), Fail> {
         let value = BytesMut::zeroed(alloc, usize::from(len))?.freeze()?;
         let payload = Payload::<Key>::Response(value);
         let message = Message { id: 0, payload };
-        assert_eq!(rt; message.encode_size(), size);
-        assert_eq!(rt; message.encode_inline_size(), inline_size);
+        equal(&rt, &message.encode_size(), &size);
+        equal(&rt, &message.encode_inline_size(), &inline_size);
         let written = is_written(&rt, alloc, &message, count, length);
         drop(message);
         written?;
@@ -165,14 +166,17 @@ fn is_written(
     requires { IsShort message.now.payload }
 {
     let pieces = message.write_bufs(alloc)?;
-    assert_eq!(rt; pieces.len(), count);
+    equal(rt, &pieces.len(), &count);
     drop(pieces);
 
     let mut out = BytesMut::new(alloc);
     message.write(&mut out)?;
-    assert_eq!(rt; out.len(), message.encode_size());
-    assert!(rt; out.as_slice().starts_with(b"\0\0\0\0\0\0\0\0\x01"));
-    assert!(rt; out.as_slice().get(9..message.encode_inline_size()) == Some(length));
+    equal(rt, &out.len(), &message.encode_size());
+    holds(rt, out.as_slice().starts_with(b"\0\0\0\0\0\0\0\0\x01"));
+    holds(
+        rt,
+        out.as_slice().get(9..message.encode_inline_size()) == Some(length),
+    );
     gives(rt, Message::decode(out.freeze()?), message)
 }
 
@@ -206,15 +210,20 @@ fn keys_refused(rt: HostRuntime) -> Result<(), Fail> {
     drop(request);
     read?;
     let short = BytesMut::zeroed(alloc, 72)?.freeze()?;
-    assert_eq!(rt;
-        Message::<Zeros>::decode(short).err(),
-        Some(Fault::EndOfBuffer)
+    equal(
+        &rt,
+        &Message::<Zeros>::decode(short).err(),
+        &Some(Fault::EndOfBuffer),
     );
 
     let mut bytes = BytesMut::zeroed(alloc, 72)?;
     bytes.extend_from_slice(&[1])?;
     let mut bytes = bytes.freeze()?;
-    assert_eq!(rt; Message::<Zeros>::read(&mut bytes).err(), Some(Fault::Key));
-    assert_eq!(rt; bytes.len(), 73);
+    equal(
+        &rt,
+        &Message::<Zeros>::read(&mut bytes).err(),
+        &Some(Fault::Key),
+    );
+    equal(&rt, &bytes.len(), &73);
     Ok(())
 }
