@@ -1,3 +1,4 @@
+use crate::asserts::{equal, holds};
 use resolver_base::base::NonEmptyVec;
 use resolver_base::root::{Delivery, Outcome, Resolution};
 use resolver_demand::delivery::{Aborted, Completion};
@@ -26,8 +27,8 @@ fn completed(alloc: Global) -> Result<Over, AllocError> {
 }
 
 fn is_same(rt: &impl Abort, same: Over, completion: &Over) {
-    assert!(rt; same == *completion);
-    assert_eq!(rt; *same.delivery.subscribers.first(), (10, 7));
+    holds(rt, same == *completion);
+    equal(rt, same.delivery.subscribers.first(), &(10, 7));
     drop(same);
 }
 
@@ -38,7 +39,7 @@ fn compares_clones(rt: &impl Abort, completion: &Over) -> Result<(), AllocError>
         canceled: false,
         ..completion.clone()?
     };
-    assert!(rt; other != *completion);
+    holds(rt, other != *completion);
     drop(other);
     Ok(())
 }
@@ -50,6 +51,6 @@ fn a_clone_is_the_same(rt: HostRuntime) -> Result<(), Fail> {
     let compared = compares_clones(&rt, &completion);
     drop(completion);
     compared?;
-    assert!(rt; copied(&Aborted {})? == Aborted {});
+    holds(&rt, copied(&Aborted {})? == Aborted {});
     Ok(())
 }

@@ -3,6 +3,7 @@
 //! A test is a table of calls, and the text of what they answer. The entries are made, used and dropped
 //! in few places, so that the tests are proved without what they are.
 
+use crate::asserts::{equal, equal_texts};
 use resolver_base::base::{Fault, NonEmptyVec};
 use resolver_base::root::{Delivery, Outcome, Resolution};
 use resolver_demand::delivery::{Aborted, Completion, Entries};
@@ -276,9 +277,10 @@ fn entries(rt: HostRuntime) -> Result<(), Fail> {
         Call::Look(Look::Contains(1)),
         Call::Remove(1),
     ];
-    assert_eq!(rt;
+    equal_texts(
+        &rt,
         told(rt.alloc(), &calls)?.as_str(),
-        " false true true false true false false"
+        " false true true false true false false",
     );
     Ok(())
 }
@@ -299,9 +301,10 @@ fn caches_a_response(rt: HostRuntime) -> Result<(), Fail> {
         Call::Look(Look::Response(1)),
         Call::Look(Look::IsAccepted(1)),
     ];
-    assert_eq!(rt;
+    equal_texts(
+        &rt,
         told(rt.alloc(), &calls)?.as_str(),
-        " true false 0 Some(0) false true Some((0, 5, 40)) Some((0, 1, 40, false)) None false"
+        " true false 0 Some(0) false true Some((0, 5, 40)) Some((0, 1, 40, false)) None false",
     );
     Ok(())
 }
@@ -353,43 +356,50 @@ fn completed_for_another(alloc: Global, verdict: Option<Outcome>) -> Result<Stri
 
 #[test]
 fn completes(rt: HostRuntime) -> Result<(), Fail> {
-    assert_eq!(rt;
+    equal_texts(
+        &rt,
         completed_twice(rt.alloc(), COMPLETE)?.as_str(),
-        " true 0 response 0 of 40 key 1 (10, 7) Some(Resolved(Complete)) false false aborted None"
+        " true 0 response 0 of 40 key 1 (10, 7) Some(Resolved(Complete)) false false aborted None",
     );
-    assert_eq!(rt;
+    equal_texts(
+        &rt,
         completed_twice(rt.alloc(), None)?.as_str(),
-        " true 0 response 0 of 40 key 1 (10, 7) None false false aborted None"
+        " true 0 response 0 of 40 key 1 (10, 7) None false false aborted None",
     );
-    assert_eq!(rt;
+    equal_texts(
+        &rt,
         completed_twice(rt.alloc(), INVALID)?.as_str(),
-        " true 0 response 0 of 40 key 1 (10, 7) Some(Invalid) false false aborted None"
+        " true 0 response 0 of 40 key 1 (10, 7) Some(Invalid) false false aborted None",
     );
     Ok(())
 }
 
 #[test]
 fn completes_what_was_removed(rt: HostRuntime) -> Result<(), Fail> {
-    assert_eq!(rt;
+    equal_texts(
+        &rt,
         completed_without_a_key(rt.alloc(), COMPLETE)?.as_str(),
-        " true 0 true response 0 of 40 key 1 (10, 7) Some(Resolved(Complete)) true false aborted None"
+        " true 0 true response 0 of 40 key 1 (10, 7) Some(Resolved(Complete)) true false aborted None",
     );
-    assert_eq!(rt;
+    equal_texts(
+        &rt,
         completed_without_a_key(rt.alloc(), None)?.as_str(),
-        " true 0 true aborted aborted None"
+        " true 0 true aborted aborted None",
     );
     Ok(())
 }
 
 #[test]
 fn completes_what_was_removed_and_tracked_again(rt: HostRuntime) -> Result<(), Fail> {
-    assert_eq!(rt;
+    equal_texts(
+        &rt,
         completed_for_another(rt.alloc(), IGNORED)?.as_str(),
-        " true 0 true true response 0 of 40 key 1 (10, 7) Some(Ignored) true false aborted None"
+        " true 0 true true response 0 of 40 key 1 (10, 7) Some(Ignored) true false aborted None",
     );
-    assert_eq!(rt;
+    equal_texts(
+        &rt,
         completed_for_another(rt.alloc(), None)?.as_str(),
-        " true 0 true true aborted aborted None"
+        " true 0 true true aborted aborted None",
     );
     Ok(())
 }
@@ -409,11 +419,12 @@ fn tells_a_new_delivery_from_an_old_one(rt: HostRuntime) -> Result<(), Fail> {
         Call::Redeliver(1),
         Call::Complete(2, INVALID),
     ];
-    assert_eq!(rt;
+    equal_texts(
+        &rt,
         told(rt.alloc(), &calls)?.as_str(),
         " true 0 true true 1 response 0 of 40 key 1 (10, 7) Some(Invalid) true false Some(1) \
         response 1 of 41 key 1 (10, 7) None false false 2 \
-        response 1 of 41 key 1 (10, 7) Some(Invalid) false true"
+        response 1 of 41 key 1 (10, 7) Some(Invalid) false true",
     );
     Ok(())
 }
@@ -427,7 +438,11 @@ fn lets_keys_go(rt: HostRuntime) -> Result<(), Fail> {
         Call::Drain,
         Call::Look(Look::Contains(0)),
     ];
-    assert_eq!(rt; told(rt.alloc(), &calls)?.as_str(), " 10 7 0 1 2 3 false");
+    equal_texts(
+        &rt,
+        told(rt.alloc(), &calls)?.as_str(),
+        " 10 7 0 1 2 3 false",
+    );
     Ok(())
 }
 
@@ -444,9 +459,10 @@ fn clears_all_but_the_numbers(rt: HostRuntime) -> Result<(), Fail> {
         Call::Insert(1),
         Call::Deliver(1, 41),
     ];
-    assert_eq!(rt;
+    equal_texts(
+        &rt,
         told(rt.alloc(), &calls)?.as_str(),
-        " true 0 Some(Some(0)) None None None true 1"
+        " true 0 Some(Some(0)) None None None true 1",
     );
     Ok(())
 }
@@ -465,9 +481,10 @@ fn gives_what_was_kept_of_a_key(rt: HostRuntime) -> Result<(), Fail> {
         Call::Look(Look::Keys),
         Call::Look(Look::Number(1)),
     ];
-    assert_eq!(rt;
+    equal_texts(
+        &rt,
         told(rt.alloc(), &calls)?.as_str(),
-        " 0 Some((Some(0), Some(5))) false None Some((None, None)) 1 None"
+        " 0 Some((Some(0), Some(5))) false None Some((None, None)) 1 None",
     );
     Ok(())
 }
@@ -500,9 +517,10 @@ fn staged(alloc: Global) -> Result<([bool; 2], [Option<u32>; 3]), Fault> {
 
 #[test]
 fn keeps_a_state(rt: HostRuntime) -> Result<(), Fail> {
-    assert_eq!(rt;
-        staged(rt.alloc())?,
-        ([true, false], [Some(20), Some(40), None])
+    equal(
+        &rt,
+        &staged(rt.alloc())?,
+        &([true, false], [Some(20), Some(40), None]),
     );
     Ok(())
 }
@@ -545,6 +563,6 @@ fn ten_thousand(alloc: Global) -> Result<(u64, bool, Option<u64>), Fail> {
 
 #[test]
 fn closes_ten_thousand_backwards(rt: HostRuntime) -> Result<(), Fail> {
-    assert_eq!(rt; ten_thousand(rt.alloc())?, (10_000, false, None));
+    equal(&rt, &ten_thousand(rt.alloc())?, &(10_000, false, None));
     Ok(())
 }

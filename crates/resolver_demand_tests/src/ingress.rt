@@ -1,6 +1,7 @@
 ghost use Rattle.std.specs.Prelude.{true};
 ghost use Rattle.std.proofs.Common.{rules};
 
+use crate::asserts::{equal, holds};
 use crate::counting::{Counting, Tally};
 use resolver_base::base::{Fault, NonEmptyVec};
 use resolver_base::root::Fetch;
@@ -32,7 +33,7 @@ fn told_of_one(alloc: Global) -> Result<Told, AllocError> {
 
 #[test]
 fn fetch_of_one_subscriber(rt: HostRuntime) -> Result<(), Fail> {
-    assert_eq!(rt; told_of_one(rt.alloc())?, (1, (20, 7), 1, true));
+    equal(&rt, &told_of_one(rt.alloc())?, &(1, (20, 7), 1, true));
     Ok(())
 }
 
@@ -105,9 +106,9 @@ fn copied(alloc: Global, message: Plain) -> Result<(Option<First>, bool), AllocE
 fn message_is_copied(rt: HostRuntime) -> Result<(), Fail> {
     let alloc = rt.alloc();
     let (fetches, _) = copied(alloc, one(alloc, 1, 20)?)?;
-    assert_eq!(rt; fetches, Some((1, 1, (20, 0), 1)));
+    equal(&rt, &fetches, &Some((1, 1, (20, 0), 1)));
     let (_, is_test) = copied(alloc, Message::Retain(All))?;
-    assert!(rt; is_test);
+    holds(&rt, is_test);
     Ok(())
 }
 
@@ -199,12 +200,12 @@ fn queued(alloc: Global, looks: &Cell<u32>) -> Result<Queued, Fault> {
 fn each_of_ten_thousand_keys_is_compared_with_few(rt: HostRuntime) -> Result<(), Fail> {
     let (counts, is_test, fetches) = queued(rt.alloc(), &Cell::new(0))?;
     let [first, again, kept] = counts;
-    assert!(rt; 0 < first);
-    assert!(rt; first <= 1_000_000);
-    assert!(rt; again <= 1_000_000);
-    assert!(rt; kept <= 1_000_000);
-    assert!(rt; is_test);
-    assert_eq!(rt; fetches, Some((10_000, 2)));
+    holds(&rt, 0 < first);
+    holds(&rt, first <= 1_000_000);
+    holds(&rt, again <= 1_000_000);
+    holds(&rt, kept <= 1_000_000);
+    holds(&rt, is_test);
+    equal(&rt, &fetches, &Some((10_000, 2)));
     Ok(())
 }
 

@@ -6,6 +6,7 @@
 ghost use Rattle.std.specs.Prelude.{nat_le};
 ghost use Rattle.std.proofs.Common.{rules};
 
+use crate::asserts::equal_texts;
 use resolver_base::base::Fault;
 use resolver_base::root::Fetch;
 use resolver_demand::ingress::{FetchKey, Kept, Message, Pending, Test};
@@ -214,9 +215,10 @@ fn overflow_rejected_drain(rt: HostRuntime) -> Result<(), Fail> {
         Call::TakeAll,
         Call::IsEmpty,
     ];
-    assert_eq!(rt;
+    equal_texts(
+        &rt,
         told(rt.alloc(), &calls)?.as_str(),
-        " tests 1 tests 0 2 10:0 11:0, 1 20:0, 3 30:0, true"
+        " tests 1 tests 0 2 10:0 11:0, 1 20:0, 3 30:0, true",
     );
     Ok(())
 }
@@ -231,9 +233,10 @@ fn overflow_retain(rt: HostRuntime) -> Result<(), Fail> {
         Call::TakeAll,
         Call::IsEmpty,
     ];
-    assert_eq!(rt;
+    equal_texts(
+        &rt,
         told(rt.alloc(), &calls)?.as_str(),
-        " tests 1 99 10:0 11:0, 0 12:0, true"
+        " tests 1 99 10:0 11:0, 0 12:0, true",
     );
     Ok(())
 }
@@ -249,9 +252,10 @@ fn first_is_taken_by_itself(rt: HostRuntime) -> Result<(), Fail> {
         Call::Pop,
         Call::Pop,
     ];
-    assert_eq!(rt;
+    equal_texts(
+        &rt,
         told(rt.alloc(), &calls)?.as_str(),
-        " none from 0 1 10:0, 2 20:0, none"
+        " none from 0 1 10:0, 2 20:0, none",
     );
     Ok(())
 }

@@ -6,6 +6,7 @@
 ghost use Rattle.std.specs.Prelude.{◌==◌, ◌%◌};
 ghost use Rattle.std.proofs.Common.{rules};
 
+use crate::asserts::{equal, equal_texts, holds};
 use crate::counting::{Counting, Tally};
 use resolver_base::base::{Fault, NonEmptyVec};
 use resolver_demand::ingress::Predicate;
@@ -179,9 +180,10 @@ fn tracker(rt: HostRuntime) -> Result<(), Fail> {
         Call::Delivered(1, &[(10, 0), (12, 0)]),
         Call::Pending(1),
     ];
-    assert_eq!(rt;
+    equal_texts(
+        &rt,
         told(rt.alloc(), &calls)?.as_str(),
-        " true\n false\n 10:0 11:0 12:0\n 11:0\n 11:0\n"
+        " true\n false\n 10:0 11:0 12:0\n 11:0\n 11:0\n",
     );
     Ok(())
 }
@@ -193,9 +195,10 @@ fn tracker_marks(rt: HostRuntime) -> Result<(), Fail> {
         Call::Insert(1, &[(10, 8), (11, 8)]),
         Call::Pending(1),
     ];
-    assert_eq!(rt;
+    equal_texts(
+        &rt,
         told(rt.alloc(), &calls)?.as_str(),
-        " true\n false\n 10:7 11:8\n"
+        " true\n false\n 10:7 11:8\n",
     );
     Ok(())
 }
@@ -209,9 +212,10 @@ fn tracker_retain(rt: HostRuntime) -> Result<(), Fail> {
         Call::Pending(2),
         Call::Pending(1),
     ];
-    assert_eq!(rt;
+    equal_texts(
+        &rt,
         told(rt.alloc(), &calls)?.as_str(),
-        " true\n true\n 1\n 20:0\n nobody\n"
+        " true\n true\n 1\n 20:0\n nobody\n",
     );
     Ok(())
 }
@@ -226,9 +230,10 @@ fn tracker_retain_empties_three(rt: HostRuntime) -> Result<(), Fail> {
         Call::IsEmpty,
         Call::Retain,
     ];
-    assert_eq!(rt;
+    equal_texts(
+        &rt,
         told(rt.alloc(), &calls)?.as_str(),
-        " true\n true\n true\n 1 2 3\n true\n\n"
+        " true\n true\n true\n 1 2 3\n true\n\n",
     );
     Ok(())
 }
@@ -239,7 +244,11 @@ fn tracker_one_of_three_delivered(rt: HostRuntime) -> Result<(), Fail> {
         Call::Insert(1, &[(12, 0), (10, 0), (11, 0)]),
         Call::Delivered(1, &[(11, 0)]),
     ];
-    assert_eq!(rt; told(rt.alloc(), &calls)?.as_str(), " true\n 10:0 12:0\n");
+    equal_texts(
+        &rt,
+        told(rt.alloc(), &calls)?.as_str(),
+        " true\n 10:0 12:0\n",
+    );
     Ok(())
 }
 
@@ -251,9 +260,10 @@ fn tracker_all_delivered(rt: HostRuntime) -> Result<(), Fail> {
         Call::Contains(1),
         Call::Delivered(1, &[(10, 0), (11, 0)]),
     ];
-    assert_eq!(rt;
+    equal_texts(
+        &rt,
         told(rt.alloc(), &calls)?.as_str(),
-        " true\n nobody\n false\n nobody\n"
+        " true\n nobody\n false\n nobody\n",
     );
     Ok(())
 }
@@ -272,9 +282,10 @@ fn tracker_takes_a_new_key_or_attaches(rt: HostRuntime) -> Result<(), Fail> {
         Call::InsertNew(3, &[(30, 1), (30, 2)]),
         Call::Pending(3),
     ];
-    assert_eq!(rt;
+    equal_texts(
+        &rt,
         told(rt.alloc(), &calls)?.as_str(),
-        " 12:7 10:7\n false\n\n\n nobody\n nobody\n 10:7 11:8 12:7\n 19:4 20:1 21:2 22:3 23:6\n\n 30:1\n"
+        " 12:7 10:7\n false\n\n\n nobody\n nobody\n 10:7 11:8 12:7\n 19:4 20:1 21:2 22:3 23:6\n\n 30:1\n",
     );
     Ok(())
 }
@@ -375,9 +386,10 @@ fn thousand(alloc: Global) -> Result<Thousand, Fail> {
 #[test]
 fn holds_a_thousand_keys(rt: HostRuntime) -> Result<(), Fail> {
     let seen = [true, false, true, true, true, true];
-    assert_eq!(rt;
-        thousand(rt.alloc())?,
-        (1000, 1000, true, Some(1000), seen, true)
+    equal(
+        &rt,
+        &thousand(rt.alloc())?,
+        &(1000, 1000, true, Some(1000), seen, true),
     );
     Ok(())
 }
@@ -483,14 +495,15 @@ fn many(alloc: Global) -> Result<Many, Fail> {
 
 #[test]
 fn many_subscribers_stand_in_order(rt: HostRuntime) -> Result<(), Fail> {
-    assert_eq!(rt;
-        many(rt.alloc())?,
-        (
+    equal(
+        &rt,
+        &many(rt.alloc())?,
+        &(
             [true, false, false],
             Some(41),
             [Some(39), Some(39), Some(20)],
-            Some(41)
-        )
+            Some(41),
+        ),
     );
     Ok(())
 }
@@ -534,8 +547,8 @@ fn looks_at_each(alloc: Global, looks: &Cell<u32>) -> Result<[u32; 2], Fault> {
 #[test]
 fn a_subscriber_is_compared_with_few_others(rt: HostRuntime) -> Result<(), Fail> {
     let [first, again] = looks_at_each(rt.alloc(), &Cell::new(0))?;
-    assert!(rt; 0 < first);
-    assert!(rt; first <= 1_000_000);
-    assert!(rt; again <= 1_000_000);
+    holds(&rt, 0 < first);
+    holds(&rt, first <= 1_000_000);
+    holds(&rt, again <= 1_000_000);
     Ok(())
 }

@@ -6,6 +6,7 @@
 ghost use Rattle.std.specs.Prelude.{true};
 ghost use Rattle.std.proofs.Common.{rules};
 
+use crate::asserts::{equal, equal_texts};
 use resolver_base::base::NonEmptyVec;
 use resolver_demand::ingress::{FetchKey, Message, Metadata, Pending, Predicate};
 use std::alloc::Global;
@@ -143,9 +144,9 @@ fn queued(alloc: Global, fetches: &[&[u16]]) -> Result<String, Fail> {
 #[test]
 fn overflow_targets(rt: HostRuntime) -> Result<(), Fail> {
     let joined = queued(rt.alloc(), &[&[2, 3], &[3, 4]])?;
-    assert_eq!(rt; joined.as_str(), " 1 of 2 3 4");
+    equal_texts(&rt, joined.as_str(), " 1 of 2 3 4");
     let any = queued(rt.alloc(), &[&[2], &[], &[3]])?;
-    assert_eq!(rt; any.as_str(), " 1 of any");
+    equal_texts(&rt, any.as_str(), " 1 of any");
     Ok(())
 }
 
@@ -181,11 +182,12 @@ fn copied(alloc: Global, told: Told) -> Result<String, Fail> {
 #[test]
 fn targets_are_copied(rt: HostRuntime) -> Result<(), Fail> {
     let alloc = rt.alloc();
-    assert_eq!(rt; copied_targets(alloc, &[2, 3])?.as_str(), " 2 3");
-    assert_eq!(rt; copied_targets(alloc, &[])?.as_str(), " any");
-    assert_eq!(rt;
+    equal_texts(&rt, copied_targets(alloc, &[2, 3])?.as_str(), " 2 3");
+    equal_texts(&rt, copied_targets(alloc, &[])?.as_str(), " any");
+    equal_texts(
+        &rt,
         copied(alloc, fetch(alloc, &[2, 3])?)?.as_str(),
-        " 1 of 2 3"
+        " 1 of 2 3",
     );
     Ok(())
 }
@@ -202,7 +204,7 @@ fn merged(alloc: Global, earlier: &[u16], later: &[u16]) -> Result<String, Fail>
 #[test]
 fn many_targets_are_joined(rt: HostRuntime) -> Result<(), Fail> {
     let all = merged(rt.alloc(), &[5], &[9, 8, 7, 6, 5, 4, 3, 4, 5, 6])?;
-    assert_eq!(rt; all.as_str(), " 5 9 8 7 6 4 3");
+    equal_texts(&rt, all.as_str(), " 5 9 8 7 6 4 3");
     Ok(())
 }
 
@@ -210,7 +212,7 @@ fn many_targets_are_joined(rt: HostRuntime) -> Result<(), Fail> {
 fn nothing_said_stays(rt: HostRuntime) -> Result<(), Fail> {
     let mut all = ();
     all.merge(rt.alloc(), ())?;
-    assert_eq!(rt; all.copy()?, ());
+    equal(&rt, &all.copy()?, &());
     Ok(())
 }
 
@@ -239,7 +241,7 @@ fn copies_of_each_length(rt: HostRuntime) -> Result<(), Fail> {
         ([4].as_slice(), " 4 of any"),
         ([4, 1, 3].as_slice(), " 4 of any 1 of any 3 of any"),
     ] {
-        assert_eq!(rt; copied(alloc, fetches(alloc, keys)?)?.as_str(), seen);
+        equal_texts(&rt, copied(alloc, fetches(alloc, keys)?)?.as_str(), seen);
     }
     Ok(())
 }
@@ -252,7 +254,7 @@ fn messages_of_each_length(rt: HostRuntime) -> Result<(), Fail> {
         ([4].as_slice(), " 1 of any 4 of any"),
         ([4, 1, 3].as_slice(), " 1 of any 4 of any 3 of any"),
     ] {
-        assert_eq!(rt; waiting(alloc, keys)?.as_str(), seen);
+        equal_texts(&rt, waiting(alloc, keys)?.as_str(), seen);
     }
     Ok(())
 }

@@ -1,0 +1,26 @@
+//! Assertions as functions, so that a test that makes many isn't gone over, as it is proved, for what each of
+//! them would print.
+
+ghost use Rattle.std.specs.Prelude.{IsTrue};
+
+use std::fmt::Debug;
+use std::process::Abort;
+
+/// Ends the test where a value isn't the one that is wanted.
+pub fn equal<T: PartialEq + Debug>(rt: &impl Abort, found: &T, wanted: &T)
+    ensures { IsTrue (T.eq found.now wanted.now) }
+{
+    assert_eq!(rt; found, wanted);
+}
+
+/// Ends the test where a text isn't the one that is wanted.
+pub fn equal_texts(rt: &impl Abort, found: &str, wanted: &str) {
+    assert_eq!(rt; found, wanted);
+}
+
+/// Ends the test where a condition doesn't hold.
+pub fn holds(rt: &impl Abort, condition: bool)
+    ensures { IsTrue condition }
+{
+    assert!(rt; condition);
+}
