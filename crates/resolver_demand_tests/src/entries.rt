@@ -268,7 +268,7 @@ fn told(alloc: Global, calls: &[Call]) -> Result<String, Fail> {
 
 #[test]
 fn entries(rt: HostRuntime) -> Result<(), Fail> {
-    let calls = [
+    const CALLS: &[Call] = &[
         Call::Look(Look::Contains(1)),
         Call::Insert(1),
         Call::Look(Look::Contains(1)),
@@ -279,7 +279,7 @@ fn entries(rt: HostRuntime) -> Result<(), Fail> {
     ];
     equal_texts(
         &rt,
-        told(rt.alloc(), &calls)?.as_str(),
+        told(rt.alloc(), CALLS)?.as_str(),
         " false true true false true false false",
     );
     Ok(())
@@ -287,7 +287,7 @@ fn entries(rt: HostRuntime) -> Result<(), Fail> {
 
 #[test]
 fn caches_a_response(rt: HostRuntime) -> Result<(), Fail> {
-    let calls = [
+    const CALLS: &[Call] = &[
         Call::Insert(1),
         Call::Look(Look::IsAccepted(1)),
         Call::Deliver(1, 40),
@@ -303,7 +303,7 @@ fn caches_a_response(rt: HostRuntime) -> Result<(), Fail> {
     ];
     equal_texts(
         &rt,
-        told(rt.alloc(), &calls)?.as_str(),
+        told(rt.alloc(), CALLS)?.as_str(),
         " true false 0 Some(0) false true Some((0, 5, 40)) Some((0, 1, 40, false)) None false",
     );
     Ok(())
@@ -406,7 +406,7 @@ fn completes_what_was_removed_and_tracked_again(rt: HostRuntime) -> Result<(), F
 
 #[test]
 fn tells_a_new_delivery_from_an_old_one(rt: HostRuntime) -> Result<(), Fail> {
-    let calls = [
+    const CALLS: &[Call] = &[
         Call::Insert(1),
         Call::Deliver(1, 40),
         Call::Remove(1),
@@ -421,7 +421,7 @@ fn tells_a_new_delivery_from_an_old_one(rt: HostRuntime) -> Result<(), Fail> {
     ];
     equal_texts(
         &rt,
-        told(rt.alloc(), &calls)?.as_str(),
+        told(rt.alloc(), CALLS)?.as_str(),
         " true 0 true true 1 response 0 of 40 key 1 (10, 7) Some(Invalid) true false Some(1) \
         response 1 of 41 key 1 (10, 7) None false false 2 \
         response 1 of 41 key 1 (10, 7) Some(Invalid) false true",
@@ -431,7 +431,7 @@ fn tells_a_new_delivery_from_an_old_one(rt: HostRuntime) -> Result<(), Fail> {
 
 #[test]
 fn lets_keys_go(rt: HostRuntime) -> Result<(), Fail> {
-    let calls = [
+    const CALLS: &[Call] = &[
         Call::InsertBelow(10),
         Call::Retain(3),
         Call::Look(Look::Keys),
@@ -440,7 +440,7 @@ fn lets_keys_go(rt: HostRuntime) -> Result<(), Fail> {
     ];
     equal_texts(
         &rt,
-        told(rt.alloc(), &calls)?.as_str(),
+        told(rt.alloc(), CALLS)?.as_str(),
         " 10 7 0 1 2 3 false",
     );
     Ok(())
@@ -448,7 +448,7 @@ fn lets_keys_go(rt: HostRuntime) -> Result<(), Fail> {
 
 #[test]
 fn clears_all_but_the_numbers(rt: HostRuntime) -> Result<(), Fail> {
-    let calls = [
+    const CALLS: &[Call] = &[
         Call::Insert(1),
         Call::Deliver(1, 40),
         Call::Look(Look::Entry(1)),
@@ -461,7 +461,7 @@ fn clears_all_but_the_numbers(rt: HostRuntime) -> Result<(), Fail> {
     ];
     equal_texts(
         &rt,
-        told(rt.alloc(), &calls)?.as_str(),
+        told(rt.alloc(), CALLS)?.as_str(),
         " true 0 Some(Some(0)) None None None true 1",
     );
     Ok(())
@@ -469,7 +469,7 @@ fn clears_all_but_the_numbers(rt: HostRuntime) -> Result<(), Fail> {
 
 #[test]
 fn gives_what_was_kept_of_a_key(rt: HostRuntime) -> Result<(), Fail> {
-    let calls = [
+    const CALLS: &[Call] = &[
         Call::InsertNew(1),
         Call::InsertNew(2),
         Call::Deliver(1, 40),
@@ -483,7 +483,7 @@ fn gives_what_was_kept_of_a_key(rt: HostRuntime) -> Result<(), Fail> {
     ];
     equal_texts(
         &rt,
-        told(rt.alloc(), &calls)?.as_str(),
+        told(rt.alloc(), CALLS)?.as_str(),
         " 0 Some((Some(0), Some(5))) false None Some((None, None)) 1 None",
     );
     Ok(())

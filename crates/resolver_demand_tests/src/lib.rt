@@ -1,6 +1,6 @@
-//! Tests of `resolver_demand`, through its public calls.
+//! Tests of `resolver_demand` and of `resolver_delivery`, through their public calls.
 //!
-//! They stand in a crate of their own, so that the library isn't proved a second time with them.
+//! They stand in a crate of their own, so that the libraries aren't proved a second time with them.
 #![tactic(auto)]
 
 #[cfg(test)]
@@ -14,8 +14,14 @@ mod entries;
 #[cfg(test)]
 mod ingress;
 #[cfg(test)]
+mod names;
+#[cfg(test)]
 mod pending;
+#[cfg(test)]
+mod slow;
 #[cfg(test)]
 mod subscribers;
 #[cfg(test)]
 mod targets;
+#[cfg(test)]
+mod tracker;

@@ -204,7 +204,7 @@ fn told(alloc: Global, calls: &[Call]) -> Result<String, Fail> {
 
 #[test]
 fn overflow_rejected_drain(rt: HostRuntime) -> Result<(), Fail> {
-    let calls = [
+    const CALLS: &[Call] = &[
         Call::Fetch(2, 10),
         Call::Fetch(1, 20),
         Call::Retain(0),
@@ -217,7 +217,7 @@ fn overflow_rejected_drain(rt: HostRuntime) -> Result<(), Fail> {
     ];
     equal_texts(
         &rt,
-        told(rt.alloc(), &calls)?.as_str(),
+        told(rt.alloc(), CALLS)?.as_str(),
         " tests 1 tests 0 2 10:0 11:0, 1 20:0, 3 30:0, true",
     );
     Ok(())
@@ -225,7 +225,7 @@ fn overflow_rejected_drain(rt: HostRuntime) -> Result<(), Fail> {
 
 #[test]
 fn overflow_retain(rt: HostRuntime) -> Result<(), Fail> {
-    let calls = [
+    const CALLS: &[Call] = &[
         Call::FetchBelow(100),
         Call::Retain(99),
         Call::Fetch(99, 11),
@@ -235,7 +235,7 @@ fn overflow_retain(rt: HostRuntime) -> Result<(), Fail> {
     ];
     equal_texts(
         &rt,
-        told(rt.alloc(), &calls)?.as_str(),
+        told(rt.alloc(), CALLS)?.as_str(),
         " tests 1 99 10:0 11:0, 0 12:0, true",
     );
     Ok(())
@@ -243,7 +243,7 @@ fn overflow_retain(rt: HostRuntime) -> Result<(), Fail> {
 
 #[test]
 fn first_is_taken_by_itself(rt: HostRuntime) -> Result<(), Fail> {
-    let calls = [
+    const CALLS: &[Call] = &[
         Call::Pop,
         Call::Fetch(1, 10),
         Call::Retain(0),
@@ -254,7 +254,7 @@ fn first_is_taken_by_itself(rt: HostRuntime) -> Result<(), Fail> {
     ];
     equal_texts(
         &rt,
-        told(rt.alloc(), &calls)?.as_str(),
+        told(rt.alloc(), CALLS)?.as_str(),
         " none from 0 1 10:0, 2 20:0, none",
     );
     Ok(())

@@ -173,7 +173,7 @@ fn told(alloc: Global, calls: &[Call]) -> Result<String, Fail> {
 
 #[test]
 fn tracker(rt: HostRuntime) -> Result<(), Fail> {
-    let calls = [
+    const CALLS: &[Call] = &[
         Call::Insert(1, &[(10, 0), (11, 0)]),
         Call::Insert(1, &[(11, 0), (12, 0)]),
         Call::Pending(1),
@@ -182,7 +182,7 @@ fn tracker(rt: HostRuntime) -> Result<(), Fail> {
     ];
     equal_texts(
         &rt,
-        told(rt.alloc(), &calls)?.as_str(),
+        told(rt.alloc(), CALLS)?.as_str(),
         " true\n false\n 10:0 11:0 12:0\n 11:0\n 11:0\n",
     );
     Ok(())
@@ -190,14 +190,14 @@ fn tracker(rt: HostRuntime) -> Result<(), Fail> {
 
 #[test]
 fn tracker_marks(rt: HostRuntime) -> Result<(), Fail> {
-    let calls = [
+    const CALLS: &[Call] = &[
         Call::Insert(1, &[(10, 7)]),
         Call::Insert(1, &[(10, 8), (11, 8)]),
         Call::Pending(1),
     ];
     equal_texts(
         &rt,
-        told(rt.alloc(), &calls)?.as_str(),
+        told(rt.alloc(), CALLS)?.as_str(),
         " true\n false\n 10:7 11:8\n",
     );
     Ok(())
@@ -205,7 +205,7 @@ fn tracker_marks(rt: HostRuntime) -> Result<(), Fail> {
 
 #[test]
 fn tracker_retain(rt: HostRuntime) -> Result<(), Fail> {
-    let calls = [
+    const CALLS: &[Call] = &[
         Call::Insert(1, &[(11, 0)]),
         Call::Insert(2, &[(20, 0), (21, 0)]),
         Call::Retain,
@@ -214,7 +214,7 @@ fn tracker_retain(rt: HostRuntime) -> Result<(), Fail> {
     ];
     equal_texts(
         &rt,
-        told(rt.alloc(), &calls)?.as_str(),
+        told(rt.alloc(), CALLS)?.as_str(),
         " true\n true\n 1\n 20:0\n nobody\n",
     );
     Ok(())
@@ -222,7 +222,7 @@ fn tracker_retain(rt: HostRuntime) -> Result<(), Fail> {
 
 #[test]
 fn tracker_retain_empties_three(rt: HostRuntime) -> Result<(), Fail> {
-    let calls = [
+    const CALLS: &[Call] = &[
         Call::Insert(3, &[(11, 0)]),
         Call::Insert(1, &[(11, 0)]),
         Call::Insert(2, &[(11, 0)]),
@@ -232,7 +232,7 @@ fn tracker_retain_empties_three(rt: HostRuntime) -> Result<(), Fail> {
     ];
     equal_texts(
         &rt,
-        told(rt.alloc(), &calls)?.as_str(),
+        told(rt.alloc(), CALLS)?.as_str(),
         " true\n true\n true\n 1 2 3\n true\n\n",
     );
     Ok(())
@@ -240,13 +240,13 @@ fn tracker_retain_empties_three(rt: HostRuntime) -> Result<(), Fail> {
 
 #[test]
 fn tracker_one_of_three_delivered(rt: HostRuntime) -> Result<(), Fail> {
-    let calls = [
+    const CALLS: &[Call] = &[
         Call::Insert(1, &[(12, 0), (10, 0), (11, 0)]),
         Call::Delivered(1, &[(11, 0)]),
     ];
     equal_texts(
         &rt,
-        told(rt.alloc(), &calls)?.as_str(),
+        told(rt.alloc(), CALLS)?.as_str(),
         " true\n 10:0 12:0\n",
     );
     Ok(())
@@ -254,7 +254,7 @@ fn tracker_one_of_three_delivered(rt: HostRuntime) -> Result<(), Fail> {
 
 #[test]
 fn tracker_all_delivered(rt: HostRuntime) -> Result<(), Fail> {
-    let calls = [
+    const CALLS: &[Call] = &[
         Call::Insert(1, &[(10, 0), (11, 0)]),
         Call::Delivered(1, &[(10, 0), (11, 0)]),
         Call::Contains(1),
@@ -262,7 +262,7 @@ fn tracker_all_delivered(rt: HostRuntime) -> Result<(), Fail> {
     ];
     equal_texts(
         &rt,
-        told(rt.alloc(), &calls)?.as_str(),
+        told(rt.alloc(), CALLS)?.as_str(),
         " true\n nobody\n false\n nobody\n",
     );
     Ok(())
@@ -270,7 +270,7 @@ fn tracker_all_delivered(rt: HostRuntime) -> Result<(), Fail> {
 
 #[test]
 fn tracker_takes_a_new_key_or_attaches(rt: HostRuntime) -> Result<(), Fail> {
-    let calls = [
+    const CALLS: &[Call] = &[
         Call::Attach(1, &[(12, 7), (10, 7)]),
         Call::Contains(1),
         Call::InsertNew(1, &[(12, 7), (10, 7)]),
@@ -284,7 +284,7 @@ fn tracker_takes_a_new_key_or_attaches(rt: HostRuntime) -> Result<(), Fail> {
     ];
     equal_texts(
         &rt,
-        told(rt.alloc(), &calls)?.as_str(),
+        told(rt.alloc(), CALLS)?.as_str(),
         " 12:7 10:7\n false\n\n\n nobody\n nobody\n 10:7 11:8 12:7\n 19:4 20:1 21:2 22:3 23:6\n\n 30:1\n",
     );
     Ok(())

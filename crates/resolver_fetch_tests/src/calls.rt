@@ -395,21 +395,37 @@ pub fn goes_after(
 }
 
 /// What is seen once the scan is told this number.
-pub fn drawn(number: u128, seen: Seen) -> (Call<'static>, Seen) {
-    (Call::Answer(Drawn(number)), seen)
+macro_rules! drawn {
+    ($number:expr, $seen:expr) => {
+        (Call::Answer(Drawn($number)), $seen)
+    };
 }
+
+pub(crate) use drawn;
 
 /// What is seen once the scan is told that the peer may not be sent to before this moment.
-pub fn until(moment: u128, seen: Seen) -> (Call<'static>, Seen) {
-    (Call::Answer(Checked(Check::Until(moment))), seen)
+macro_rules! until {
+    ($moment:expr, $seen:expr) => {
+        (Call::Answer(Checked(Check::Until($moment))), $seen)
+    };
 }
+
+pub(crate) use until;
 
 /// What is seen once the scan is told that the peer may be sent to.
-pub fn clear(seen: Seen) -> (Call<'static>, Seen) {
-    (Call::Answer(Checked(Check::Clear)), seen)
+macro_rules! clear {
+    ($seen:expr) => {
+        (Call::Answer(Checked(Check::Clear)), $seen)
+    };
 }
 
+pub(crate) use clear;
+
 /// What is seen once the scan is told whether its request was accepted.
-pub fn sent(accepted: bool, seen: Seen) -> (Call<'static>, Seen) {
-    (Call::Answer(Sent(accepted)), seen)
+macro_rules! sent {
+    ($accepted:expr, $seen:expr) => {
+        (Call::Answer(Sent($accepted)), $seen)
+    };
 }
+
+pub(crate) use sent;

@@ -60,7 +60,7 @@ fn asks_first(rt: &impl Abort, alloc: Global, calls: &[(Call, Seen)]) -> Result<
 
 #[test]
 fn fetcher_first_request(rt: HostRuntime) -> Result<(), Fail> {
-    let calls = [
+    const CALLS: &[(Call, Seen)] = &[
         (Call::Deadline, Seen::At(Some(80))),
         (Call::Response { peer: 3, at: 40 }, Seen::Answered(None)),
         (
@@ -68,19 +68,19 @@ fn fetcher_first_request(rt: HostRuntime) -> Result<(), Fail> {
             Seen::Answered(Some((1, 0))),
         ),
     ];
-    asks_first(&rt, rt.alloc(), &calls)?;
+    asks_first(&rt, rt.alloc(), CALLS)?;
     Ok(())
 }
 
 #[test]
 fn a_second_request(rt: HostRuntime) -> Result<(), Fail> {
-    let request = Seen::Request {
+    const REQUEST: Seen = Seen::Request {
         peer: 4,
         id: 6,
         key: 2,
         priority: false,
     };
-    let calls = [
+    const CALLS: &[(Call, Seen)] = &[
         (Call::Phase(1), Seen::Phase(None, Some((5, 4)))),
         (Call::Ready { key: 2, at: 40 }, Seen::Done),
         (Call::Phase(2), Seen::Phase(Some((40, false)), None)),
@@ -89,7 +89,7 @@ fn a_second_request(rt: HostRuntime) -> Result<(), Fail> {
         (Call::Begin(40), Seen::Draw(4)),
         (Call::Answer(Drawn(0)), Seen::Draw(1)),
         (Call::Answer(Drawn(0)), Seen::Check(4)),
-        (Call::Answer(Checked(Check::Clear)), request),
+        (Call::Answer(Checked(Check::Clear)), REQUEST),
         (Call::Answer(Sent(true)), Seen::Over),
         (Call::Phase(2), Seen::Phase(None, Some((6, 4)))),
         (
@@ -98,13 +98,13 @@ fn a_second_request(rt: HostRuntime) -> Result<(), Fail> {
         ),
         (Call::Phase(1), Seen::Phase(None, None)),
     ];
-    asks_first(&rt, rt.alloc(), &calls)?;
+    asks_first(&rt, rt.alloc(), CALLS)?;
     Ok(())
 }
 
 #[test]
 fn targets_of_each_length(rt: HostRuntime) -> Result<(), Fail> {
-    let calls = [
+    const CALLS: &[(Call, Seen)] = &[
         (Call::TargetsOf(1), Seen::Last(None)),
         (Call::Targets(1, &[7]), Seen::Done),
         (Call::TargetsOf(1), Seen::Last(Some((1, 7)))),
@@ -113,24 +113,24 @@ fn targets_of_each_length(rt: HostRuntime) -> Result<(), Fail> {
         (Call::Targets(1, &[6]), Seen::Done),
         (Call::TargetsOf(1), Seen::Last(Some((2, 6)))),
     ];
-    goes(&rt, rt.alloc(), &calls)?;
+    goes(&rt, rt.alloc(), CALLS)?;
     Ok(())
 }
 
 #[test]
 fn fetcher_missing(rt: HostRuntime) -> Result<(), Fail> {
-    let calls = [
+    const CALLS: &[(Call, Seen)] = &[
         (Call::Missing(50), Seen::Popped(Some(1))),
         (Call::Counts, Seen::Counts(false, 0, false)),
         (Call::Weight(4), Seen::Weight(Some(1))),
     ];
-    asks_first(&rt, rt.alloc(), &calls)?;
+    asks_first(&rt, rt.alloc(), CALLS)?;
     Ok(())
 }
 
 #[test]
 fn fetcher_retry(rt: HostRuntime) -> Result<(), Fail> {
-    let calls = [
+    const CALLS: &[(Call, Seen)] = &[
         (Call::Missing(50), Seen::Popped(Some(1))),
         (Call::Counts, Seen::Counts(false, 0, false)),
         (Call::Retry { key: 1, at: 50 }, Seen::Done),
@@ -138,13 +138,13 @@ fn fetcher_retry(rt: HostRuntime) -> Result<(), Fail> {
         (Call::Begin(60), Seen::Draw(5)),
         (Call::Counts, Seen::Counts(true, 0, true)),
     ];
-    asks_first(&rt, rt.alloc(), &calls)?;
+    asks_first(&rt, rt.alloc(), CALLS)?;
     Ok(())
 }
 
 #[test]
 fn fetcher_wake_up(rt: HostRuntime) -> Result<(), Fail> {
-    let calls = [
+    const CALLS: &[(Call, Seen)] = &[
         (Call::Ready { key: 1, at: 5 }, Seen::Done),
         (Call::WakeUp, Seen::At(Some(5))),
         (Call::Begin(5), Seen::Over),
@@ -152,13 +152,13 @@ fn fetcher_wake_up(rt: HostRuntime) -> Result<(), Fail> {
         (Call::Peers(&[4]), Seen::Done),
         (Call::WakeUp, Seen::At(Some(5))),
     ];
-    goes(&rt, rt.alloc(), &calls)?;
+    goes(&rt, rt.alloc(), CALLS)?;
     Ok(())
 }
 
 #[test]
 fn the_next_due_wakes(rt: HostRuntime) -> Result<(), Fail> {
-    let calls = [
+    const CALLS: &[(Call, Seen)] = &[
         (Call::Retry { key: 2, at: 0 }, Seen::Done),
         (Call::Retry { key: 1, at: 5 }, Seen::Done),
         (Call::Ready { key: 3, at: 12 }, Seen::Done),
@@ -174,13 +174,13 @@ fn the_next_due_wakes(rt: HostRuntime) -> Result<(), Fail> {
         (Call::Begin(30), Seen::Over),
         (Call::WakeUp, Seen::At(Some(31))),
     ];
-    goes(&rt, rt.alloc(), &calls)?;
+    goes(&rt, rt.alloc(), CALLS)?;
     Ok(())
 }
 
 #[test]
 fn limits_and_refusals(rt: HostRuntime) -> Result<(), Fail> {
-    let calls = [
+    const CALLS: &[(Call, Seen)] = &[
         (Call::Peers(&[4]), Seen::Done),
         (Call::Ready { key: 1, at: 5 }, Seen::Done),
         (Call::Begin(5), Seen::Draw(4)),
@@ -193,13 +193,13 @@ fn limits_and_refusals(rt: HostRuntime) -> Result<(), Fail> {
         (Call::Counts, Seen::Counts(true, 0, false)),
         (Call::Answer(Drawn(0)), Seen::Refused(Fault::Unasked)),
     ];
-    goes(&rt, rt.alloc(), &calls)?;
+    goes(&rt, rt.alloc(), CALLS)?;
     Ok(())
 }
 
 #[test]
 fn targets_out_of_order(rt: HostRuntime) -> Result<(), Fail> {
-    let calls = [
+    const CALLS: &[(Call, Seen)] = &[
         (Call::Peers(&[5, 1, 3, 2]), Seen::Done),
         (Call::Ready { key: 1, at: 5 }, Seen::Done),
         (Call::Targets(1, &[5, 2, 9]), Seen::Done),
@@ -217,13 +217,13 @@ fn targets_out_of_order(rt: HostRuntime) -> Result<(), Fail> {
         (Call::Answer(Checked(Check::Until(20))), Seen::Over),
         (Call::WakeUp, Seen::At(Some(8))),
     ];
-    goes(&rt, rt.alloc(), &calls)?;
+    goes(&rt, rt.alloc(), CALLS)?;
     Ok(())
 }
 
 #[test]
 fn fetcher_two_kinds(rt: HostRuntime) -> Result<(), Fail> {
-    let calls = [
+    const CALLS: &[(Call, Seen)] = &[
         (Call::Peers(&[4]), Seen::Done),
         (Call::Retry { key: 2, at: 0 }, Seen::Done),
         (Call::WakeUp, Seen::At(Some(10))),
@@ -238,13 +238,13 @@ fn fetcher_two_kinds(rt: HostRuntime) -> Result<(), Fail> {
         (Call::Answer(Checked(Check::Until(18))), Seen::Over),
         (Call::WakeUp, Seen::At(Some(18))),
     ];
-    goes(&rt, rt.alloc(), &calls)?;
+    goes(&rt, rt.alloc(), CALLS)?;
     Ok(())
 }
 
 #[test]
 fn fetcher_two_queues(rt: HostRuntime) -> Result<(), Fail> {
-    let calls = [
+    const CALLS: &[(Call, Seen)] = &[
         (Call::Peers(&[4]), Seen::Done),
         (Call::Retry { key: 2, at: 0 }, Seen::Done),
         (Call::WakeUp, Seen::At(Some(2))),
@@ -264,13 +264,13 @@ fn fetcher_two_queues(rt: HostRuntime) -> Result<(), Fail> {
         (Call::Answer(Checked(Check::Until(8))), Seen::Over),
         (Call::WakeUp, Seen::At(Some(8))),
     ];
-    goes_after(&rt, rt.alloc(), 2, &calls)?;
+    goes_after(&rt, rt.alloc(), 2, CALLS)?;
     Ok(())
 }
 
 #[test]
 fn next_due_of_both_kinds(rt: HostRuntime) -> Result<(), Fail> {
-    let calls = [
+    const CALLS: &[(Call, Seen)] = &[
         (Call::Ready { key: 3, at: 5 }, Seen::Done),
         (Call::Ready { key: 1, at: 100 }, Seen::Done),
         (Call::Begin(5), Seen::Over),
@@ -283,45 +283,48 @@ fn next_due_of_both_kinds(rt: HostRuntime) -> Result<(), Fail> {
         (Call::Begin(100), Seen::Over),
         (Call::WakeUp, Seen::At(Some(u128::MAX))),
     ];
-    goes(&rt, rt.alloc(), &calls)?;
+    goes(&rt, rt.alloc(), CALLS)?;
     Ok(())
 }
 
 /// The weight of peer 4.
-fn weighs(weight: u64) -> (Call<'static>, Seen) {
-    (Call::Weight(4), Seen::Weight(Some(weight)))
+macro_rules! weighs {
+    ($weight:expr) => {
+        (Call::Weight(4), Seen::Weight(Some($weight)))
+    };
 }
 
 /// So many responses without bytes that took no time.
-fn idle(count: u8) -> (Call<'static>, Seen) {
-    let call = Call::Record {
-        peer: 4,
-        count,
-        elapsed: 0,
-        bytes: 0,
+macro_rules! idle {
+    ($count:expr) => {
+        (Call::Record {
+            peer: 4,
+            count: $count,
+            elapsed: 0,
+            bytes: 0,
+        }, Seen::Done)
     };
-    (call, Seen::Done)
 }
 
 #[test]
 fn thirty_two_responses(rt: HostRuntime) -> Result<(), Fail> {
-    let fastest = Call::Record {
+    const FASTEST: Call = Call::Record {
         peer: 4,
         count: 1,
         elapsed: 1,
         bytes: u64::MAX,
     };
-    let calls = [
+    const CALLS: &[(Call, Seen)] = &[
         (Call::Peers(&[4]), Seen::Done),
-        (fastest, Seen::Done),
-        weighs(u64::MAX),
-        idle(31),
-        weighs(8_589_934_592_000_000_000),
-        idle(1),
-        weighs(4_294_967_296_000_000_000),
+        (FASTEST, Seen::Done),
+        weighs!(u64::MAX),
+        idle!(31),
+        weighs!(8_589_934_592_000_000_000),
+        idle!(1),
+        weighs!(4_294_967_296_000_000_000),
         (Call::Weight(3), Seen::Weight(None)),
     ];
-    goes(&rt, rt.alloc(), &calls)?;
+    goes(&rt, rt.alloc(), CALLS)?;
     Ok(())
 }
 

@@ -6,12 +6,12 @@
 ghost use Rattle.std.specs.Prelude.{◌<◌, ◌^◌};
 ghost use Rattle.resolver_fetch.specs.Fetcher.{IsTimely};
 
+use crate::keys::Key;
 use bytes::Bytes;
 use resolver_base::base::{
     Check, Draws, Fault, Feedback, NonEmptyVec, PublicKey, Sender, Unreliable,
 };
 use resolver_fetch::fetcher::{Config, Fetcher, ID};
-use resolver_request_tests::keys::Key;
 use std::alloc::Global;
 use std::process::Abort;
 use std::test::Fail;
@@ -355,7 +355,7 @@ const NOTHING: Script<'static> = Script {
 
 #[test]
 fn fetcher_first_request(rt: HostRuntime) -> Result<(), Fail> {
-    let calls = [
+    const CALLS: &[(Call, Seen)] = &[
         (Call::Peers(&[4]), Seen::Done),
         (Call::Ready(30), Seen::Done),
         (Call::Fetch(30, FIRST), Seen::Done),
@@ -378,19 +378,19 @@ fn fetcher_first_request(rt: HostRuntime) -> Result<(), Fail> {
             Seen::Elapsed(Some(0)),
         ),
     ];
-    goes(&rt, rt.alloc(), &calls)?;
+    goes(&rt, rt.alloc(), CALLS)?;
     Ok(())
 }
 
 #[test]
 fn fetcher_missing_and_retry(rt: HostRuntime) -> Result<(), Fail> {
     // The next id follows the last.
-    let second = Script {
+    const SECOND: Script = Script {
         draws: &[(5, 4), (1, 0)],
         checks: &[(4, Check::Clear)],
         sends: &[(4, b"\0\0\0\0\0\0\0\x06\0\x01", false, ACCEPTED)],
     };
-    let calls = [
+    const CALLS: &[(Call, Seen)] = &[
         (Call::Peers(&[4]), Seen::Done),
         (Call::Ready(30), Seen::Done),
         (Call::Fetch(30, FIRST), Seen::Done),
@@ -406,16 +406,16 @@ fn fetcher_missing_and_retry(rt: HostRuntime) -> Result<(), Fail> {
         (Call::Weight(4), Seen::Weight(Some(1))),
         (Call::Retry(50), Seen::Done),
         (Call::Deadlines, Seen::Deadlines(Some(60), None)),
-        (Call::Fetch(60, second), Seen::Done),
+        (Call::Fetch(60, SECOND), Seen::Done),
         (Call::Deadlines, Seen::Deadlines(None, Some(110))),
     ];
-    goes(&rt, rt.alloc(), &calls)?;
+    goes(&rt, rt.alloc(), CALLS)?;
     Ok(())
 }
 
 #[test]
 fn fetcher_wake_up(rt: HostRuntime) -> Result<(), Fail> {
-    let calls = [
+    const CALLS: &[(Call, Seen)] = &[
         (Call::Ready(5), Seen::Done),
         (Call::Deadlines, Seen::Deadlines(Some(5), None)),
         (Call::Fetch(5, NOTHING), Seen::Done),
@@ -423,15 +423,15 @@ fn fetcher_wake_up(rt: HostRuntime) -> Result<(), Fail> {
         (Call::Peers(&[4]), Seen::Done),
         (Call::Deadlines, Seen::Deadlines(Some(5), None)),
     ];
-    goes(&rt, rt.alloc(), &calls)?;
+    goes(&rt, rt.alloc(), CALLS)?;
     Ok(())
 }
 
 #[test]
 fn refused_sends(rt: HostRuntime) -> Result<(), Fail> {
-    let last = b"\xff\xff\xff\xff\xff\xff\xff\xff\0\x01";
-    let first = b"\0\0\0\0\0\0\0\0\0\x01";
-    let refused = Script {
+    const LAST: &[u8] = b"\xff\xff\xff\xff\xff\xff\xff\xff\0\x01";
+    const FIRST: &[u8] = b"\0\0\0\0\0\0\0\0\0\x01";
+    const REFUSED: Script = Script {
         draws: &[
             (4, 0),
             (2, 0),
@@ -441,18 +441,18 @@ fn refused_sends(rt: HostRuntime) -> Result<(), Fail> {
         ],
         checks: &[(3, Check::Clear), (4, Check::Clear)],
         sends: &[
-            (3, last, false, Unreliable::Rejected),
-            (4, first, false, CLOSED),
+            (3, LAST, false, Unreliable::Rejected),
+            (4, FIRST, false, CLOSED),
         ],
     };
-    let calls = [
+    const CALLS: &[(Call, Seen)] = &[
         (Call::Peers(&[3, 4]), Seen::Done),
         (Call::Ready(0), Seen::Done),
-        (Call::Fetch(0, refused), Seen::Done),
+        (Call::Fetch(0, REFUSED), Seen::Done),
         (Call::Counts, Seen::Counts(true, 0, 0)),
         (Call::Deadlines, Seen::Deadlines(Some(10), None)),
     ];
-    goes(&rt, rt.alloc(), &calls)?;
+    goes(&rt, rt.alloc(), CALLS)?;
     Ok(())
 }
 
@@ -478,38 +478,38 @@ fn goes_first(rt: &impl Abort, alloc: Global, calls: &[(Call, Seen)]) -> Result<
 
 #[test]
 fn timeout_and_limits(rt: HostRuntime) -> Result<(), Fail> {
-    let first = Script {
+    const FIRST: Script = Script {
         draws: &[(4, 3), (2, 1), (1 << 64, 1234)],
         checks: &[(4, Check::Clear)],
         sends: &[(4, b"\0\0\0\0\0\0\x04\xd2\0\x01", true, SLOWLY)],
     };
-    let limited = Script {
+    const LIMITED: Script = Script {
         draws: &[(5, 4), (2, 0), (5, 0), (1, 0)],
         checks: &[(3, Check::Until(70)), (4, Check::Until(60))],
         sends: &[],
     };
-    let calls = [
+    const CALLS: &[(Call, Seen)] = &[
         (Call::Peers(&[3, 4]), Seen::Done),
         (Call::Ready(0), Seen::Done),
-        (Call::Fetch(0, first), Seen::Done),
+        (Call::Fetch(0, FIRST), Seen::Done),
         (Call::Overdue(50), Seen::Is(true)),
         (Call::Retry(50), Seen::Done),
-        (Call::Fetch(50, limited), Seen::Done),
+        (Call::Fetch(50, LIMITED), Seen::Done),
         (Call::Counts, Seen::Counts(true, 0, 1)),
         (Call::Deadlines, Seen::Deadlines(Some(60), None)),
     ];
-    goes_first(&rt, rt.alloc(), &calls)?;
+    goes_first(&rt, rt.alloc(), CALLS)?;
     Ok(())
 }
 
 #[test]
 fn blocked_target(rt: HostRuntime) -> Result<(), Fail> {
-    let limited = Script {
+    const LIMITED: Script = Script {
         draws: &[(4, 0), (1, 0)],
         checks: &[(3, Check::Until(20))],
         sends: &[],
     };
-    let calls = [
+    const CALLS: &[(Call, Seen)] = &[
         (Call::Peers(&[3, 4]), Seen::Done),
         (Call::Blocked(&[3]), Seen::Done),
         (Call::Target(3), Seen::Done),
@@ -517,43 +517,45 @@ fn blocked_target(rt: HostRuntime) -> Result<(), Fail> {
         (Call::Fetch(0, NOTHING), Seen::Done),
         (Call::Deadlines, Seen::Deadlines(Some(u128::MAX), None)),
         (Call::Blocked(&[]), Seen::Done),
-        (Call::Fetch(0, limited), Seen::Done),
+        (Call::Fetch(0, LIMITED), Seen::Done),
         (Call::Deadlines, Seen::Deadlines(Some(20), None)),
     ];
-    goes(&rt, rt.alloc(), &calls)?;
+    goes(&rt, rt.alloc(), CALLS)?;
     Ok(())
 }
 
 /// What a peer weighs, where it is known.
-fn weighs(peer: u8, weight: Option<u64>) -> (Call<'static>, Seen) {
-    (Call::Weight(peer), Seen::Weight(weight))
+macro_rules! weighs {
+    ($peer:expr, $weight:expr) => {
+        (Call::Weight($peer), Seen::Weight($weight))
+    };
 }
 
 #[test]
 fn sets_of_each_length(rt: HostRuntime) -> Result<(), Fail> {
-    let calls = [
+    const CALLS: &[(Call, Seen)] = &[
         (Call::Peers(&[]), Seen::Done),
-        weighs(4, None),
+        weighs!(4, None),
         (Call::Peers(&[4]), Seen::Done),
-        weighs(4, Some(1)),
-        weighs(3, None),
+        weighs!(4, Some(1)),
+        weighs!(3, None),
         (Call::Blocked(&[]), Seen::Done),
         (Call::Peers(&[5, 3, 4]), Seen::Done),
-        weighs(3, Some(1)),
-        weighs(4, Some(1)),
-        weighs(5, Some(1)),
+        weighs!(3, Some(1)),
+        weighs!(4, Some(1)),
+        weighs!(5, Some(1)),
         (Call::Blocked(&[4]), Seen::Done),
-        weighs(3, Some(1)),
-        weighs(4, Some(0)),
+        weighs!(3, Some(1)),
+        weighs!(4, Some(0)),
         (Call::Blocked(&[5, 3, 4]), Seen::Done),
-        weighs(3, Some(0)),
-        weighs(4, Some(0)),
-        weighs(5, Some(0)),
+        weighs!(3, Some(0)),
+        weighs!(4, Some(0)),
+        weighs!(5, Some(0)),
         (Call::Blocked(&[]), Seen::Done),
-        weighs(5, Some(1)),
+        weighs!(5, Some(1)),
         (Call::Peers(&[]), Seen::Done),
-        weighs(5, None),
+        weighs!(5, None),
     ];
-    goes(&rt, rt.alloc(), &calls)?;
+    goes(&rt, rt.alloc(), CALLS)?;
     Ok(())
 }

@@ -1,8 +1,10 @@
-//! Tests of `resolver_fetch`, through its public calls.
+//! Tests of `resolver_request` and of `resolver_fetch`, through their public calls.
 //!
-//! They stand in a crate of their own, so that the library isn't proved a second time with them.
+//! They stand in a crate of their own, so that the libraries aren't proved a second time with them.
 #![tactic(auto)]
 
+#[cfg(test)]
+mod asserts;
 #[cfg(test)]
 mod calls;
 #[cfg(test)]
@@ -12,4 +14,14 @@ mod fetcher;
 #[cfg(test)]
 mod fetching;
 #[cfg(test)]
+mod keys;
+#[cfg(test)]
 mod laws;
+#[cfg(test)]
+mod requests;
+#[cfg(test)]
+mod sampling;
+#[cfg(test)]
+mod score;
+#[cfg(test)]
+mod wire;

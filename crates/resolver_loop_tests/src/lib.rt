@@ -1,4 +1,4 @@
-//! Tests of one loop that is polled by hand over fakes in memory.
+//! Tests of loops over fakes in memory: of one that is polled by hand, and of some in threads of their own.
 #![tactic(auto)]
 
 #[cfg(test)]
@@ -6,6 +6,10 @@ mod closing;
 #[cfg(test)]
 mod every;
 #[cfg(test)]
+mod gate;
+#[cfg(test)]
 mod leaving;
+#[cfg(test)]
+mod running;
 #[cfg(test)]
 mod source;

@@ -1,12 +1,16 @@
-//! Tests of `resolver_mailbox`, through its public calls.
+//! Tests of `resolver_mailbox` and of `resolver_opaque`, through their public calls.
 //!
-//! They stand in a crate of their own, so that the library isn't proved a second time with them.
+//! They stand in a crate of their own, so that the libraries aren't proved a second time with them.
 #![tactic(auto)]
 
 #[cfg(test)]
 mod calls;
 #[cfg(test)]
 mod desk;
+#[cfg(test)]
+mod handle;
+#[cfg(test)]
+mod letters;
 #[cfg(test)]
 mod mailbox;
 #[cfg(test)]

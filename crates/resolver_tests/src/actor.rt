@@ -334,82 +334,82 @@ const HANDED_OUT_AGAIN: Seen = Seen::Deliver {
 // The row opaque_first_run, one step after another.
 #[test]
 fn opaque_first_run(rt: HostRuntime) -> Result<(), Fail> {
-    let judged = Seen::Row(1, (10, 7), Phase::Judged { number: 0 });
-    let table: [Step; 5] = [
+    const JUDGED: Seen = Seen::Row(1, (10, 7), Phase::Judged { number: 0 });
+    const TABLE: &[Step] = &[
         (0, Do::Fetch(1, (10, 7)), &[Seen::Start(0, 1)]),
         (0, Do::Fetched(0, Some(0x6869)), &[HANDED_OUT]),
-        (0, Do::Look, &[judged, Seen::Due(None)]),
+        (0, Do::Look, &[JUDGED, Seen::Due(None)]),
         (0, Do::Verdict(0, COMPLETE), &[]),
         (0, Do::Look, &[Seen::Due(None)]),
     ];
-    shows(&rt, rt.alloc(), &table)
+    shows(&rt, rt.alloc(), TABLE)
 }
 
 // A list of inputs gets one answer each.
 #[test]
 fn a_run_waits_for_the_delay(rt: HostRuntime) -> Result<(), Fail> {
-    let waits = Seen::Row(1, (10, 7), Phase::Waiting { due: 105 });
-    let table: [Step; 3] = [
+    const WAITS: Seen = Seen::Row(1, (10, 7), Phase::Waiting { due: 105 });
+    const TABLE: &[Step] = &[
         (0, Do::Fetch(1, (10, 7)), &[Seen::Start(0, 1)]),
         (5, Do::Fetched(0, None), &[]),
-        (5, Do::Look, &[waits, Seen::Due(Some(105))]),
+        (5, Do::Look, &[WAITS, Seen::Due(Some(105))]),
     ];
-    run_shows(&rt, rt.alloc(), &table)
+    run_shows(&rt, rt.alloc(), TABLE)
 }
 
 // The row ends: what was asked and what was judged are called off by key, and a later step is
 // refused.
 #[test]
 fn ends(rt: HostRuntime) -> Result<(), Fail> {
-    let handed_out = Seen::Deliver {
+    const HANDED_OUT: Seen = Seen::Deliver {
         number: 0,
         response: 0,
         key: 2,
         first: (20, 0),
         value: 0x6869,
     };
-    let table: [Step; 6] = [
+    const TABLE: &[Step] = &[
         (0, Do::Fetch(2, (20, 0)), &[Seen::Start(0, 2)]),
         (0, Do::Fetch(1, (10, 0)), &[Seen::Start(1, 1)]),
-        (0, Do::Fetched(0, Some(0x6869)), &[handed_out]),
+        (0, Do::Fetched(0, Some(0x6869)), &[HANDED_OUT]),
         (0, Do::End, &[Seen::Abort(1), Seen::Cancel(0)]),
         (0, Do::Look, &[Seen::Due(None)]),
         (0, Do::Fetch(3, (30, 0)), &[Seen::Refused(Fault::Ended)]),
     ];
-    shows(&rt, rt.alloc(), &table)
+    shows(&rt, rt.alloc(), TABLE)
 }
 
 // The row dropped_then_fetched_again: what was judged is called off, and its verdict is passed
 // over when the key is wanted again.
 #[test]
 fn dropped_then_fetched_again(rt: HostRuntime) -> Result<(), Fail> {
-    let asked = Seen::Row(1, (12, 9), Phase::Asked { attempt: 1 });
-    let table: [Step; 6] = [
+    const ASKED: Seen = Seen::Row(1, (12, 9), Phase::Asked { attempt: 1 });
+    const TABLE: &[Step] = &[
         (0, Do::Fetch(1, (10, 7)), &[Seen::Start(0, 1)]),
         (0, Do::Fetched(0, Some(0x6869)), &[HANDED_OUT]),
         (0, Do::LetGo(1), &[Seen::Cancel(0)]),
         (0, Do::Fetch(1, (12, 9)), &[Seen::Start(1, 1)]),
         (0, Do::Verdict(0, COMPLETE), &[]),
-        (0, Do::Look, &[asked, Seen::Due(None)]),
+        (0, Do::Look, &[ASKED, Seen::Due(None)]),
     ];
-    shows(&rt, rt.alloc(), &table)
+    shows(&rt, rt.alloc(), TABLE)
 }
 
 // The row opaque_retry, in one run and one step after another.
 #[test]
 fn opaque_retry(rt: HostRuntime) -> Result<(), Fail> {
-    let asked = Seen::Row(1, (10, 7), Phase::Asked { attempt: 1 });
-    let table: [Step; 7] = [
+    const ASKED: Seen = Seen::Row(1, (10, 7), Phase::Asked { attempt: 1 });
+    const TABLE: &[Step] = &[
         (0, Do::Fetch(1, (10, 7)), &[Seen::Start(0, 1)]),
         (0, Do::Fetched(0, None), &[]),
         (99, Do::RetriesDue, &[]),
         (100, Do::RetriesDue, &[Seen::Start(1, 1)]),
         (100, Do::Fetched(0, Some(0xaa)), &[]),
         (100, Do::Fetch(1, (10, 9)), &[]),
-        (100, Do::Look, &[asked, Seen::Due(None)]),
+        (100, Do::Look, &[ASKED, Seen::Due(None)]),
     ];
-    run_shows(&rt, rt.alloc(), &table)?;
-    shows(&rt, rt.alloc(), &table)
+    run_shows(&rt, rt.alloc(), TABLE)?;
+    shows(&rt, rt.alloc(), TABLE)
 }
 
 /// What is left of key 1 where it is retired.
@@ -477,7 +477,7 @@ fn every_outcome(rt: HostRuntime) -> Result<(), Fail> {
 // A number whose key was dropped, or dropped and fetched again, is closed and changes nothing.
 #[test]
 fn every_outcome_canceled(rt: HostRuntime) -> Result<(), Fail> {
-    let asked = Seen::Row(1, (12, 9), Phase::Asked { attempt: 1 });
+    const ASKED: Seen = Seen::Row(1, (12, 9), Phase::Asked { attempt: 1 });
     for (outcome, _) in outcomes() {
         let table: [Step; 6] = [
             (0, Do::Fetch(1, (10, 7)), &[Seen::Start(0, 1)]),
@@ -495,7 +495,7 @@ fn every_outcome_canceled(rt: HostRuntime) -> Result<(), Fail> {
             (0, Do::Fetch(1, (12, 9)), &[Seen::Start(1, 1)]),
             (5, Do::Verdict(0, outcome), &[]),
             (5, Do::Verdict(0, outcome), &[]),
-            (5, Do::Look, &[asked, Seen::Due(None)]),
+            (5, Do::Look, &[ASKED, Seen::Due(None)]),
         ];
         shows(&rt, rt.alloc(), &table)?;
     }
@@ -505,7 +505,7 @@ fn every_outcome_canceled(rt: HostRuntime) -> Result<(), Fail> {
 // A response that was accepted retires its key where a later verdict says Invalid.
 #[test]
 fn a_conflict_retires(rt: HostRuntime) -> Result<(), Fail> {
-    let table: [Step; 6] = [
+    const TABLE: &[Step] = &[
         (0, Do::Fetch(1, (10, 7)), &[Seen::Start(0, 1)]),
         (0, Do::Fetched(0, Some(0x6869)), &[HANDED_OUT]),
         (0, Do::Fetch(1, (11, 8)), &[]),
@@ -513,37 +513,37 @@ fn a_conflict_retires(rt: HostRuntime) -> Result<(), Fail> {
         (0, Do::Verdict(1, Some(Outcome::Invalid)), &[]),
         (0, Do::Look, &[Seen::Due(None)]),
     ];
-    shows(&rt, rt.alloc(), &table)
+    shows(&rt, rt.alloc(), TABLE)
 }
 
 // An end in each phase: a key that waits has nothing to be called off.
 #[test]
 fn ends_in_each_phase(rt: HostRuntime) -> Result<(), Fail> {
-    let handed_out = Seen::Deliver {
+    const HANDED_OUT: Seen = Seen::Deliver {
         number: 0,
         response: 0,
         key: 2,
         first: (10, 0),
         value: 1,
     };
-    let table: [Step; 8] = [
+    const TABLE: &[Step] = &[
         (0, Do::Fetch(3, (10, 0)), &[Seen::Start(0, 3)]),
         (0, Do::Fetch(1, (10, 0)), &[Seen::Start(1, 1)]),
         (0, Do::Fetch(2, (10, 0)), &[Seen::Start(2, 2)]),
         (0, Do::Fetched(0, None), &[]),
-        (0, Do::Fetched(2, Some(1)), &[handed_out]),
+        (0, Do::Fetched(2, Some(1)), &[HANDED_OUT]),
         (0, Do::End, &[Seen::Abort(1), Seen::Cancel(0)]),
         (0, Do::Look, &[Seen::Due(None)]),
         (0, Do::End, &[Seen::Refused(Fault::Ended)]),
     ];
-    shows(&rt, rt.alloc(), &table)
+    shows(&rt, rt.alloc(), TABLE)
 }
 
 // Where no attempt is left, a new key is refused, and the actor has failed. A key that is there
 // still takes subscribers before that.
 #[test]
 fn the_last_attempt_is_given_once(rt: HostRuntime) -> Result<(), Fail> {
-    let table: [Step; 5] = [
+    const TABLE: &[Step] = &[
         (0, Do::Fetch(1, (10, 7)), &[Seen::Start(u64::MAX, 1)]),
         (0, Do::Fetch(1, (11, 8)), &[]),
         (0, Do::Fetch(2, (10, 7)), &[Seen::Refused(Fault::Exhausted)]),
@@ -552,7 +552,7 @@ fn the_last_attempt_is_given_once(rt: HostRuntime) -> Result<(), Fail> {
     ];
     let alloc = rt.alloc();
     let actor = Actor::starting_at(alloc, 100, Numbers::starting_at(u64::MAX));
-    assert_seen(&rt, alloc, &table, play(alloc, actor, &table)?)
+    assert_seen(&rt, alloc, TABLE, play(alloc, actor, TABLE)?)
 }
 
 /// A fetch of these keys, each for the subscriber 10.
@@ -590,28 +590,30 @@ fn fetched_at_once(alloc: Global, keys: &[u8]) -> Result<Vec<Seen>, Fault> {
 }
 
 /// A key that is asked for, under this attempt.
-fn asked(key: u8, attempt: u64) -> Seen {
-    Seen::Row(key, (10, 7), Phase::Asked { attempt })
+macro_rules! asked {
+    ($key:expr, $attempt:expr) => {
+        Seen::Row($key, (10, 7), Phase::Asked { attempt: $attempt })
+    };
 }
 
 #[test]
 fn fetches_of_each_length(rt: HostRuntime) -> Result<(), Fail> {
-    let none = [Seen::Taken, Seen::Due(None)];
-    let one = [Seen::Taken, Seen::Start(0, 1), asked(1, 0), Seen::Due(None)];
-    let three = [
+    const NONE: &[Seen] = &[Seen::Taken, Seen::Due(None)];
+    const ONE: &[Seen] = &[Seen::Taken, Seen::Start(0, 1), asked!(1, 0), Seen::Due(None)];
+    const THREE: &[Seen] = &[
         Seen::Taken,
         Seen::Start(0, 3),
         Seen::Start(1, 1),
         Seen::Start(2, 2),
-        asked(1, 1),
-        asked(2, 2),
-        asked(3, 0),
+        asked!(1, 1),
+        asked!(2, 2),
+        asked!(3, 0),
         Seen::Due(None),
     ];
     for (keys, seen) in [
-        ([].as_slice(), none.as_slice()),
-        ([1].as_slice(), one.as_slice()),
-        ([3, 1, 2].as_slice(), three.as_slice()),
+        ([].as_slice(), NONE),
+        ([1].as_slice(), ONE),
+        ([3, 1, 2].as_slice(), THREE),
     ] {
         let given = fetched_at_once(rt.alloc(), keys)?;
         assert_eq!(rt; given.as_slice(), seen, "of {keys:?}");
@@ -621,14 +623,14 @@ fn fetches_of_each_length(rt: HostRuntime) -> Result<(), Fail> {
 
 #[test]
 fn runs_of_no_input_and_of_one(rt: HostRuntime) -> Result<(), Fail> {
-    let none: [Step; 1] = [(0, Do::Look, &[Seen::Due(None)])];
-    run_shows(&rt, rt.alloc(), &none)?;
-    let row = Seen::Row(1, (10, 7), Phase::Asked { attempt: 0 });
-    let one: [Step; 2] = [
+    const NONE: &[Step] = &[(0, Do::Look, &[Seen::Due(None)])];
+    run_shows(&rt, rt.alloc(), NONE)?;
+    const ROW: Seen = Seen::Row(1, (10, 7), Phase::Asked { attempt: 0 });
+    const ONE: &[Step] = &[
         (0, Do::Fetch(1, (10, 7)), &[Seen::Start(0, 1)]),
-        (0, Do::Look, &[row, Seen::Due(None)]),
+        (0, Do::Look, &[ROW, Seen::Due(None)]),
     ];
-    run_shows(&rt, rt.alloc(), &one)
+    run_shows(&rt, rt.alloc(), ONE)
 }
 
 /// Keeps every subscriber.
@@ -755,7 +757,7 @@ fn tally_of(actor: &Crowd, effects: Option<usize>) -> Result<Tally, Fault> {
 // Ten thousand deliveries are open at once, and closed from the last on.
 #[test]
 fn ten_thousand_deliveries(rt: HostRuntime) -> Result<(), Fail> {
-    let expected = [
+    const EXPECTED: &[Tally] = &[
         Tally(Some(1), 10_000, None),
         Tally(Some(0), 5_000, Some(100)),
         Tally(Some(0), 5_000, Some(100)),
@@ -763,6 +765,6 @@ fn ten_thousand_deliveries(rt: HostRuntime) -> Result<(), Fail> {
         Tally(Some(5_000), 0, None),
     ];
     let tallies = play_crowd(rt.alloc())?;
-    assert_eq!(rt; tallies.as_slice(), expected.as_slice());
+    assert_eq!(rt; tallies.as_slice(), EXPECTED);
     Ok(())
 }

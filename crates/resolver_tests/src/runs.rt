@@ -233,7 +233,7 @@ fn assert_run(
 /// A scan's questions in one run, with answers that it refuses.
 #[test]
 fn peer_refusals(rt: HostRuntime) -> Result<(), Fail> {
-    let given = [
+    const GIVEN: &[Given] = &[
         Given::Peers,
         Given::Fetch,
         Given::Drawn(0),
@@ -245,7 +245,7 @@ fn peer_refusals(rt: HostRuntime) -> Result<(), Fail> {
         Given::Drawn(1234),
         Given::Accepted,
     ];
-    let expected = [
+    const EXPECTED: &[Seen] = &[
         Seen::Taken,
         Seen::Taken,
         Seen::Draw(4),
@@ -275,5 +275,5 @@ fn peer_refusals(rt: HostRuntime) -> Result<(), Fail> {
         },
         Seen::Wake(None),
     ];
-    assert_run(&rt, rt.alloc(), &given, &expected)
+    assert_run(&rt, rt.alloc(), GIVEN, EXPECTED)
 }

@@ -328,23 +328,23 @@ fn metrics_after_verdict(rt: HostRuntime) -> Result<(), Fail> {
 /// A called off delivery still earns its credit, but the key's time isn't counted.
 #[test]
 fn a_called_off_complete_counts_no_fetch(rt: HostRuntime) -> Result<(), Fail> {
-    let expected = Metrics {
+    const EXPECTED: Metrics = Metrics {
         cancel: ONE,
         ..CREDITED
     };
-    assert_called_off(&rt, rt.alloc(), COMPLETE, expected)
+    assert_called_off(&rt, rt.alloc(), COMPLETE, EXPECTED)
 }
 
 /// Keys wait, requests have no answer, and serves are open.
 #[test]
 fn what_there_is_now(rt: HostRuntime) -> Result<(), Fail> {
     let alloc = rt.alloc();
-    let waits = [(0, Given::Fetch(1, 10)), (0, Given::Fetch(2, 10))];
-    let two = Metrics {
+    const WAITS: &[(u128, Given)] = &[(0, Given::Fetch(1, 10)), (0, Given::Fetch(2, 10))];
+    const TWO: Metrics = Metrics {
         fetch_pending: 2,
         ..UNCOUNTED
     };
-    assert_counts(&rt, alloc, &[&waits], two)?;
+    assert_counts(&rt, alloc, &[WAITS], TWO)?;
     assert_asked(
         &rt,
         alloc,
@@ -355,19 +355,19 @@ fn what_there_is_now(rt: HostRuntime) -> Result<(), Fail> {
         },
     )?;
     assert_asked(&rt, alloc, JUDGED, SENT)?;
-    let serves = [(5, Given::Net(3, REQUEST)), (6, Given::Net(3, REQUEST))];
-    let open = Metrics {
+    const SERVES: &[(u128, Given)] = &[(5, Given::Net(3, REQUEST)), (6, Given::Net(3, REQUEST))];
+    const OPEN: Metrics = Metrics {
         serve_processing: 2,
         ..UNCOUNTED
     };
-    assert_counts(&rt, alloc, &[&serves], open)
+    assert_counts(&rt, alloc, &[SERVES], OPEN)
 }
 
 /// `Unresolved` is ambiguous, unless the response was accepted before.
 #[test]
 fn ambiguous_fetches(rt: HostRuntime) -> Result<(), Fail> {
     let alloc = rt.alloc();
-    let once = Metrics {
+    const ONCE: Metrics = Metrics {
         fetch: AMBIGUOUS,
         ..SENT
     };
@@ -377,7 +377,7 @@ fn ambiguous_fetches(rt: HostRuntime) -> Result<(), Fail> {
         UNRESOLVED,
         Metrics {
             fetch_pending: 1,
-            ..once
+            ..ONCE
         },
     )?;
     assert_called_off(
@@ -386,21 +386,21 @@ fn ambiguous_fetches(rt: HostRuntime) -> Result<(), Fail> {
         UNRESOLVED,
         Metrics {
             cancel: ONE,
-            ..once
+            ..ONCE
         },
     )?;
-    let accepted = Metrics {
+    const ACCEPTED: Metrics = Metrics {
         fetch_pending: 1,
         ..COMPLETED
     };
-    assert_judged_again(&rt, alloc, UNRESOLVED, accepted)
+    assert_judged_again(&rt, alloc, UNRESOLVED, ACCEPTED)
 }
 
 /// `Invalid` is a failure, also where it was called off or conflicts.
 #[test]
 fn invalid_fetches(rt: HostRuntime) -> Result<(), Fail> {
     let alloc = rt.alloc();
-    let once = Metrics {
+    const ONCE: Metrics = Metrics {
         fetch: FAILED,
         ..SENT
     };
@@ -410,7 +410,7 @@ fn invalid_fetches(rt: HostRuntime) -> Result<(), Fail> {
         INVALID,
         Metrics {
             fetch_pending: 1,
-            ..once
+            ..ONCE
         },
     )?;
     assert_called_off(
@@ -419,16 +419,16 @@ fn invalid_fetches(rt: HostRuntime) -> Result<(), Fail> {
         INVALID,
         Metrics {
             cancel: ONE,
-            ..once
+            ..ONCE
         },
     )?;
-    let both = Tally { failure: 1, ..ONE };
+    const BOTH: Tally = Tally { failure: 1, ..ONE };
     assert_judged_again(
         &rt,
         alloc,
         INVALID,
         Metrics {
-            fetch: both,
+            fetch: BOTH,
             ..COMPLETED
         },
     )
@@ -438,19 +438,19 @@ fn invalid_fetches(rt: HostRuntime) -> Result<(), Fail> {
 #[test]
 fn failed_requests(rt: HostRuntime) -> Result<(), Fail> {
     let alloc = rt.alloc();
-    let active = Metrics {
+    const ACTIVE: Metrics = Metrics {
         fetch_active: 1,
         ..SENT
     };
-    let failed = Metrics {
+    const UNANSWERED: Metrics = Metrics {
         fetch: FAILED,
         fetch_pending: 1,
         ..SENT
     };
-    assert_asked(&rt, alloc, &[(49, Given::TimeOut)], active)?;
-    assert_asked(&rt, alloc, &[(50, Given::TimeOut)], failed)?;
-    assert_asked(&rt, alloc, &[(20, Given::Net(3, MISSING))], active)?;
-    assert_asked(&rt, alloc, &[(20, Given::Net(4, MISSING))], failed)
+    assert_asked(&rt, alloc, &[(49, Given::TimeOut)], ACTIVE)?;
+    assert_asked(&rt, alloc, &[(50, Given::TimeOut)], UNANSWERED)?;
+    assert_asked(&rt, alloc, &[(20, Given::Net(3, MISSING))], ACTIVE)?;
+    assert_asked(&rt, alloc, &[(20, Given::Net(4, MISSING))], UNANSWERED)
 }
 
 /// `Ignored` is dropped, accepted or not, unless it was called off.
@@ -475,13 +475,13 @@ fn ignored_fetches(rt: HostRuntime) -> Result<(), Fail> {
             ..SENT
         },
     )?;
-    let both = Tally { dropped: 1, ..ONE };
+    const BOTH: Tally = Tally { dropped: 1, ..ONE };
     assert_judged_again(
         &rt,
         alloc,
         IGNORED,
         Metrics {
-            fetch: both,
+            fetch: BOTH,
             ..COMPLETED
         },
     )
@@ -491,11 +491,11 @@ fn ignored_fetches(rt: HostRuntime) -> Result<(), Fail> {
 #[test]
 fn dropped_verdicts(rt: HostRuntime) -> Result<(), Fail> {
     let alloc = rt.alloc();
-    let dropped = Metrics {
+    const LOST: Metrics = Metrics {
         fetch: DROPPED,
         ..SENT
     };
-    assert_judged(&rt, alloc, None, dropped)?;
+    assert_judged(&rt, alloc, None, LOST)?;
     assert_called_off(
         &rt,
         alloc,
@@ -506,10 +506,10 @@ fn dropped_verdicts(rt: HostRuntime) -> Result<(), Fail> {
         },
     )?;
     assert_judged_again(&rt, alloc, None, COMPLETED)?;
-    let first = [(20, Given::Verdict(0, None))];
-    assert_counts(&rt, alloc, &[ASKED, JOINED, &first], SENT)?;
-    let second = [(30, Given::Verdict(1, None))];
-    assert_counts(&rt, alloc, &[ASKED, JOINED, &first, &second], dropped)
+    const FIRST: &[(u128, Given)] = &[(20, Given::Verdict(0, None))];
+    assert_counts(&rt, alloc, &[ASKED, JOINED, FIRST], SENT)?;
+    const SECOND: &[(u128, Given)] = &[(30, Given::Verdict(1, None))];
+    assert_counts(&rt, alloc, &[ASKED, JOINED, FIRST, SECOND], LOST)
 }
 
 /// A key's time is counted at its first complete response, and at no other.
@@ -517,7 +517,7 @@ fn dropped_verdicts(rt: HostRuntime) -> Result<(), Fail> {
 fn the_time_of_a_fetch(rt: HostRuntime) -> Result<(), Fail> {
     let alloc = rt.alloc();
     assert_judged_again(&rt, alloc, COMPLETE, COMPLETED)?;
-    let twice = Metrics {
+    const TWICE: Metrics = Metrics {
         fetch: Tally { success: 2, ..NONE },
         requests_sent: Tally { success: 2, ..NONE },
         resolves: Durations {
@@ -526,45 +526,45 @@ fn the_time_of_a_fetch(rt: HostRuntime) -> Result<(), Fail> {
         },
         ..UNCOUNTED
     };
-    let first = [(20, Given::Verdict(0, PARTIAL))];
-    let last = [(50, Given::Verdict(1, COMPLETE))];
-    let expected = Metrics {
+    const FIRST: &[(u128, Given)] = &[(20, Given::Verdict(0, PARTIAL))];
+    const LAST: &[(u128, Given)] = &[(50, Given::Verdict(1, COMPLETE))];
+    const EXPECTED: Metrics = Metrics {
         fetch_duration: Durations {
             count: 1,
             nanoseconds: 50,
         },
-        ..twice
+        ..TWICE
     };
-    assert_counts(&rt, alloc, &[ASKED, JUDGED, &first, AGAIN, &last], expected)?;
-    let first = [
+    assert_counts(&rt, alloc, &[ASKED, JUDGED, FIRST, AGAIN, LAST], EXPECTED)?;
+    const BOTH: &[(u128, Given)] = &[
         (20, Given::Verdict(0, COMPLETE)),
         (20, Given::Verdict(1, PARTIAL)),
     ];
-    let last = [(50, Given::Verdict(2, COMPLETE))];
-    let expected = Metrics {
+    const THIRD: &[(u128, Given)] = &[(50, Given::Verdict(2, COMPLETE))];
+    const SOONER: Metrics = Metrics {
         fetch_duration: TWENTY,
-        ..twice
+        ..TWICE
     };
-    assert_counts(&rt, alloc, &[ASKED, JOINED, &first, AGAIN, &last], expected)
+    assert_counts(&rt, alloc, &[ASKED, JOINED, BOTH, AGAIN, THIRD], SOONER)
 }
 
 /// A retain counts each key that it calls off, or itself where there is none.
 #[test]
 fn retains(rt: HostRuntime) -> Result<(), Fail> {
     let alloc = rt.alloc();
-    let keys = [
+    const KEYS: &[(u128, Given)] = &[
         (0, Given::Fetch(1, 10)),
         (0, Given::Fetch(2, 10)),
         (0, Given::Retain(true)),
     ];
-    let kept = Metrics {
+    const KEPT: Metrics = Metrics {
         fetch_pending: 2,
         cancel: DROPPED,
         ..UNCOUNTED
     };
-    assert_counts(&rt, alloc, &[&keys], kept)?;
-    let none = [(0, Given::Retain(false))];
-    let both = Tally {
+    assert_counts(&rt, alloc, &[KEYS], KEPT)?;
+    const CALLED_OFF: &[(u128, Given)] = &[(0, Given::Retain(false))];
+    const BOTH: Tally = Tally {
         success: 2,
         dropped: 1,
         ..NONE
@@ -572,9 +572,9 @@ fn retains(rt: HostRuntime) -> Result<(), Fail> {
     assert_counts(
         &rt,
         alloc,
-        &[&keys, &none],
+        &[KEYS, CALLED_OFF],
         Metrics {
-            cancel: both,
+            cancel: BOTH,
             ..UNCOUNTED
         },
     )
@@ -584,13 +584,13 @@ fn retains(rt: HostRuntime) -> Result<(), Fail> {
 #[test]
 fn serves(rt: HostRuntime) -> Result<(), Fail> {
     let alloc = rt.alloc();
-    let open = [(5, Given::Net(3, REQUEST)), (6, Given::Net(3, REQUEST))];
-    let closed = [
+    const OPEN: &[(u128, Given)] = &[(5, Given::Net(3, REQUEST)), (6, Given::Net(3, REQUEST))];
+    const CLOSED: &[(u128, Given)] = &[
         (7, Given::Served(1, false)),
         (30, Given::Served(0, true)),
         (40, Given::Served(0, true)),
     ];
-    let expected = Metrics {
+    const EXPECTED: Metrics = Metrics {
         serve: Tally {
             success: 1,
             failure: 1,
@@ -602,13 +602,13 @@ fn serves(rt: HostRuntime) -> Result<(), Fail> {
         },
         ..UNCOUNTED
     };
-    assert_counts(&rt, alloc, &[&open, &closed], expected)
+    assert_counts(&rt, alloc, &[OPEN, CLOSED], EXPECTED)
 }
 
 /// Both peers are asked, and neither request is accepted to be sent.
 #[test]
 fn refused_requests(rt: HostRuntime) -> Result<(), Fail> {
-    let given = [
+    const GIVEN: &[(u128, Given)] = &[
         (0, Given::Peers(3, 4)),
         (0, Given::Fetch(1, 10)),
         (0, Given::Drawn(0)),
@@ -621,12 +621,12 @@ fn refused_requests(rt: HostRuntime) -> Result<(), Fail> {
         (0, Given::Clear),
         (0, Given::Sent(false)),
     ];
-    let expected = Metrics {
+    const EXPECTED: Metrics = Metrics {
         fetch_pending: 1,
         requests_sent: Tally { dropped: 2, ..NONE },
         ..UNCOUNTED
     };
-    assert_counts(&rt, rt.alloc(), &[&given], expected)
+    assert_counts(&rt, rt.alloc(), &[GIVEN], EXPECTED)
 }
 
 /// Numbers that all differ.

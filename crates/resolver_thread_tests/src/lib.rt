@@ -1,7 +1,0 @@
-//! Tests of loops in threads of their own.
-#![tactic(auto)]
-
-#[cfg(test)]
-mod gate;
-#[cfg(test)]
-mod running;
