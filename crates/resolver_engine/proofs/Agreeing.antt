@@ -1,5 +1,5 @@
 -- What a call leaves alone of parts that agree with a machine.
-use Rattle.std.proofs.Common.{◌≡◌, refl, ap, sym, ◌∙◌, subst, ℕ, false, List, map, Option, None, Some, Result, Ok, Err, if◌then◌else◌}
+use Rattle.std.proofs.Common.{◌≡◌, refl, ap, sym, ◌∙◌, subst, ℕ, false, List, map, Option, None, Some, Result, Ok, Err, append-nil, if◌then◌else◌}
 use Rattle.std.specs.Prelude.{is_none, is_some}
 use Rattle.std.specs.Result.{IfErr, OnOk}
 use Rattle.resolver_base.specs.declared.base.fault.Fault.{Fault}
@@ -7,7 +7,7 @@ use Rattle.resolver_base.specs.declared.base.fault.Fault.TheVariants.{OutOfMemor
 use Rattle.resolver_fetch.specs.declared.fetcher.trail.Expected.{Expected}
 use Rattle.resolver_fetch.specs.Fetcher.{Fetcher}
 use Rattle.resolver_peer.specs.Parties.{Parties}
-use Rattle.resolver_peer.specs.Peer.{Done, Machine}
+use Rattle.resolver_peer.specs.Peer.{Done, Machine, quiet}
 use Rattle.resolver_engine.specs.declared.parts.Parts.{Parts}
 use Rattle.resolver_engine.specs.declared.effects.Effect.{Effect as Told}
 use Rattle.resolver_engine.specs.Going.{Goes, Went}
@@ -78,3 +78,8 @@ module _ {K S P : Type 0} (a : Parties K S P) where
     pub goes-last : {X : Type 0} (r : Result (Unit {0}) Fault) → OnOk r X → IfErr r (λ fault. fault ≡ OutOfMemory) → (X → Went a c going before after e) → Goes a c going before after e r
     goes-last (Ok _) ok only went = went ok
     goes-last (Err fault) ok only went = goes-wanting fault only
+
+  -- a last call that tells nothing, and may want memory alone
+  pub goes-quiet : (c : Codec K) (told : List (Told K P S)) (e : Parts K P S) (n : Machine K S P) (r : Result (Unit {0}) Fault) → OnOk r (Agrees a e n) → IfErr r (λ fault. fault ≡ OutOfMemory)
+      → Goes a c (Some (quiet n)) told told e r
+  goes-quiet c told e n r ok only = goes-last c (Some (quiet n)) told told e r ok only (λ agrees. record { done = quiet n; is = refl; told = sym (append-nil told); agrees = agrees })

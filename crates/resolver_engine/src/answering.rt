@@ -1,6 +1,7 @@
 //! What a peer's response does to the parts.
 
-ghost use Rattle.std.specs.Prelude.{◌≡◌, ◌<◌, ◌^◌, ◌++◌, ◌∷◌, [], None, false, is_some, IfErr, IsTrue, OnOk};
+ghost use Rattle.std.specs.Prelude.{◌≡◌, ◌<◌, ◌^◌, ◌++◌, ◌∷◌, [], None, false, is_some, IfErr, IfOk, IsTrue, OnOk};
+ghost use Rattle.resolver_base.specs.declared.base.fault.Fault.TheVariants.{OutOfMemory};
 ghost use Rattle.std.specs.Option.{option_and_then};
 ghost use Rattle.resolver_demand.specs.Entries.{delivered, is_tracked, number_of};
 ghost use Rattle.resolver_peer.specs.Parties.{parties};
@@ -91,9 +92,20 @@ fn hand_out<K: Ord + Clone + Drop, P: Clone + Drop, S: Clone + Drop>(
     ensures room { OnOk result (entries.old.next < 2 ^ 64) }
     ensures only { IfErr result (IsRefusal entries.old.next) }
 {
-    let told = delivery.clone()?;
-    let copy = value.clone()?;
-    let number = entries.deliver(delivery, source, copy)?;
+    let (told, copy) = match copies(&delivery, &value) {
+        Ok(copies) => copies,
+        Err(fault) => {
+            drop((delivery, source, value));
+            return Err(fault);
+        }
+    };
+    let number = match entries.deliver(delivery, source, copy) {
+        Ok(number) => number,
+        Err(fault) => {
+            drop((told, value));
+            return Err(fault);
+        }
+    };
     effects.push(Effect::Deliver {
         number,
         response: number,
@@ -101,4 +113,23 @@ fn hand_out<K: Ord + Clone + Drop, P: Clone + Drop, S: Clone + Drop>(
         value,
     })?;
     Ok(())
+}
+
+/// Copies of what is handed out.
+pub(crate) fn copies<K: Clone + Drop, S: Clone + Drop>(
+    delivery: &Delivery<K, S>,
+    value: &Bytes,
+) -> Result<(Delivery<K, S>, Bytes), Fault>
+    requires keys_clone { (x y : K) → K.is_clone x y → y ≡ x }
+    requires subscribers_clone { (x y : S) → S.is_clone x y → y ≡ x }
+    ensures delivery { IfOk result (λ copies. copies.0 ≡ delivery.now) }
+    ensures value { IfOk result (λ copies. copies.1 ≡ value.now) }
+    ensures only { IfErr result (λ fault. fault ≡ OutOfMemory) }
+{
+    let value = value.clone()?;
+    let Ok(delivery) = delivery.clone() else {
+        drop(value);
+        return Err(Fault::OutOfMemory);
+    };
+    Ok((delivery, value))
 }

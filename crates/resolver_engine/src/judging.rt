@@ -18,6 +18,7 @@ ghost use Rattle.resolver_engine.specs.Said.{Codec};
 ghost use Rattle.resolver_engine.specs.Tied.{Agrees};
 ghost use Rattle.resolver_engine.specs.declared.effects.Effect.TheVariants.{Deliver};
 
+use crate::answering::copies;
 use crate::effects::Effect;
 use crate::inflight::Inflight;
 use crate::parts::Parts;
@@ -104,20 +105,32 @@ impl<K: Ord + Clone + Drop, P: Ord + Clone + Drop, S: Ord + Clone + Drop> Parts<
         let Delivery { key, subscribers } = delivery;
         match rule_on(outcome, accepted) {
             Ruling::Serve { accepted } => {
-                let Some(subscribers) = self.demand.remove_delivered(&key, &subscribers)? else {
+                let rest = match self.demand.remove_delivered(&key, &subscribers) {
+                    Ok(rest) => rest,
+                    Err(fault) => {
+                        drop((key, subscribers));
+                        return Err(fault);
+                    }
+                };
+                drop(subscribers);
+                let Some(subscribers) = rest else {
                     self.forget(&key);
+                    drop(key);
                     return Ok(());
                 };
                 let delivery = Delivery { key, subscribers };
                 hand_out_again(&mut self.entries, delivery, accepted, effects)
             }
             Ruling::Retry => {
+                drop(subscribers);
                 self.entries.discard_response(&key);
                 self.fetcher.add_retry(key, now)
             }
             Ruling::Retire => {
+                drop(subscribers);
                 self.demand.remove(&key);
                 self.forget(&key);
+                drop(key);
                 Ok(())
             }
         }
@@ -202,9 +215,20 @@ fn hand_out_again<K: Ord + Clone + Drop, P: Clone + Drop, S: Clone + Drop>(
         unreachable!()
     };
     let name = response.name;
-    let value = response.value.clone()?;
-    let told = delivery.clone()?;
-    let number = entries.redeliver(delivery)?;
+    let (told, value) = match copies(&delivery, &response.value) {
+        Ok(copies) => copies,
+        Err(fault) => {
+            drop(delivery);
+            return Err(fault);
+        }
+    };
+    let number = match entries.redeliver(delivery) {
+        Ok(number) => number,
+        Err(fault) => {
+            drop((told, value));
+            return Err(fault);
+        }
+    };
     effects.push(Effect::Deliver {
         number,
         response: name,

@@ -1,13 +1,14 @@
 //! An engine that runs.
 
-ghost use Rattle.std.specs.Prelude.{◌≡◌, IfErr};
+ghost use Rattle.std.specs.Prelude.{◌≡◌, IfErr, IfOk};
 ghost use Rattle.resolver_base.specs.declared.base.fault.Fault.TheVariants.{OutOfMemory};
 
 use crate::engine::Engine;
 use bytes::Bytes;
+use futures::Future;
 use resolver_base::base::{Draws, Faithful, Fault, Predicate, PublicKey, Sender, Span};
 use resolver_surface::{Blocker, Clock, Consumer, Producer, Provider, Receiver};
-use resolver_worker::{Handle, start};
+use resolver_worker::{Ending, Handle, start};
 use std::alloc::AllocGlobal;
 use std::random::RandomSource;
 use std::sync::Wait;
@@ -38,9 +39,21 @@ impl<
         ensures only { IfErr result (λ fault. fault ≡ OutOfMemory) }
     {
         let rt = self.rt;
-        match self.into_loop(network, clock, draws) {
-            Ok(looped) => start(rt, looped),
-            Err(fault) => Err(fault),
-        }
+        start_made(rt, self.into_loop(network, clock, draws))
+    }
+}
+
+/// Starts a loop, if it was made.
+fn start_made<R, F>(rt: R, made: Result<F, Fault>) -> Result<Handle, Fault>
+where
+    R: Threads + Wait + RandomSource + AllocGlobal + Copy + Drop + Send + 'static,
+    F: Future<Output = Ending> + Drop + Send + 'static,
+    requires can_poll { IfOk made F.can_poll }
+    requires only { IfErr made (λ fault. fault ≡ OutOfMemory) }
+    ensures only { IfErr result (λ fault. fault ≡ OutOfMemory) }
+{
+    match made {
+        Ok(looped) => start(rt, looped),
+        Err(fault) => Err(fault),
     }
 }

@@ -36,8 +36,8 @@ returns-clause-told g c =
     let x = caches-some g.K.Ord.cmp c.args.delivery.key c.args.entries.now c.requires.cached in
     let there = ap (λ d. response_of g.K.Ord.cmp d c.args.delivery.key) c.note_accepted.ensures ∙ flagged-response g.K.Ord.cmp c.args.delivery.key c.args.entries.now x c.args.accepted in
     let same = some-same c.in-Some.response.now (noted g.K.Ord.cmp c.args.delivery.key c.args.entries.now x c.args.accepted) (c.in-Some.ensures ∙ there) in
-    let number = c.in_ok-number.ensures.number ∙ ap (λ d. d.next) c.note_accepted.ensures ∙ flagged-next g.K.Ord.cmp c.args.delivery.key c.args.entries.now x c.args.accepted in
+    let number = c.in-Ok-redeliver.ensures.number ∙ ap (λ d. d.next) c.note_accepted.ensures ∙ flagged-next g.K.Ord.cmp c.args.delivery.key c.args.entries.now x c.args.accepted in
     let name = ap (λ r. r.name) same ∙ noted-name g.K.Ord.cmp c.args.delivery.key c.args.entries.now x c.args.accepted in
-    let value = c.in_ok-value.ensures.cases ∙ ap (λ r. r.value) same ∙ noted-value g.K.Ord.cmp c.args.delivery.key c.args.entries.now x c.args.accepted in
+    let value = c.in-Ok.ensures.value ∙ ap (λ r. r.value) same ∙ noted-value g.K.Ord.cmp c.args.delivery.key c.args.entries.now x c.args.accepted in
     rw (response-is g.K.Ord.cmp c.args.delivery.key c.args.entries.now x)
-    (c.in_ok-push.ensures.items ∙ rw (number, name, c.in_ok-told.ensures.same, value) refl)
+    (c.in_ok-push.ensures.items ∙ rw (number, name, c.in-Ok.ensures.delivery, value) refl)
