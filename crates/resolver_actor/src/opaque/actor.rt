@@ -319,10 +319,17 @@ impl<K: Ord + Clone, V: Clone, S: Ord + Clone, Q: Predicate<K, S> + Drop> Actor<
             subscribers,
             ..
         } = item;
-        let Some(subscribers) = self.demand.attach(&key, subscribers)? else {
-            return Ok(());
-        };
-        self.start_new(key, subscribers, effects)
+        match self.demand.attach(&key, subscribers) {
+            Ok(Some(subscribers)) => self.start_new(key, subscribers, effects),
+            Ok(None) => {
+                drop(key);
+                Ok(())
+            }
+            Err(fault) => {
+                drop(key);
+                Err(fault)
+            }
+        }
     }
 
     fn start_new(
@@ -376,11 +383,22 @@ impl<K: Ord + Clone, V: Clone, S: Ord + Clone, Q: Predicate<K, S> + Drop> Actor<
             effects.old.items effects.new.items self.new result }
     {
         let Some(held) = self.stages.asked_by(attempt) else {
+            drop(value);
             return Ok(());
         };
-        let key = held.clone()?;
+        let key = match held.clone() {
+            Ok(key) => key,
+            Err(failed) => {
+                drop(value);
+                return Err(Fault::from(failed));
+            }
+        };
         match value {
-            None => self.stages.wait(&key, now + self.delay),
+            None => {
+                let waited = self.stages.wait(&key, now + self.delay);
+                drop(key);
+                waited
+            }
             Some(value) => self.hand_out(key, value, effects),
         }
     }
@@ -513,7 +531,13 @@ impl<K: Ord + Clone, V: Clone, S: Ord + Clone, Q: Predicate<K, S> + Drop> Actor<
             Goes (start_again (names K.cmp S.cmp) self.old key row.subscribers)
             effects.old.items effects.new.items self.new result) }
     {
-        let attempt = self.stages.ask_again(&key)?;
+        let attempt = match self.stages.ask_again(&key) {
+            Ok(attempt) => attempt,
+            Err(fault) => {
+                drop(key);
+                return Err(fault);
+            }
+        };
         effects.push(Effect::Start { attempt, key })?;
         Ok(())
     }
