@@ -16,7 +16,7 @@ use resolver_base::base::{Fault, Numbers};
 use resolver_base::root::{Delivery, Outcome};
 use resolver_demand::delivery::{Aborted, Completion, Entries};
 use resolver_surface::Consumer;
-use std::alloc::Global;
+use std::alloc::{AllocError, Global};
 use std::marker::Model;
 
 /// Tracked keys with the deliveries of their values, which a consumer judges.
@@ -208,7 +208,16 @@ where
         let Some(number) = self.numbers.peek() else {
             return self.entries.deliver(delivery, context, value);
         };
-        self.hand_over(number, delivery.clone()?, value.clone()?)?;
+        if let Err(fault) = hand_over(
+            &mut self.consumer,
+            &mut self.verdicts,
+            number,
+            &delivery,
+            &value,
+        ) {
+            drop((delivery, context, value));
+            return Err(fault);
+        }
         let begun = self.entries.deliver(delivery, context, value);
         self.settle(number, begun.is_ok());
         begun
@@ -235,25 +244,19 @@ where
         let Some(response) = self.entries.response(&delivery.key) else {
             unreachable!()
         };
-        let value = response.value.clone()?;
-        self.hand_over(number, delivery.clone()?, value)?;
+        if let Err(fault) = hand_over(
+            &mut self.consumer,
+            &mut self.verdicts,
+            number,
+            &delivery,
+            &response.value,
+        ) {
+            drop(delivery);
+            return Err(fault);
+        }
         let begun = self.entries.redeliver(delivery);
         self.settle(number, begun.is_ok());
         begun
-    }
-
-    /// Hands a value to the consumer under a number, and awaits its verdict.
-    fn hand_over(
-        &mut self,
-        number: u64,
-        delivery: Delivery<Con::Key, Con::Subscriber>,
-        value: Con::Value,
-    ) -> Result<(), Fault>
-        ensures same { self.new ≡ self.old }
-        ensures only { IfErr result (λ fault. fault ≡ OutOfMemory) }
-    {
-        let verdict = self.consumer.deliver(delivery, value)?;
-        self.verdicts.put(number, verdict)
     }
 
     /// Takes a number whose delivery began; of one that didn't, no verdict is awaited.
@@ -284,4 +287,42 @@ where
     {
         self.insert_state(key, ())
     }
+}
+
+/// Hands copies to the consumer under a number, and awaits its verdict on them.
+fn hand_over<Con: Consumer>(
+    consumer: &mut Con,
+    verdicts: &mut Verdicts<Con::Outcome>,
+    number: u64,
+    delivery: &Delivery<Con::Key, Con::Subscriber>,
+    value: &Con::Value,
+) -> Result<(), Fault>
+where
+    Con::Key: Drop,
+    Con::Subscriber: Drop,
+    Con::Value: Clone + Drop,
+    Con::Outcome: Drop,
+    requires keys_clone { (x y : Con.Key) → Con.Key.is_clone x y → y ≡ x }
+    requires subscribers_clone { (x y : Con.Subscriber) → Con.Subscriber.is_clone x y → y ≡ x }
+    ensures only { IfErr result (λ fault. fault ≡ OutOfMemory) }
+{
+    let (delivery, value) = copies(delivery, value)?;
+    let verdict = consumer.deliver(delivery, value)?;
+    verdicts.put(number, verdict)
+}
+
+/// A copy of a delivery, and one of its value.
+fn copies<K: Clone + Drop, S: Clone + Drop, V: Clone + Drop>(
+    delivery: &Delivery<K, S>,
+    value: &V,
+) -> Result<(Delivery<K, S>, V), AllocError>
+    requires keys_clone { (x y : K) → K.is_clone x y → y ≡ x }
+    requires subscribers_clone { (x y : S) → S.is_clone x y → y ≡ x }
+{
+    let delivery = delivery.clone()?;
+    let Ok(value) = value.clone() else {
+        drop(delivery);
+        return Err(AllocError);
+    };
+    Ok((delivery, value))
 }

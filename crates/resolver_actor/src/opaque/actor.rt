@@ -17,7 +17,7 @@ use resolver_base::root::{Delivery, Outcome};
 use resolver_demand::ingress::FetchKey;
 use resolver_demand::subscribers::Tracker;
 use resolver_machine::ruling::{Ruling, rule_on};
-use std::alloc::Global;
+use std::alloc::{AllocError, Global};
 use std::marker::{Model, PhantomData};
 
 /// What the actor takes.
@@ -319,10 +319,17 @@ impl<K: Ord + Clone, V: Clone, S: Ord + Clone, Q: Predicate<K, S> + Drop> Actor<
             subscribers,
             ..
         } = item;
-        let Some(subscribers) = self.demand.attach(&key, subscribers)? else {
-            return Ok(());
-        };
-        self.start_new(key, subscribers, effects)
+        match self.demand.attach(&key, subscribers) {
+            Ok(Some(subscribers)) => self.start_new(key, subscribers, effects),
+            Ok(None) => {
+                drop(key);
+                Ok(())
+            }
+            Err(fault) => {
+                drop(key);
+                Err(fault)
+            }
+        }
     }
 
     fn start_new(
@@ -376,11 +383,22 @@ impl<K: Ord + Clone, V: Clone, S: Ord + Clone, Q: Predicate<K, S> + Drop> Actor<
             effects.old.items effects.new.items self.new result }
     {
         let Some(held) = self.stages.asked_by(attempt) else {
+            drop(value);
             return Ok(());
         };
-        let key = held.clone()?;
+        let key = match held.clone() {
+            Ok(key) => key,
+            Err(failed) => {
+                drop(value);
+                return Err(Fault::from(failed));
+            }
+        };
         match value {
-            None => self.stages.wait(&key, now + self.delay),
+            None => {
+                let waited = self.stages.wait(&key, now + self.delay);
+                drop(key);
+                waited
+            }
             Some(value) => self.hand_out(key, value, effects),
         }
     }
@@ -400,13 +418,29 @@ impl<K: Ord + Clone, V: Clone, S: Ord + Clone, Q: Predicate<K, S> + Drop> Actor<
             Goes (hand_out (names K.cmp S.cmp) self.old key row.subscribers self.old.next_number
             value false) effects.old.items effects.new.items self.new result) }
     {
-        let Some(subscribers) = self.demand.pending(&key)? else {
-            unreachable!()
+        let subscribers = match self.demand.pending(&key) {
+            Ok(Some(subscribers)) => subscribers,
+            Ok(None) => unreachable!(),
+            Err(fault) => {
+                drop((key, value));
+                return Err(fault);
+            }
         };
         let delivery = Delivery { key, subscribers };
-        let told = delivery.clone()?;
-        let copy = value.clone()?;
-        let number = self.stages.deliver(delivery, copy)?;
+        let (told, copy) = match copies(&delivery, &value) {
+            Ok(copies) => copies,
+            Err(failed) => {
+                drop((delivery, value));
+                return Err(Fault::from(failed));
+            }
+        };
+        let number = match self.stages.deliver(delivery, copy) {
+            Ok(number) => number,
+            Err(fault) => {
+                drop((told, value));
+                return Err(fault);
+            }
+        };
         effects.push(Effect::Deliver {
             number,
             response: number,
@@ -436,22 +470,39 @@ impl<K: Ord + Clone, V: Clone, S: Ord + Clone, Q: Predicate<K, S> + Drop> Actor<
             return Ok(());
         };
         if completion.canceled {
+            drop(completion);
             return Ok(());
         }
         let Delivery { key, subscribers } = completion.delivery;
         match ruling_of(&self.stages, outcome, &key) {
             Ruling::Serve { accepted } => {
-                let Some(subscribers) = self.demand.remove_delivered(&key, &subscribers)? else {
-                    self.stages.remove(&key);
-                    return Ok(());
-                };
-                let delivery = Delivery { key, subscribers };
-                hand_out_again(&mut self.stages, delivery, accepted, effects)
+                let rest = self.demand.remove_delivered(&key, &subscribers);
+                drop(subscribers);
+                match rest {
+                    Ok(Some(subscribers)) => {
+                        let delivery = Delivery { key, subscribers };
+                        hand_out_again(&mut self.stages, delivery, accepted, effects)
+                    }
+                    Ok(None) => {
+                        self.stages.remove(&key);
+                        drop(key);
+                        Ok(())
+                    }
+                    Err(fault) => {
+                        drop(key);
+                        Err(fault)
+                    }
+                }
             }
-            Ruling::Retry => self.stages.wait(&key, now + self.delay),
+            Ruling::Retry => {
+                let waits = self.stages.wait(&key, now + self.delay);
+                drop((key, subscribers));
+                waits
+            }
             Ruling::Retire => {
                 self.demand.remove(&key);
                 self.stages.remove(&key);
+                drop((key, subscribers));
                 Ok(())
             }
         }
@@ -480,7 +531,13 @@ impl<K: Ord + Clone, V: Clone, S: Ord + Clone, Q: Predicate<K, S> + Drop> Actor<
             Goes (start_again (names K.cmp S.cmp) self.old key row.subscribers)
             effects.old.items effects.new.items self.new result) }
     {
-        let attempt = self.stages.ask_again(&key)?;
+        let attempt = match self.stages.ask_again(&key) {
+            Ok(attempt) => attempt,
+            Err(fault) => {
+                drop(key);
+                return Err(fault);
+            }
+        };
         effects.push(Effect::Start { attempt, key })?;
         Ok(())
     }
@@ -526,9 +583,20 @@ fn hand_out_again<K: Ord + Clone + Drop, V: Clone + Drop, S: Clone + Drop>(
         unreachable!()
     };
     let name = response.name;
-    let value = response.value.clone()?;
-    let told = delivery.clone()?;
-    let number = stages.redeliver(delivery)?;
+    let (told, value) = match copies(&delivery, &response.value) {
+        Ok(copies) => copies,
+        Err(failed) => {
+            drop(delivery);
+            return Err(Fault::from(failed));
+        }
+    };
+    let number = match stages.redeliver(delivery) {
+        Ok(number) => number,
+        Err(fault) => {
+            drop((told, value));
+            return Err(fault);
+        }
+    };
     effects.push(Effect::Deliver {
         number,
         response: name,
@@ -536,6 +604,24 @@ fn hand_out_again<K: Ord + Clone + Drop, V: Clone + Drop, S: Clone + Drop>(
         value,
     })?;
     Ok(())
+}
+
+/// A copy of a delivery, and one of its value.
+fn copies<K: Clone + Drop, V: Clone + Drop, S: Clone + Drop>(
+    delivery: &Delivery<K, S>,
+    value: &V,
+) -> Result<(Delivery<K, S>, V), AllocError>
+    requires keys_clone { (x y : K) → K.is_clone x y → y ≡ x }
+    requires values_clone { (x y : V) → V.is_clone x y → y ≡ x }
+    requires subscribers_clone { (x y : S) → S.is_clone x y → y ≡ x }
+    ensures { IfOk result (λ copies. copies ≡ (delivery.now, value.now)) }
+{
+    let delivery = delivery.clone()?;
+    let Ok(value) = value.clone() else {
+        drop(delivery);
+        return Err(AllocError);
+    };
+    Ok((delivery, value))
 }
 
 /// The ruling on a verdict for a key. Whether its response was accepted is looked up only where the

@@ -18,44 +18,38 @@ pub redeliver-requires-clause-idle : goal.redeliver-requires-clause-idle
 redeliver-requires-clause-idle g c =
     rw c.note_accepted.ensures (number-flagged g.K.Ord.cmp c.args.accepted c.args.delivery.key c.args.stages.now.entries c.requires.free)
 
-pub returns-in_err-value-clause-same : goal.returns-in_err-value-clause-same
-returns-in_err-value-clause-same g c = rw c.note_accepted.ensures (keys-flagged g.K.Ord.cmp c.args.accepted c.args.delivery.key c.args.stages.now.entries)
+pub returns-in-Err-clause-same : goal.returns-in-Err-clause-same
+returns-in-Err-clause-same g c = rw c.note_accepted.ensures (keys-flagged g.K.Ord.cmp c.args.accepted c.args.delivery.key c.args.stages.now.entries)
 
-pub returns-in_err-value-clause-cached : goal.returns-in_err-value-clause-cached
-returns-in_err-value-clause-cached g c = λ cached. rw c.note_accepted.ensures (cached-flagged g.K.Ord.cmp c.args.accepted c.args.delivery.key c.args.stages.now.entries cached)
+pub returns-in-Err-clause-cached : goal.returns-in-Err-clause-cached
+returns-in-Err-clause-cached g c = λ cached. rw c.note_accepted.ensures (cached-flagged g.K.Ord.cmp c.args.accepted c.args.delivery.key c.args.stages.now.entries cached)
 
-pub returns-in_err-told-clause-same : goal.returns-in_err-told-clause-same
-returns-in_err-told-clause-same g c = rw c.note_accepted.ensures (keys-flagged g.K.Ord.cmp c.args.accepted c.args.delivery.key c.args.stages.now.entries)
+pub returns-in-Err-redeliver-clause-same : goal.returns-in-Err-redeliver-clause-same
+returns-in-Err-redeliver-clause-same g c = rw (c.in-Err-redeliver.ensures.err, c.note_accepted.ensures) (keys-flagged g.K.Ord.cmp c.args.accepted c.args.delivery.key c.args.stages.now.entries)
 
-pub returns-in_err-told-clause-cached : goal.returns-in_err-told-clause-cached
-returns-in_err-told-clause-cached g c = λ cached. rw c.note_accepted.ensures (cached-flagged g.K.Ord.cmp c.args.accepted c.args.delivery.key c.args.stages.now.entries cached)
-
-pub returns-in_err-number-clause-same : goal.returns-in_err-number-clause-same
-returns-in_err-number-clause-same g c = rw (c.in_err-number.ensures.err, c.note_accepted.ensures) (keys-flagged g.K.Ord.cmp c.args.accepted c.args.delivery.key c.args.stages.now.entries)
-
-pub returns-in_err-number-clause-cached : goal.returns-in_err-number-clause-cached
-returns-in_err-number-clause-cached g c = λ cached. rw (c.in_err-number.ensures.err, c.note_accepted.ensures) (cached-flagged g.K.Ord.cmp c.args.accepted c.args.delivery.key c.args.stages.now.entries cached)
+pub returns-in-Err-redeliver-clause-cached : goal.returns-in-Err-redeliver-clause-cached
+returns-in-Err-redeliver-clause-cached g c = λ cached. rw (c.in-Err-redeliver.ensures.err, c.note_accepted.ensures) (cached-flagged g.K.Ord.cmp c.args.accepted c.args.delivery.key c.args.stages.now.entries cached)
 
 pub returns-in_err-push-clause-same : goal.returns-in_err-push-clause-same
 returns-in_err-push-clause-same g c =
-    rw (c.in_ok-number.ensures.ok, c.note_accepted.ensures)
+    rw (c.in-Ok-redeliver.ensures.ok, c.note_accepted.ensures)
     (keys-redelivered g.K.Ord.cmp c.args.delivery (flagged g.K.Ord.cmp c.args.accepted c.args.delivery.key c.args.stages.now.entries) ∙ keys-flagged g.K.Ord.cmp c.args.accepted c.args.delivery.key c.args.stages.now.entries)
 
 pub returns-in_err-push-clause-cached : goal.returns-in_err-push-clause-cached
 returns-in_err-push-clause-cached g c = λ cached.
     let r = some-is (response_of g.K.Ord.cmp c.args.stages.now.entries c.args.delivery.key) c.requires.cached in
-    rw (c.in_ok-number.ensures.ok, c.note_accepted.ensures)
+    rw (c.in-Ok-redeliver.ensures.ok, c.note_accepted.ensures)
     (cached-redelivered g.K.Ord.cmp c.args.delivery (flagged g.K.Ord.cmp c.args.accepted c.args.delivery.key c.args.stages.now.entries) _ (response-flagged g.K.Ord.cmp c.args.accepted c.args.delivery.key c.args.stages.now.entries r.0 r.1) (cached-flagged g.K.Ord.cmp c.args.accepted c.args.delivery.key c.args.stages.now.entries cached))
 
 pub returns-clause-same : goal.returns-clause-same
 returns-clause-same g c =
-    rw (c.in_ok-number.ensures.ok, c.note_accepted.ensures)
+    rw (c.in-Ok-redeliver.ensures.ok, c.note_accepted.ensures)
     (keys-redelivered g.K.Ord.cmp c.args.delivery (flagged g.K.Ord.cmp c.args.accepted c.args.delivery.key c.args.stages.now.entries) ∙ keys-flagged g.K.Ord.cmp c.args.accepted c.args.delivery.key c.args.stages.now.entries)
 
 pub returns-clause-cached : goal.returns-clause-cached
 returns-clause-cached g c = λ cached.
     let r = some-is (response_of g.K.Ord.cmp c.args.stages.now.entries c.args.delivery.key) c.requires.cached in
-    rw (c.in_ok-number.ensures.ok, c.note_accepted.ensures)
+    rw (c.in-Ok-redeliver.ensures.ok, c.note_accepted.ensures)
     (cached-redelivered g.K.Ord.cmp c.args.delivery (flagged g.K.Ord.cmp c.args.accepted c.args.delivery.key c.args.stages.now.entries) _ (response-flagged g.K.Ord.cmp c.args.accepted c.args.delivery.key c.args.stages.now.entries r.0 r.1) (cached-flagged g.K.Ord.cmp c.args.accepted c.args.delivery.key c.args.stages.now.entries cached))
 
 pub returns-clause-told : goal.returns-clause-told
@@ -64,8 +58,8 @@ returns-clause-told g c =
     let there = response-flagged g.K.Ord.cmp c.args.accepted c.args.delivery.key c.args.stages.now.entries r.0 r.1 in
     let found = subst (λ d. Some c.in-Some.response.now ≡ response_of g.K.Ord.cmp d c.args.delivery.key) (c.entries.ensures ∙ ap (λ s. s.entries) c.note_accepted.ensures) c.in-Some.ensures in
     let same = some-same _ _ (found ∙ there) in
-    let number = c.in_ok-number.ensures.number ∙ (ap (λ d. d.next) (ap (λ s. s.entries) c.note_accepted.ensures) ∙ next-flagged g.K.Ord.cmp c.args.accepted c.args.delivery.key c.args.stages.now.entries) in
+    let number = c.in-Ok-redeliver.ensures.number ∙ (ap (λ d. d.next) (ap (λ s. s.entries) c.note_accepted.ensures) ∙ next-flagged g.K.Ord.cmp c.args.accepted c.args.delivery.key c.args.stages.now.entries) in
     holds-at _ _ r.0 r.1
     (c.in_ok-push.ensures.items
     ∙ ap (λ one. c.args.effects.now.items ++ one ∷ [])
-    (told-same _ _ _ _ _ _ _ _ number (ap (λ r. r.name) same) c.in_ok-told.ensures.same (c.requires.values_clone _ _ c.in_ok-value.ensures.cases ∙ ap (λ r. r.value) same)))
+    (told-same _ _ _ _ _ _ _ _ number (ap (λ r. r.name) same) (ap (λ copies. copies.0) c.in-Ok.ensures) (ap (λ copies. copies.1) c.in-Ok.ensures ∙ ap (λ r. r.value) same)))

@@ -11,7 +11,7 @@ pub unreachable-requires : goal.unreachable-requires
 unreachable-requires g c =
     let idle = asked-idle _ (rw (← c.self.view_is) at c.requires.asked) in
     let asked = idle-asked (names g.K.Ord.cmp g.S.Ord.cmp) c.self.inside.demand c.self.inside.stages.entries.keys c.self.invariant.agree c.args.key idle in
-    asked-none _ asked (sym c.in_default.is ∙ c.in_ok-subscribers.ensures.ok)
+    asked-none _ asked (sym c.in-Ok-None.field-0-is ∙ c.in-Ok-None.ensures.ok)
 
 pub deliver-requires-clause-tracked : goal.deliver-requires-clause-tracked
 deliver-requires-clause-tracked g c =
@@ -30,13 +30,13 @@ deliver-requires-clause-idle g c =
 pub invariant_of-self-in_err-push : goal.invariant_of-self-in_err-push
 invariant_of-self-in_err-push g c = record {
   delay = c.self.invariant.delay;
-  agree = agree-delivered (names g.K.Ord.cmp g.S.Ord.cmp) c.self.inside.demand c.self.inside.stages.entries c.self.invariant.agree c.self.inside.stages.next_attempt c.self.inside.delay (status_of c.self.inside.status) c.args.key c.in-Some.subscribers c.in_ok-copy.copy c.deliver.new.self.entries (ap (λ s. s.entries) c.in_ok-number.ensures.ok);
+  agree = agree-delivered (names g.K.Ord.cmp g.S.Ord.cmp) c.self.inside.demand c.self.inside.stages.entries c.self.invariant.agree c.self.inside.stages.next_attempt c.self.inside.delay (status_of c.self.inside.status) c.args.key c.in-Ok-Some.subscribers c.in-Ok.copies.1 c.deliver.new.self.entries (ap (λ s. s.entries) c.in-Ok-deliver.ensures.ok);
 }
 
 pub invariant_of-self-2 : goal.invariant_of-self-2
 invariant_of-self-2 g c = record {
   delay = c.self.invariant.delay;
-  agree = agree-delivered (names g.K.Ord.cmp g.S.Ord.cmp) c.self.inside.demand c.self.inside.stages.entries c.self.invariant.agree c.self.inside.stages.next_attempt c.self.inside.delay (status_of c.self.inside.status) c.args.key c.in-Some.subscribers c.in_ok-copy.copy c.deliver.new.self.entries (ap (λ s. s.entries) c.in_ok-number.ensures.ok);
+  agree = agree-delivered (names g.K.Ord.cmp g.S.Ord.cmp) c.self.inside.demand c.self.inside.stages.entries c.self.invariant.agree c.self.inside.stages.next_attempt c.self.inside.delay (status_of c.self.inside.status) c.args.key c.in-Ok-Some.subscribers c.in-Ok.copies.1 c.deliver.new.self.entries (ap (λ s. s.entries) c.in-Ok-deliver.ensures.ok);
 }
 
 told-is : {K V S : Type 0} (before after : List (Effect K V S)) (number : ℕ) (told delivery : Delivery K S) (value : V)
@@ -46,10 +46,10 @@ told-is before after number told delivery value put same = put ∙ ap (λ one. b
 pub returns : goal.returns
 returns g c =
     let idle = asked-idle _ (rw (← c.self.view_is) at c.requires.asked) in
-    let put = rw (c.requires.values_clone _ _ c.in_ok-copy.ensures.cases) at (ap (λ s. s.entries) c.in_ok-number.ensures.ok) in
-    let wanted = sym c.in_ok-subscribers.ensures.ok ∙ c.in-Some.is in
-    rw (← c.self.view_is, ap (λ s. s.next_attempt) c.in_ok-number.ensures.ok)
+    let put = rw (ap (λ copies. copies.1) c.in-Ok.ensures) at (ap (λ s. s.entries) c.in-Ok-deliver.ensures.ok) in
+    let wanted = sym c.in-Ok-Some.ensures.ok ∙ c.in-Ok-Some.field-0-is in
+    rw (← c.self.view_is, ap (λ s. s.next_attempt) c.in-Ok-deliver.ensures.ok)
     (at-idle _ _ idle (λ row found waits.
-    hand_out_goes (names g.K.Ord.cmp g.S.Ord.cmp) c.self.inside.demand c.self.inside.stages.entries c.self.invariant.agree c.self.inside.stages.next_attempt c.self.inside.delay (status_of c.self.inside.status) c.args.key row c.in-Some.subscribers c.args.value c.args.effects.now.items c.push.new.self.items c.deliver.new.self.entries c.in_ok-number.number
-    found wanted c.in_ok-number.ensures.number (search rules) put
-    (told-is _ _ _ _ _ _ c.in_ok-push.ensures.items c.in_ok-told.ensures.same)))
+    hand_out_goes (names g.K.Ord.cmp g.S.Ord.cmp) c.self.inside.demand c.self.inside.stages.entries c.self.invariant.agree c.self.inside.stages.next_attempt c.self.inside.delay (status_of c.self.inside.status) c.args.key row c.in-Ok-Some.subscribers c.args.value c.args.effects.now.items c.push.new.self.items c.deliver.new.self.entries c.in-Ok-deliver.number
+    found wanted c.in-Ok-deliver.ensures.number (search rules) put
+    (told-is _ _ _ _ _ _ c.in_ok-push.ensures.items (ap (λ copies. copies.0) c.in-Ok.ensures))))

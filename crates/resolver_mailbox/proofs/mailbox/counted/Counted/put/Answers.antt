@@ -1,8 +1,93 @@
-use Rattle.std.proofs.Common.{◌∙◌, ◌≡◌, Some, None, false, true, sym, ap, is_some, rules}
-use Rattle.resolver_base.specs.Names.{names}
-use Rattle.resolver_demand.specs.Backlog.{told_of}
+use Rattle.std.proofs.Common.{◌∙◌, ◌≡◌, ℕ, Bool, Option, Some, None, false, true, cond, sym, ap, is_some, rules, refl, subst}
+use Rattle.std.specs.Prelude.{◌≢◌, Result, Ok, Err, IfOk, IfErr, OnOk, OnErr}
+use Rattle.std.specs.Option.{option_map}
+use Rattle.resolver_base.specs.declared.base.fault.Fault.{Fault}
+use Rattle.resolver_base.specs.declared.base.fault.Fault.TheVariants.{Exhausted, OutOfMemory}
+use Rattle.resolver_base.specs.declared.base.feedback.Feedback.{Feedback}
+use Rattle.resolver_base.specs.declared.base.feedback.Feedback.TheVariants as feedbacks
+use Rattle.resolver_base.specs.Names.{Names, names}
+use Rattle.resolver_demand.specs.Backlog.{Told, told_of}
+use Rattle.resolver_mailbox.specs.Desk.{Book, Desk, desk_put, feedback_of, has_room, placed, with_put}
+use Rattle.resolver_mailbox.specs.Shares.{IsAdded, Share, first_share, with_message}
 use Rattle.resolver_mailbox.proofs.Counts.{begun-counted, begun-recorded, for-one, stored-counted, stored-recorded}
 use Rattle.resolver_mailbox.proofs.mailbox.counted.Counted.put.Goals as goal
+
+on-err : {F X : Type 0} (result : Result F Fault) → X → OnErr result X
+on-err (Ok made) x = tt
+on-err (Err fault) x = x
+
+either-way : {F X : Type 0} (result : Result F Fault) → X → IfErr result (λ fault. fault ≡ Exhausted → X)
+either-way (Ok made) x = tt
+either-way (Err fault) x = λ exhausted. x
+
+-- memory is the one thing that may be wanting
+exhausted-none : {F : Type 0} (X : Type 0) (result : Result F Fault) → IfErr result (λ fault. fault ≡ OutOfMemory) → IfErr result (λ fault. fault ≡ Exhausted → X)
+exhausted-none X (Ok made) is = tt
+exhausted-none X (Err fault) is = λ other. absurd (let both = sym is ∙ other in cc)
+
+only-memory : {F : Type 0} (result : Result F Fault) → IfErr result (λ fault. fault ≡ OutOfMemory) → IfErr result (λ fault. fault ≢ OutOfMemory → fault ≡ Exhausted)
+only-memory (Ok made) is = tt
+only-memory (Err fault) is = λ other. absurd (other is)
+
+module _ {K S M Q : Type 0} where
+  closed-answer : (desk : Desk K S M Q) → desk.is_closed ≡ true → feedbacks.Closed ≡ feedback_of desk
+  closed-answer desk closed = ap (λ (t : Bool). cond t feedbacks.Closed (cond (has_room desk) feedbacks.Ok feedbacks.Backoff)) (sym closed)
+
+  -- an open desk doesn't answer Closed
+  open-answer : (desk : Desk K S M Q) → desk.is_closed ≡ false → feedback_of desk ≡ feedbacks.Closed → ⊥
+  open-answer desk unclosed is = cases (has_room desk) (ap (λ (t : Bool). cond t feedbacks.Closed (cond (has_room desk) feedbacks.Ok feedbacks.Backoff)) (sym unclosed) ∙ is) where
+    cases : (t : Bool) → cond t feedbacks.Ok feedbacks.Backoff ≡ feedbacks.Closed → ⊥
+    cases true wrong = cc
+    cases false wrong = cc
+
+  open-answers : (X : Type 0) (result : Result Feedback Fault) (desk : Desk K S M Q) → desk.is_closed ≡ false → IfOk result (λ feedback. feedback ≡ feedback_of desk) → IfOk result (λ feedback. feedback ≡ feedbacks.Closed → X)
+  open-answers X (Ok feedback) desk unclosed is = λ closed. absurd (open-answer desk unclosed (sym is ∙ closed))
+  open-answers X (Err fault) desk unclosed is = tt
+
+  -- a put of a handle that has a share
+  stored-added : (result : Result Feedback Fault) (told : Told K S M Q) (share now : Share K S M Q) (was : Option (Share K S M Q)) → Some share ≡ was → OnOk result (now ≡ with_message told share)
+      → IfOk result (λ feedback. feedback ≢ feedbacks.Closed → IsAdded told was (Some now))
+  stored-added (Ok feedback) told share now was held is = λ unshut. subst (λ w. IsAdded told w (Some now)) held is
+  stored-added (Err fault) told share now was held is = tt
+
+  stored-same : (result : Result Feedback Fault) (share now : Share K S M Q) (was : Option (Share K S M Q)) → Some share ≡ was → OnErr result (now ≡ share) → OnErr result (Some now ≡ was)
+  stored-same (Ok feedback) share now was held is = tt
+  stored-same (Err fault) share now was held is = ap (λ s. Some s) is ∙ held
+
+  -- a first put, of which a share is kept
+  begun-answers : (P : Feedback → Type 0) (made : Result (Feedback × Share K S M Q) Fault) (result : Result Feedback Fault) → IfOk made (λ one. result ≡ Ok one.0) → IfErr made (λ fault. result ≡ Err fault)
+      → IfOk made (λ one. P one.0) → IfOk result P
+  begun-answers P (Ok one) result ok err is = subst (λ r. IfOk r P) (sym ok) is
+  begun-answers P (Err fault) result ok err is = subst (λ r. IfOk r P) (sym err) tt
+
+  begun-ok : (X : Type 0) (made : Result (Feedback × Share K S M Q) Fault) (result : Result Feedback Fault) → IfOk made (λ one. result ≡ Ok one.0) → IfErr made (λ fault. result ≡ Err fault) → OnOk made X → OnOk result X
+  begun-ok X (Ok one) result ok err is = subst (λ r. OnOk r X) (sym ok) is
+  begun-ok X (Err fault) result ok err is = subst (λ r. OnOk r X) (sym err) tt
+
+  begun-err : (X : Type 0) (made : Result (Feedback × Share K S M Q) Fault) (result : Result Feedback Fault) → IfOk made (λ one. result ≡ Ok one.0) → IfErr made (λ fault. result ≡ Err fault) → OnErr made X → OnErr result X
+  begun-err X (Ok one) result ok err is = subst (λ r. OnErr r X) (sym ok) tt
+  begun-err X (Err fault) result ok err is = subst (λ r. OnErr r X) (sym err) is
+
+  begun-faults : (P : Fault → Type 0) (made : Result (Feedback × Share K S M Q) Fault) (result : Result Feedback Fault) → IfOk made (λ one. result ≡ Ok one.0) → IfErr made (λ fault. result ≡ Err fault) → IfErr made P → IfErr result P
+  begun-faults P (Ok one) result ok err is = subst (λ r. IfErr r P) (sym ok) tt
+  begun-faults P (Err fault) result ok err is = subst (λ r. IfErr r P) (sym err) is
+
+  begun-added : (made : Result (Feedback × Share K S M Q) Fault) (told : Told K S M Q) (handle : ℕ) (was now : Option (Share K S M Q)) → None ≡ was → IfOk made (λ one. now ≡ Some one.1) → IfOk made (λ one. one.1 ≡ first_share handle told)
+      → IfOk made (λ one. one.0 ≢ feedbacks.Closed → IsAdded told was now)
+  begun-added (Ok one) told handle was now none kept is = λ unshut.
+      subst (λ w. IsAdded told w now) none (subst (IsAdded told None) (sym kept) (is ∙ ap (λ (h : ℕ). first_share h told) (ap (λ s. s.handle) (sym is))))
+  begun-added (Err fault) told handle was now none kept is = tt
+
+module _ {K S M Q : Type 0} (n : Names K S) (merged : M → M → M) (keeps : Q → K → S → Bool) where
+  closed-put : (handle : Option ℕ) (told : Told K S M Q) (desk : Desk K S M Q) → desk.is_closed ≡ true → desk ≡ desk_put n merged keeps handle told desk
+  closed-put handle told desk closed = ap (λ (t : Bool). cond t desk (record (placed n merged keeps told desk) { book = option_map (with_put handle told (has_room desk)) desk.book })) (sym closed)
+
+  -- where there is no book, nobody asks for the handle
+  unbooked-put : (handle other : Option ℕ) (told : Told K S M Q) (desk : Desk K S M Q) → is_some desk.book ≡ false → desk_put n merged keeps handle told desk ≡ desk_put n merged keeps other told desk
+  unbooked-put handle other told desk none = ap (λ book. cond desk.is_closed desk (record (placed n merged keeps told desk) { book = book })) (cases desk.book none) where
+    cases : (book : Option (Book K S M Q)) → is_some book ≡ false → option_map (with_put handle told (has_room desk)) book ≡ option_map (with_put other told (has_room desk)) book
+    cases None none = refl
+    cases (Some book) none = absurd cc
 
 pub invariant_of-self-in-Some-share : goal.invariant_of-self-in-Some-share
 invariant_of-self-in-Some-share g c =
@@ -35,4 +120,88 @@ invariant_of-self-2 g c =
       counted = for-one _ _
           (begun-counted n g.M.Metadata.merged g.Q.Predicate.keeps first.result told was.desk first.new.desk totals.puts.total first.new.total.total totals.takes.total totals.spare.parts first.new.spare.parts unclosed some
           first.ensures.desk first.ensures.total first.ensures.spare first.ensures.err_desk first.ensures.err_total first.ensures.err_spare (was.counted totals c.in-Some-totals.is));
+    }
+
+pub invariant_of-self : goal.invariant_of-self
+invariant_of-self g c = record { recorded = c.args.self.now.recorded; totaled = c.args.self.now.totaled; counted = c.args.self.now.counted }
+
+pub put-requires : goal.put-requires
+put-requires g c = record { keys_clone = g.met.K.Faithful.clones; subscribers_clone = g.met.S.Faithful.clones; tests_clone = g.met.Q.Faithful.clones }
+
+pub returns-then-is_closed-clause-feedback : goal.returns-then-is_closed-clause-feedback
+returns-then-is_closed-clause-feedback g c = closed-answer c.args.self.now.desk (sym c.is_closed.ensures ∙ c.if-is_closed.true)
+
+pub returns-then-is_closed-clause-desk : goal.returns-then-is_closed-clause-desk
+returns-then-is_closed-clause-desk g c =
+    closed-put (names g.K.Ord.cmp g.S.Ord.cmp) g.M.Metadata.merged g.Q.Predicate.keeps (option_map (λ s. s.handle) c.args.seat.now) (told_of c.args.message) c.args.self.now.desk (sym c.is_closed.ensures ∙ c.if-is_closed.true)
+
+pub returns-then-is_closed-clause-added : goal.returns-then-is_closed-clause-added
+returns-then-is_closed-clause-added g c = λ recorded unshut. absurd (unshut refl)
+
+pub returns-then-is_closed-clause-unrecorded : goal.returns-then-is_closed-clause-unrecorded
+returns-then-is_closed-clause-unrecorded g c = λ unrecorded unshut. absurd (unshut refl)
+
+pub returns-in_default-totals : goal.returns-in_default-totals
+returns-in_default-totals g c =
+    let was = c.args.self.now in
+    let unclosed : was.desk.is_closed ≡ false = sym c.is_closed.ensures ∙ c.if-is_closed.false in
+    let unrecorded : g.N.Naming.is_recorded ≡ false = sym was.totaled ∙ ap is_some c.in_default-totals.is in
+    let answer = ap (λ answer. answer.0) c.in_ok-feedback.ensures.answer in
+    record {
+      feedback = answer;
+      desk = c.in_ok-feedback.ensures.ok
+          ∙ unbooked-put (names g.K.Ord.cmp g.S.Ord.cmp) g.M.Metadata.merged g.Q.Predicate.keeps None (option_map (λ s. s.handle) c.args.seat.now) (told_of c.args.message) was.desk (was.recorded ∙ unrecorded);
+      added = λ recorded. absurd (let both = sym recorded ∙ unrecorded in cc);
+      unrecorded = λ unrecorded unshut. c.seat.view_is;
+      closed = λ closed. absurd (open-answer was.desk unclosed (sym answer ∙ closed));
+      err = tt;
+      err_desk = tt;
+      shut = tt;
+      only = tt;
+      exhausted = tt;
+    }
+
+pub returns-in-Some-share : goal.returns-in-Some-share
+returns-in-Some-share g c =
+    let was = c.args.self.now in
+    let put = c.put-in-Some-share in
+    let unclosed : was.desk.is_closed ≡ false = sym c.is_closed.ensures ∙ c.if-is_closed.false in
+    let recorded : g.N.Naming.is_recorded ≡ true = sym was.totaled ∙ ap is_some c.in-Some-totals.is in
+    let held : Some c.in-Some-share.share ≡ c.args.seat.now = sym c.in-Some-share.is ∙ c.seat.view_is in
+    record {
+      feedback = put.ensures.feedback;
+      desk = subst (λ seat. OnOk put.result (put.new.desk ≡ desk_put (names g.K.Ord.cmp g.S.Ord.cmp) g.M.Metadata.merged g.Q.Predicate.keeps (option_map (λ s. s.handle) seat) (told_of c.args.message) was.desk)) held put.ensures.desk;
+      added = λ recorded. stored-added put.result (told_of c.args.message) c.in-Some-share.share put.new.self c.args.seat.now held put.ensures.listed;
+      unrecorded = λ unrecorded. absurd (let both = sym recorded ∙ unrecorded in cc);
+      closed = open-answers _ put.result was.desk unclosed put.ensures.feedback;
+      err = stored-same put.result c.in-Some-share.share put.new.self c.args.seat.now held put.ensures.err;
+      err_desk = put.ensures.err_desk;
+      shut = on-err put.result unclosed;
+      only = only-memory put.result put.ensures.only;
+      exhausted = exhausted-none _ put.result put.ensures.only;
+    }
+
+pub returns : goal.returns
+returns g c =
+    let was = c.args.self.now in
+    let first = c.first-first in
+    let keep = c.keep in
+    let unclosed : was.desk.is_closed ≡ false = sym c.is_closed.ensures ∙ c.if-is_closed.false in
+    let recorded : g.N.Naming.is_recorded ≡ true = sym was.totaled ∙ ap is_some c.in-Some-totals.is in
+    let none : None ≡ c.args.seat.now = sym c.in_default-share.is ∙ c.seat.view_is in
+    let answers = begun-answers (λ feedback. feedback ≡ feedback_of was.desk) first.result keep.result keep.ensures.feedback keep.ensures.err first.ensures.feedback in
+    record {
+      feedback = answers;
+      desk = subst (λ seat. OnOk keep.result (first.new.desk ≡ desk_put (names g.K.Ord.cmp g.S.Ord.cmp) g.M.Metadata.merged g.Q.Predicate.keeps (option_map (λ s. s.handle) seat) (told_of c.args.message) was.desk)) none
+          (begun-ok _ first.result keep.result keep.ensures.feedback keep.ensures.err first.ensures.desk);
+      added = λ recorded.
+          begun-answers (λ feedback. feedback ≢ feedbacks.Closed → IsAdded (told_of c.args.message) c.args.seat.now keep.new.place) first.result keep.result keep.ensures.feedback keep.ensures.err
+          (begun-added first.result (told_of c.args.message) _ c.args.seat.now keep.new.place none keep.ensures.kept first.ensures.share);
+      unrecorded = λ unrecorded. absurd (let both = sym recorded ∙ unrecorded in cc);
+      closed = open-answers _ keep.result was.desk unclosed answers;
+      err = begun-err _ first.result keep.result keep.ensures.feedback keep.ensures.err (subst (λ seat. OnErr first.result (keep.new.place ≡ seat)) c.seat.view_is keep.ensures.same);
+      err_desk = begun-err _ first.result keep.result keep.ensures.feedback keep.ensures.err first.ensures.err_desk;
+      shut = on-err keep.result unclosed;
+      only = begun-faults (λ fault. fault ≢ OutOfMemory → fault ≡ Exhausted) first.result keep.result keep.ensures.feedback keep.ensures.err first.ensures.only;
+      exhausted = either-way keep.result (recorded, sym none);
     }

@@ -1,0 +1,71 @@
+use Rattle.std.proofs.Common.{◌≡◌, ◌∙◌, ◌<◌, ◌≤◌, ◌+◌, ◌-◌, ◌^◌, ℕ, Bool, true, false, cond, Option, None, Some, is_some, length, map, rules, refl, sym, ap, arith}
+use Rattle.std.specs.Vec.{vec_len}
+use Rattle.std.proofs.lemmas.List.{length-map}
+use Rattle.resolver_demand.specs.Backlog.{told_of}
+use Rattle.std.specs.Option.{ForSome, option_map, option_map_or}
+use Rattle.resolver_mailbox.specs.Desk.{Book, Desk, answered, number_of}
+use Rattle.resolver_mailbox.specs.Shares.{numbered}
+use Rattle.resolver_mailbox.proofs.mailbox.share.Share.first.Goals as goal
+
+module _ {K S M Q : Type 0} where
+  -- a handle that has put nothing gets the next number
+  first-number : (desk : Desk K S M Q) (handle : Option ℕ) → desk.is_closed ≡ false → is_some desk.book ≡ true → handle ≡ answered None desk → handle ≡ Some (numbered desk)
+  first-number desk handle unclosed some is = is ∙ ap (λ (t : Bool). cond t None (option_map (number_of None) desk.book)) unclosed ∙ noted desk.book some where
+    noted : (book : Option (Book K S M Q)) → is_some book ≡ true → option_map (number_of None) book ≡ Some (option_map_or (λ b. b.next_handle) book 0)
+    noted None some = absurd cc
+    noted (Some book) some = refl
+
+  -- while there is a number, there is a part
+  part-left : (desk : Desk K S M Q) (parts : ℕ) → is_some desk.book ≡ true → ForSome desk.book (λ book. book.next_handle + 1 < 2 ^ 64) → parts + numbered desk ≡ 2 ^ 64 - 1 → 1 ≤ parts
+  part-left desk parts some below all = noted desk.book some below all where
+    noted : (book : Option (Book K S M Q)) → is_some book ≡ true → ForSome book (λ b. b.next_handle + 1 < 2 ^ 64) → parts + option_map_or (λ b. b.next_handle) book 0 ≡ 2 ^ 64 - 1 → 1 ≤ parts
+    noted None some below all = absurd cc
+    noted (Some book) some below all = let less = below book refl in omega (arith, less, all)
+
+pub unreachable-requires : goal.unreachable-requires
+unreachable-requires g c =
+    let number = first-number c.args.desk.now c.in-Ok-default-None.field-0-1 c.requires.unclosed c.requires.recorded (ap (λ answer. answer.1) c.in-Ok-default-None.ensures.answer) in
+    let none = c.in-Ok-default-None.field-0-1-is in
+    absurd cc
+
+pub split_off-part-requires-clause-has_parts : goal.split_off-part-requires-clause-has_parts
+split_off-part-requires-clause-has_parts g c =
+    part-left c.args.desk.now c.args.spare.now.parts c.requires.recorded (c.in-Ok-default-Some.ensures.numbers c.requires.unclosed refl) c.requires.parts
+
+pub returns-in-Ok-default-Some-clause-share : goal.returns-in-Ok-default-Some-clause-share
+returns-in-Ok-default-Some-clause-share g c =
+    let number = first-number c.args.desk.now c.in-Ok-default-Some.field-0-1 c.requires.unclosed c.requires.recorded (ap (λ answer. answer.1) c.in-Ok-default-Some.ensures.answer) in
+    let is = c.in-Ok-default-Some.field-0-1-is in
+    let handle : c.in-Ok-default-Some.handle ≡ numbered c.args.desk.now = cc in
+    λ i. record { handle = handle i; puts = c.in-Ok.ensures i; is_closed = false }
+
+pub returns-in-Ok-default-Some-clause-desk : goal.returns-in-Ok-default-Some-clause-desk
+returns-in-Ok-default-Some-clause-desk g c = c.in-Ok-default-Some.ensures.ok
+
+pub put-requires : goal.put-requires
+put-requires g c = record { keys_clone = g.met.K.Faithful.clones; subscribers_clone = g.met.S.Faithful.clones; tests_clone = g.met.Q.Faithful.clones }
+
+pub invariant_of-share : goal.invariant_of-share
+invariant_of-share g c =
+    let one : length (map told_of c.in-Ok.puts.items) ≡ 1 = ap length c.in-Ok.ensures in
+    let kept : length c.in-Ok.puts.items ≡ vec_len c.in-Ok.puts = search rules in
+    let parts : c.add.new.share.parts ≡ 1 = c.add.ensures.parts ∙ c.split_off-part.ensures.parts in
+    let amount : c.add.new.share.amount ≡ 1 = c.add.ensures.amount ∙ ap (λ (n : ℕ). n + 1) c.split_off-part.ensures.amount in
+    (omega (arith, parts), amount ∙ sym one ∙ length-map c.in-Ok.puts.items told_of ∙ kept)
+
+pub returns-in-Ok-default-Some-clause-feedback : goal.returns-in-Ok-default-Some-clause-feedback
+returns-in-Ok-default-Some-clause-feedback g c = ap (λ answer. answer.0) c.in-Ok-default-Some.ensures.answer
+
+pub returns-in-Ok-default-Some-clause-total : goal.returns-in-Ok-default-Some-clause-total
+returns-in-Ok-default-Some-clause-total g c = c.add.ensures.total
+
+pub returns-in-Ok-default-Some-clause-spare : goal.returns-in-Ok-default-Some-clause-spare
+returns-in-Ok-default-Some-clause-spare g c = c.split_off-part.ensures.parts_left
+
+pub returns-in-Err-put : goal.returns-in-Err-put
+returns-in-Err-put g c =
+    record { feedback = tt; share = tt; desk = tt; total = tt; spare = tt; unused = c.requires.unused; err_desk = c.in-Err-put.ensures.err; err_total = refl; err_spare = refl; only = c.in-Err-put.ensures.only }
+
+pub returns-in-Err : goal.returns-in-Err
+returns-in-Err g c =
+    record { feedback = tt; share = tt; desk = tt; total = tt; spare = tt; unused = c.requires.unused; err_desk = refl; err_total = refl; err_spare = refl; only = λ other. absurd (other c.from.ensures) }
