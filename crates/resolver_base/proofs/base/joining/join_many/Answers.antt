@@ -33,8 +33,8 @@ loop-item-preserved g c =
       makes = joined-there g.T.PartialEq.eq _ _ _ _ c.in-Some.item steps there before.makes;
       indexed = λ x. indexed-there (λ other. g.T.PartialEq.eq other x) (λ other. g.T.PartialEq.eq other c.in-Some.item) _ _ _ (is_eq (g.T.Ord.cmp x c.in-Some.item))
           (λ is other. g.met.T.Ord.matches_eq other x
-              ∙ ap is_eq (alike_right g.met.T.Ord.total x c.in-Some.item other ((Equal-is (g.T.Ord.cmp x c.in-Some.item)).0 is))
-              ∙ sym (g.met.T.Ord.matches_eq other c.in-Some.item))
+          ∙ ap is_eq (alike_right g.met.T.Ord.total x c.in-Some.item other ((Equal-is (g.T.Ord.cmp x c.in-Some.item)).0 is))
+          ∙ sym (g.met.T.Ord.matches_eq other c.in-Some.item))
           there (before.indexed x) (c.in-Ok-false.ensures.after x);
       first = before.first;
       counted = before.counted;
