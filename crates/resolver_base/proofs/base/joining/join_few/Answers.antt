@@ -21,8 +21,7 @@ pub loop-item-preserved : goal.loop-item-preserved
 loop-item-preserved g c =
     let steps = c.in-Some.ensures.steps.0 in
     let before = c.loop-item.invariant in
-    let there : list_any (λ other. g.T.PartialEq.eq other c.in-Some.item) c.loop-item.list.items ≡ true
-    = ap (list_any (λ other. g.T.PartialEq.eq other c.in-Some.item)) (sym c.deref.ensures.value) ∙ sym c.has.ensures ∙ c.if-not-has.false in
+    let there : list_any (λ other. g.T.PartialEq.eq other c.in-Some.item) c.loop-item.list.items ≡ true = search rules in
     record {
       room = omega (arith, ap length steps, before.room);
       makes = joined-there g.T.PartialEq.eq _ _ _ _ c.in-Some.item steps there before.makes;

@@ -22,8 +22,7 @@ pub loop-one-preserved : goal.loop-one-preserved
 loop-one-preserved g c =
     let steps = c.in-Some.ensures.steps.0 in
     let before = c.loop-one.invariant in
-    let there : list_any (λ other. is_eq (g.S.Ord.cmp c.in-Some.one.0 other.0)) c.loop-one.list.items ≡ true
-    = ap (list_any (λ other. is_eq (g.S.Ord.cmp c.in-Some.one.0 other.0))) (sym c.deref.ensures.value) ∙ sym c.is_listed.ensures ∙ c.if-not-is_listed.false in
+    let there : list_any (λ other. is_eq (g.S.Ord.cmp c.in-Some.one.0 other.0)) c.loop-one.list.items ≡ true = search rules in
     record {
       room = omega (arith, ap length steps, before.room);
       makes = joined-there (λ other one. is_eq (g.S.Ord.cmp one.0 other.0)) _ _ _ _ c.in-Some.one steps there before.makes;
