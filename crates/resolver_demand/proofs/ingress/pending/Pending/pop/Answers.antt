@@ -6,7 +6,7 @@ use Rattle.resolver_demand.proofs.Drained.{filed-none}
 use Rattle.resolver_demand.proofs.ingress.pending.Pending.pop.Goals as goal
 
 pub invariant_of-self-2 : goal.invariant_of-self-2
-invariant_of-self-2 g c = filed-none (names g.K.Ord.cmp g.S.Ord.cmp) _ _ c.clear.ensures (ap (λ batch. batch.items) c.replace-batch.ensures.after ∙ c.new.ensures.items)
+invariant_of-self-2 g c = filed-none (names g.K.Ord.cmp g.S.Ord.cmp) _ _ (search rules) (ap (λ batch. batch.items) c.replace-batch.ensures.after ∙ c.new.ensures.items)
 
 pub returns-in-Some : goal.returns-in-Some
 returns-in-Some g c = record {
