@@ -5,3 +5,4 @@ pub mod Priorities
 pub mod Forgotten
 pub mod From
 pub mod KeepsAny
+pub mod Joining

@@ -1,9 +1,11 @@
 -- The pairs of a set that is ordered by priority, and the map that has each item with its priority.
-use Rattle.std.proofs.Common.{◌≡◌, refl, ap, sym, ◌∙◌, true, false, ◌&&◌, List, [], ◌∷◌, length, ◌≤◌, Option, None, Some, is_some, find, Result, Ok, Err, OnOk, OnErr, cond, rules, arith}
+use Rattle.std.proofs.Common.{◌≡◌, refl, ap, sym, ◌∙◌, Bool, true, false, ◌&&◌, List, [], ◌∷◌, length, ◌≤◌, Option, None, Some, is_some, find, Result, Ok, Err, OnOk, OnErr, cond, rules, arith}
 use Rattle.std.proofs.lemmas.Grind.{common_steps}
+use Rattle.std.proofs.lemmas.Bool.{false≢true}
 use Rattle.std.proofs.lemmas.Cmp.{alike_right, eq_by_cmp_equiv, on_total, then_total, tied_itself}
 use Rattle.std.specs.Cmp.{IsTotalOrder, Equal-is}
 use Rattle.std.specs.List.Sorted.{IsStrictlySortedBy}
+use Rattle.std.specs.Option.{option_map_or}
 use Rattle.std.specs.Ordering.{is_eq, ordering_reverse, ordering_then}
 use Rattle.std.specs.declared.cmp.Ordering.{Ordering}
 use Rattle.std.specs.declared.cmp.Ordering.TheVariants.{Less, Equal, Greater}
@@ -214,8 +216,59 @@ module _ {I R : Type 0} {by_item : I → I → Ordering} (o : IsTotalOrder by_it
         ∙ ap (λ es. insert_key (pair_order by_priority by_item) es (r, kept))
         (remove_key-without kept x held held pairs (o.antisymm kept x ∙ ap ordering_reverse tied) (tied_itself u held) (sym (priorities-same x kept pairs tied) ∙ there))
 
--- what two facts of either outcome give
-pub either : {A E P X Y Z W : Type 0} (result : Result A E) → OnOk result X → OnOk result Y → OnErr result Z → OnErr result W
-    → (X → Y → P) → (Z → W → P) → P
-either (Ok a) x y z w f g = f x y
-either (Err e) x y z w f g = g z w
+    -- an item that is there is not sought in vain
+    pub found-none : (x : I) (held copied : R) (pairs : List (R × I)) → priorities_of by_item pairs x ≡ held ∷ [] → copied ≡ held
+        → None ≡ find (is_at (pair_order by_priority by_item (copied, x))) pairs → ⊥
+    found-none x held copied pairs there same none =
+        false≢true (ap is_some (none ∙ ap (λ r. find (is_at (pair_order by_priority by_item (r, x))) pairs) same ∙ found-pair x held pairs there) ∙ found-some x held pairs there)
+
+    -- an item that is there gets a priority: its pair is replaced, or put in once more and taken out
+    pub put-exchanged : (x : I) (found : R × I) (kept : I) (r held copied : R) (pairs after : List (R × I)) (level : Bool)
+        → IsStrictlySortedBy (pair_order by_priority by_item) pairs → priorities_of by_item pairs x ≡ held ∷ [] → copied ≡ held
+        → Some found ≡ find (is_at (pair_order by_priority by_item (copied, x))) pairs → kept ≡ found.1 → level ≡ is_eq (by_priority r held)
+        → after ≡ cond level (replace_key (pair_order by_priority by_item) pairs (r, kept))
+        (remove_key (is_at (pair_order by_priority by_item (copied, x))) (insert_key (pair_order by_priority by_item) pairs (r, kept)))
+        → after ≡ put by_priority by_item pairs (r, x)
+    put-exchanged x found kept r held copied pairs after level sorted there same is own level_is made =
+        let stays : kept ≡ first_of by_item pairs x
+        = own ∙ ap (λ f. option_map_or (λ p. p.1) f x) (is ∙ ap (λ s. find (is_at (pair_order by_priority by_item (s, x))) pairs) same ∙ found-pair x held pairs there) in
+        by_level level level_is (rw (stays, same) at made) where
+          by_level : (level : Bool) → level ≡ is_eq (by_priority r held)
+              → after ≡ cond level (replace_key (pair_order by_priority by_item) pairs (r, first_of by_item pairs x))
+              (remove_key (is_at (pair_order by_priority by_item (held, x))) (insert_key (pair_order by_priority by_item) pairs (r, first_of by_item pairs x)))
+              → after ≡ put by_priority by_item pairs (r, x)
+          by_level true is made = made ∙ put-level x r held pairs sorted there ((Equal-is (by_priority r held)).0 (sym is))
+          by_level false is made = made ∙ put-apart x r held pairs sorted there (sym is)
+
+    -- an item that is there was moved, or all is as it was: the index agrees
+    pub indexed-moved : {A E : Type 0} (result : Result A E) (p : R × I) (held given : R) (pairs after : List (R × I)) (index next : List (I × R))
+        → IsIndexed by_priority by_item pairs index → lookup (is_at (by_item p.1)) index ≡ Some held
+        → ((q : I) → lookup (is_at (by_item q)) next ≡ cond (is_eq (by_item p.1 q)) (Some given) (lookup (is_at (by_item q)) index))
+        → IsStrictlySortedBy (pair_order by_priority by_item) after
+        → OnOk result (after ≡ put by_priority by_item pairs p) → OnOk result (given ≡ p.0) → OnErr result (after ≡ pairs) → OnErr result (given ≡ held)
+        → IsIndexed by_priority by_item after next
+    indexed-moved (Ok a) p held given pairs after index next indexed there updates sorted is moved stays same =
+        record { ordered = sorted; same = rw is (indexed-put p pairs index next indexed (λ q. rw moved at updates q)) }
+    indexed-moved (Err e) p held given pairs after index next indexed there updates sorted is moved stays same =
+        record { ordered = sorted; same = rw stays (indexed-same p.1 held pairs index next indexed there (λ q. rw same at updates q)) }
+
+    -- a pair of an item that isn't there goes to its place
+    pub put-new : (p : R × I) (pairs : List (R × I)) (index : List (I × R)) → IsIndexed by_priority by_item pairs index → lookup (is_at (by_item p.1)) index ≡ None
+        → insert_key (pair_order by_priority by_item) pairs p ≡ put by_priority by_item pairs p
+    put-new p pairs index indexed none =
+        let gone = indexed.same p.1 ∙ ap listed none in
+        ap (λ es. insert_key (pair_order by_priority by_item) es p) (sym (without-none p.1 pairs gone))
+        ∙ ap (λ kept. insert_key (pair_order by_priority by_item) (without by_item kept pairs) (p.0, kept)) (sym (first_of-none p.1 pairs gone))
+
+    -- a new item is put at its place, or taken out of the index again: the index agrees
+    pub indexed-new : {A E : Type 0} (result : Result A E) (p : R × I) (pairs after : List (R × I)) (index between next : List (I × R))
+        → IsIndexed by_priority by_item pairs index → lookup (is_at (by_item p.1)) index ≡ None
+        → ((q : I) → lookup (is_at (by_item q)) between ≡ cond (is_eq (by_item p.1 q)) (Some p.0) (lookup (is_at (by_item q)) index))
+        → IsStrictlySortedBy (pair_order by_priority by_item) after
+        → OnOk result (after ≡ insert_key (pair_order by_priority by_item) pairs p) → OnOk result (next ≡ between) → OnErr result (after ≡ pairs)
+        → OnErr result ((q : I) → lookup (is_at (by_item q)) next ≡ cond (is_eq (by_item p.1 q)) None (lookup (is_at (by_item q)) between))
+        → IsIndexed by_priority by_item after next
+    indexed-new (Ok a) p pairs after index between next indexed none updates sorted is same stays forgets =
+        record { ordered = sorted; same = rw (is ∙ put-new p pairs index indexed none, same) (indexed-put p pairs index between indexed updates) }
+    indexed-new (Err e) p pairs after index between next indexed none updates sorted is same stays forgets =
+        record { ordered = sorted; same = rw stays (indexed-again p.1 p.0 pairs index between next indexed none forgets updates) }

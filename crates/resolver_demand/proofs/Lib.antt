@@ -11,3 +11,4 @@ pub mod Fetched
 pub mod Placed
 pub mod Places
 mod Held
+mod Copied

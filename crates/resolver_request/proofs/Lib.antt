@@ -22,3 +22,4 @@ pub mod Timed
 pub mod NextIds
 pub mod NewIds
 pub mod Names
+pub mod Leaves

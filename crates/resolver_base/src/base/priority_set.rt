@@ -1,19 +1,21 @@
 //! A set that is ordered by priority.
 
-ghost use Rattle.std.specs.Prelude.{◌≡◌, ◌≤◌, ◌<◌, ◌^◌, ◌↔◌, Bool, [], ◌∷◌, Some, filter, length, slice_get, IfNone, IfOk, IfErr, IfSome, IsTrue, OnErr, OnOk};
+ghost use Rattle.std.specs.Prelude.{◌≡◌, ◌≤◌, ◌<◌, ◌^◌, ◌↔◌, Bool, [], ◌∷◌, if◌then◌else◌, None, Some, filter, length, slice_get, IfNone, IfOk, IfErr, IfSome, IsTrue, OnErr, OnOk};
 ghost use Rattle.std.specs.BTreeMap.{is_at};
+ghost use Rattle.std.specs.BTreeSet.{insert_key, replace_key};
 ghost use Rattle.std.specs.Fn.{FnReturnsAt};
 ghost use Rattle.std.specs.List.Sorted.{IsStrictlySortedBy};
 ghost use Rattle.std.specs.Map.{lookup};
 ghost use Rattle.std.specs.Map.Iter.{ShowsInOrder, deref};
 ghost use Rattle.std.specs.Option.{option_copied};
+ghost use Rattle.std.specs.Ordering.{is_eq};
+ghost use Rattle.std.specs.Set.{remove_key};
 ghost use Rattle.resolver_base.specs.Answering.{AnswersBy};
 ghost use Rattle.resolver_base.specs.Priorities.{IsIndexed, after, from, has_item, indexed, listed, pair_order, priorities_of, put, retained, without};
 ghost use Rattle.resolver_base.specs.declared.base.fault.Fault.TheVariants.{OutOfMemory};
 
 use crate::base::Fault;
-use std::alloc::Global;
-use std::cmp::Ordering;
+use std::alloc::{AllocError, Global};
 use std::collections::btree_map::Entry;
 use std::collections::btree_set::{Iter, Range};
 use std::collections::{BTreeMap, BTreeSet};
@@ -150,20 +152,16 @@ impl<I: Ord + Drop, R: Ord + Drop> PrioritySet<I, R> {
         ensures err { OnErr result (self.new ≡ self.old) }
         ensures only { IfErr result (λ fault. fault ≡ OutOfMemory) }
     {
-        let pair = (priority.clone()?, item.clone()?);
+        let pair = pair_of(&item, &priority)?;
         match self.priorities.entry(item)? {
             Entry::Occupied(place) => {
-                return move_item(&mut self.ordered, place.into_mut(), pair.1, priority);
+                move_item(&mut self.ordered, place.into_mut(), pair, priority)
             }
             Entry::Vacant(place) => {
                 place.insert(priority);
+                put_new(&mut self.ordered, &mut self.priorities, pair)
             }
         }
-        if let Err(refused) = self.ordered.insert(pair) {
-            self.priorities.remove(&refused.value.1);
-            return Err(Fault::OutOfMemory);
-        }
-        Ok(())
     }
 
     /// Takes the least item out, with its priority, if there is any item.
@@ -229,36 +227,88 @@ fn keeps<I, F: Fn(&I) -> bool>(keep: &F, item: &I) -> bool
     keep(item)
 }
 
-/// Gives an item that is there, and has the priority `held` so far, another one.
+/// Clones of a priority and of an item.
+#[inline]
+fn pair_of<I: Clone + Drop, R: Clone + Drop>(item: &I, priority: &R) -> Result<(R, I), AllocError>
+    requires items_clone { (x y : I) → I.is_clone x y → y ≡ x }
+    requires priorities_clone { (x y : R) → R.is_clone x y → y ≡ x }
+    ensures { IfOk result (λ pair. pair ≡ (priority.now, item.now)) }
+{
+    Ok((priority.clone()?, item.clone()?))
+}
+
+/// Puts a pair at its place. Where memory is wanting, the index forgets its item.
+#[inline]
+fn put_new<I: Ord + Drop, R: Ord + Drop>(
+    ordered: &mut BTreeSet<(R, I)>,
+    priorities: &mut BTreeMap<I, R>,
+    pair: (R, I),
+) -> Result<(), Fault>
+    ensures ok { OnOk result
+        (ordered.new.keys ≡ insert_key (pair_order R.cmp I.cmp) ordered.old.keys pair) }
+    ensures stays { OnOk result (priorities.new.entries ≡ priorities.old.entries) }
+    ensures err { OnErr result (ordered.new.keys ≡ ordered.old.keys) }
+    ensures forgets { OnErr result ((item : I) → lookup (is_at (I.cmp item)) priorities.new.entries
+        ≡ (if is_eq (I.cmp pair.1 item) then None else lookup (is_at (I.cmp item)) priorities.old.entries)) }
+    ensures sorted { IsStrictlySortedBy (pair_order R.cmp I.cmp) ordered.new.keys }
+    ensures only { IfErr result (λ fault. fault ≡ OutOfMemory) }
+{
+    if let Err(refused) = ordered.insert(pair) {
+        priorities.remove(&refused.value.1);
+        return Err(Fault::OutOfMemory);
+    }
+    Ok(())
+}
+
+/// Gives an item that is there, and has the priority `held` so far, the priority of a pair.
+#[inline]
 fn move_item<I: Ord + Clone + Drop, R: Ord + Clone + Drop>(
     ordered: &mut BTreeSet<(R, I)>,
     held: &mut R,
-    item: I,
+    pair: (R, I),
     priority: R,
 ) -> Result<(), Fault>
     requires items_clone { (x y : I) → I.is_clone x y → y ≡ x }
     requires priorities_clone { (x y : R) → R.is_clone x y → y ≡ x }
     requires sorted { IsStrictlySortedBy (pair_order R.cmp I.cmp) ordered.old.keys }
-    requires there { priorities_of I.cmp ordered.old.keys item ≡ held.old ∷ [] }
-    ensures ok { OnOk result (ordered.new.keys ≡ put R.cmp I.cmp ordered.old.keys (priority, item)) }
+    requires there { priorities_of I.cmp ordered.old.keys pair.1 ≡ held.old ∷ [] }
+    ensures ok { OnOk result (ordered.new.keys ≡ put R.cmp I.cmp ordered.old.keys pair) }
     ensures moved { OnOk result (held.new ≡ priority) }
     ensures err { OnErr result (ordered.new.keys ≡ ordered.old.keys) }
     ensures stays { OnErr result (held.new ≡ held.old) }
     ensures sorted { IsStrictlySortedBy (pair_order R.cmp I.cmp) ordered.new.keys }
     ensures only { IfErr result (λ fault. fault ≡ OutOfMemory) }
 {
-    let before = (held.clone()?, item);
+    let before = (held.clone()?, pair.1);
     let Some(there) = ordered.get(&before) else {
         unreachable!()
     };
-    let pair = (priority.clone()?, there.1.clone()?);
-    if priority.cmp(held) == Ordering::Equal {
-        ordered.replace(pair)?;
-        *held = priority;
+    let after = (pair.0, there.1.clone()?);
+    let level = after.0.cmp(held).is_eq();
+    exchange(ordered, &before, after, level)?;
+    *held = priority;
+    Ok(())
+}
+
+/// Puts `after` into a set, and takes `before` out. Where both are level, one takes the place of the
+/// other. Where memory is wanting, nothing changes.
+#[inline]
+fn exchange<T: Ord + Drop>(
+    set: &mut BTreeSet<T>,
+    before: &T,
+    after: T,
+    level: bool,
+) -> Result<(), AllocError>
+    ensures ok { OnOk result (set.new.keys ≡ (if level then replace_key T.cmp set.old.keys after
+        else remove_key (is_at (T.cmp before.now)) (insert_key T.cmp set.old.keys after))) }
+    ensures err { OnErr result (set.new.keys ≡ set.old.keys) }
+    ensures sorted { IsStrictlySortedBy T.cmp set.new.keys }
+{
+    if level {
+        set.replace(after)?;
     } else {
-        ordered.insert(pair)?;
-        *held = priority;
-        ordered.remove(&before);
+        set.insert(after)?;
+        set.remove(before);
     }
     Ok(())
 }

@@ -3,7 +3,8 @@
 ghost use Rattle.std.specs.Prelude.{◌≡◌, ◌≢◌, true, Ok, Err, is_ok, IfErr, IfOk};
 ghost use Rattle.resolver_base.specs.declared.base.fault.Fault.TheVariants.{OutOfMemory};
 ghost use Rattle.std.specs.Option.{option_copied};
-ghost use Rattle.resolver_fetch.specs.Stepping.{checked_of, drawn_of, id_of, sent_of, step_checked, step_chosen, step_mode, step_of, step_sent};
+ghost use Rattle.resolver_fetch.specs.declared.fetcher.scan.Answer.TheVariants.{Drawn};
+ghost use Rattle.resolver_fetch.specs.Stepping.{id_of, step_checked, step_chosen, step_mode, step_of, step_sent};
 
 use crate::fetcher::trail::{Expected, Reason};
 use crate::fetcher::trying::Trying;
@@ -40,22 +41,41 @@ pub(super) fn step_of<K, P: Ord + Clone + Drop>(
     ensures takes { IfErr result (λ fault. fault ≡ OutOfMemory
         → is_ok (step_of trying.now expected.now answer) ≡ true) }
 {
+    match answer {
+        Answer::Drawn(number) => drawn(trying, expected, number),
+        Answer::Checked(check) => match expected {
+            Expected::Checking(peer) => Ok(after_check(peer.clone()?, check)),
+            _ => Err(Fault::Unasked),
+        },
+        Answer::Sent(accepted) => match expected {
+            Expected::Sending(peer, id) => Ok(after_send(peer.clone()?, *id, accepted)),
+            _ => Err(Fault::Unasked),
+        },
+    }
+}
+
+/// What a number means to a scan that tries a key and expects something.
+fn drawn<K, P: Ord + Clone + Drop>(
+    trying: &Trying<K, P>,
+    expected: &Expected<P>,
+    number: u128,
+) -> Result<Step<P>, Fault>
+    requires peers_clone { (x y : P) → P.is_clone x y → y ≡ x }
+    ensures ok { IfOk result (λ step. step_of trying.now expected.now (Drawn number) ≡ Ok step) }
+    ensures refused { IfErr result
+        (λ fault. fault ≢ OutOfMemory → step_of trying.now expected.now (Drawn number) ≡ Err fault) }
+    ensures takes { IfErr result (λ fault. fault ≡ OutOfMemory
+        → is_ok (step_of trying.now expected.now (Drawn number)) ≡ true) }
+{
     match expected {
-        Expected::Mode => mode(trying.retries, drawn(answer)?),
-        Expected::ByWeight => chosen(trying.by_weight(drawn(answer)?)),
-        Expected::ByPlace => chosen(trying.by_place(drawn(answer)?)),
-        Expected::Checking(peer) => {
-            let check = checked(answer)?;
-            Ok(after_check(peer.clone()?, check))
-        }
+        Expected::Mode => mode(trying.retries, number),
+        Expected::ByWeight => chosen(trying.by_weight(number)),
+        Expected::ByPlace => chosen(trying.by_place(number)),
         Expected::FirstId(peer) => {
-            let id = id_of(drawn(answer)?)?;
+            let id = id_of(number)?;
             Ok(Step::Send(peer.clone()?, id))
         }
-        Expected::Sending(peer, id) => {
-            let accepted = sent(answer)?;
-            Ok(after_send(peer.clone()?, *id, accepted))
-        }
+        _ => Err(Fault::Unasked),
     }
 }
 
@@ -117,37 +137,4 @@ fn id_of(number: u128) -> Result<ID, Fault>
         return Err(Fault::OutOfRange);
     }
     Ok(number as u64)
-}
-
-/// The number that an answer is.
-fn drawn(answer: Answer) -> Result<u128, Fault>
-    ensures { result ≡ drawn_of answer }
-{
-    match answer {
-        Answer::Drawn(number) => Ok(number),
-        Answer::Checked(_) => Err(Fault::Unasked),
-        Answer::Sent(_) => Err(Fault::Unasked),
-    }
-}
-
-/// The word on a peer that an answer is.
-fn checked(answer: Answer) -> Result<Check, Fault>
-    ensures { result ≡ checked_of answer }
-{
-    match answer {
-        Answer::Drawn(_) => Err(Fault::Unasked),
-        Answer::Checked(check) => Ok(check),
-        Answer::Sent(_) => Err(Fault::Unasked),
-    }
-}
-
-/// The word on a request that an answer is.
-fn sent(answer: Answer) -> Result<bool, Fault>
-    ensures { result ≡ sent_of answer }
-{
-    match answer {
-        Answer::Drawn(_) => Err(Fault::Unasked),
-        Answer::Checked(_) => Err(Fault::Unasked),
-        Answer::Sent(accepted) => Ok(accepted),
-    }
 }

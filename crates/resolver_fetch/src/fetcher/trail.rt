@@ -191,7 +191,7 @@ fn note<K: Ord + Drop, P: Drop>(
     }
     let mut first = Vec::new(alloc);
     first.push(peer)?;
-    peers.insert(key, first)?;
+    drop(peers.insert(key, first)?);
     Ok(())
 }
 

@@ -1,14 +1,6 @@
-use Rattle.std.proofs.Common.{◌≡◌, ◌∙◌, sym, ap, List, [], ◌∷◌, ◌++◌, append_assoc}
+use Rattle.std.proofs.Common.{ap}
+use Rattle.resolver_demand.proofs.Copied.{one-more}
 use Rattle.resolver_demand.proofs.subscribers.many.copied.Goals as goal
-
--- one more is there again
-one-more : {A : Type 0} (before after left rest all : List A) (one copy : A) → after ≡ before ++ copy ∷ [] → copy ≡ one → left ≡ one ∷ rest → before ++ left ≡ all → after ++ rest ≡ all
-one-more before after left rest all one copy put same steps so-far =
-    ap (λ items. items ++ rest) put
-    ∙ append_assoc before (copy ∷ []) rest
-    ∙ ap (λ item. before ++ item ∷ rest) same
-    ∙ ap (λ items. before ++ items) (sym steps)
-    ∙ so-far
 
 pub loop-one-preserved : goal.loop-one-preserved
 loop-one-preserved g c =

@@ -1,10 +1,24 @@
-use Rattle.std.proofs.Common.{map, replicate, take}
-use Rattle.std.proofs.lemmas.List.{drop_at, length-replicate}
+use Rattle.std.proofs.Common.{◌∙◌, ap, map, replicate, take, arith}
+use Rattle.std.proofs.lemmas.List.{take_all}
 use Rattle.resolver_request.specs.SumTrees.{mark}
+use Rattle.resolver_request.proofs.Leaves.{leaves-all, mark-more}
 use Rattle.resolver_request.proofs.Positive.{marks-small}
 use Rattle.resolver_request.proofs.sampling.tree.Tree.of_marks.Goals as goal
 
+pub loop-weight-preserved : goal.loop-weight-preserved
+loop-weight-preserved c = record {
+  so_far = mark-more mark (replicate c.in_ok-shape.shape.leaves 0) c.loop-weight.nodes.items c.push_reserved.new.self.items c.args.weights.now c.loop-weight.weight-index c.from.result
+      c.loop-weight-test.true (c.from.ensures ∙ c.mark.ensures) c.push_reserved.ensures.items c.loop-weight.invariant.so_far;
+  room = omega (arith, c.loop-weight.invariant.room, c.push_reserved.ensures.len, c.push_reserved.ensures.capacity);
+}
+
 pub summed-requires-clause-weights : goal.summed-requires-clause-weights
 summed-requires-clause-weights c =
-    rw (c.loop-weight.invariant.so_far, drop_at (replicate c.in_ok-shape.shape.leaves 0) (map mark (take c.loop-weight.weight-index c.args.weights.now)) c.in_ok-shape.shape.leaves (length-replicate c.in_ok-shape.shape.leaves 0))
+    rw (leaves-all c.in_ok-shape.shape.leaves c.loop-weight.nodes.items (map mark (take c.loop-weight.weight-index c.args.weights.now)) c.loop-weight.invariant.so_far)
     (marks-small (take c.loop-weight.weight-index c.args.weights.now))
+
+pub returns-clause-ok : goal.returns-clause-ok
+returns-clause-ok c =
+    c.summed.ensures
+    ∙ leaves-all c.in_ok-shape.shape.leaves c.loop-weight.nodes.items (map mark (take c.loop-weight.weight-index c.args.weights.now)) c.loop-weight.invariant.so_far
+    ∙ ap (map mark) (take_all c.loop-weight.weight-index c.args.weights.now c.loop-weight-test.false)
