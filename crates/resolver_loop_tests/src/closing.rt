@@ -6,13 +6,16 @@ use resolver_fakes::seen::Wrong;
 use resolver_fakes::world::Setting;
 use std::test::Fail;
 
-/// There is peer 3, and it is asked for key 1.
-const ASKED: [Act<'static>; 2] = [Act::Peers(1, &[3]), Act::Fetch(&[(1, 10)])];
+/// There is peer 3.
+const PEERS: Act = Act::Peers(1, &[3]);
+
+/// Subscriber 10 wants key 1.
+const FETCH: Act = Act::Fetch(&[(1, 10)]);
 
 #[test]
 fn the_peer_set_source_closes(rt: HostRuntime) -> Result<(), Fail> {
-    let acts = [ASKED[0], ASKED[1], Act::ClosePeers];
-    let text = play(rt, Setting::with(Wrong::Nothing), &acts)?;
+    const ACTS: &[Act] = &[PEERS, FETCH, Act::ClosePeers];
+    let text = play(rt, Setting::with(Wrong::Nothing), ACTS)?;
     assert_eq!(rt;
         text.as_str(),
         "-
@@ -32,14 +35,14 @@ Closed
 /// The last blocked set stays, and the loop goes on.
 #[test]
 fn the_blocked_source_closes(rt: HostRuntime) -> Result<(), Fail> {
-    let acts = [
+    const ACTS: &[Act] = &[
         Act::Peers(1, &[3, 4]),
         Act::Block(&[3]),
         Act::CloseBlocked,
         Act::Fetch(&[(1, 10)]),
         Act::Net(4, b"\0\0\0\0\0\0\0\0\x01\x02hi"),
     ];
-    let text = play(rt, Setting::with(Wrong::Nothing), &acts)?;
+    let text = play(rt, Setting::with(Wrong::Nothing), ACTS)?;
     assert_eq!(rt;
         text.as_str(),
         "-
@@ -61,8 +64,8 @@ Ok
 
 #[test]
 fn the_receiver_closes(rt: HostRuntime) -> Result<(), Fail> {
-    let acts = [ASKED[0], ASKED[1], Act::CloseNetwork];
-    let text = play(rt, Setting::with(Wrong::Nothing), &acts)?;
+    const ACTS: &[Act] = &[PEERS, FETCH, Act::CloseNetwork];
+    let text = play(rt, Setting::with(Wrong::Nothing), ACTS)?;
     assert_eq!(rt;
         text.as_str(),
         "-
@@ -82,8 +85,8 @@ Closed
 /// What was put before the close is still taken, and asked for.
 #[test]
 fn the_mailbox_is_closed_and_nothing_waits(rt: HostRuntime) -> Result<(), Fail> {
-    let acts = [Act::Peers(1, &[3]), Act::LastFetch(&[(1, 10)])];
-    let text = play(rt, Setting::with(Wrong::Nothing), &acts)?;
+    const ACTS: &[Act] = &[Act::Peers(1, &[3]), Act::LastFetch(&[(1, 10)])];
+    let text = play(rt, Setting::with(Wrong::Nothing), ACTS)?;
     assert_eq!(rt;
         text.as_str(),
         "-
@@ -105,7 +108,7 @@ fn the_consumer_answers_1(rt: HostRuntime) -> Result<(), Fail> {
     let text = play(
         rt,
         Setting::with(Wrong::Consumer),
-        &[ASKED[0], ASKED[1], response],
+        &[PEERS, FETCH, response],
     )?;
     assert_eq!(rt;
         text.as_str(),
@@ -125,8 +128,8 @@ Closed
 
 #[test]
 fn the_producer_answers_1(rt: HostRuntime) -> Result<(), Fail> {
-    let request = Act::Net(3, b"\0\0\0\0\0\0\0\x07\0\x05");
-    let text = play(rt, Setting::with(Wrong::Producer), &[ASKED[0], request])?;
+    const REQUEST: Act = Act::Net(3, b"\0\0\0\0\0\0\0\x07\0\x05");
+    let text = play(rt, Setting::with(Wrong::Producer), &[PEERS, REQUEST])?;
     assert_eq!(rt;
         text.as_str(),
         "-
@@ -140,20 +143,20 @@ Closed
 /// It isn't sent again; the next request under the same id has a reply of its own, and the loop goes on.
 #[test]
 fn the_send_of_a_reply_is_refused(rt: HostRuntime) -> Result<(), Fail> {
-    let request = Act::Net(3, b"\0\0\0\0\0\0\0\x07\0\x05");
-    let acts = [
-        ASKED[0],
-        request,
+    const REQUEST: Act = Act::Net(3, b"\0\0\0\0\0\0\0\x07\0\x05");
+    const ACTS: &[Act] = &[
+        PEERS,
+        REQUEST,
         Act::Serve(b"ok"),
         Act::At(1000),
-        request,
+        REQUEST,
         Act::Serve(b"no"),
-        ASKED[1],
+        FETCH,
         Act::Net(3, b"\0\0\0\0\0\0\0\0\x01\x02hi"),
         Act::Judge(Outcome::Resolved(Resolution::Complete)),
     ];
     let refused = Wrong::Sends { first: 1, count: 1 };
-    let text = play(rt, Setting::with(refused), &acts)?;
+    let text = play(rt, Setting::with(refused), ACTS)?;
     assert_eq!(rt;
         text.as_str(),
         "-

@@ -80,7 +80,7 @@ fn every_input_every_effect(rt: HostRuntime) -> Result<(), Fail> {
 /// A subscriber joins while a response is being judged.
 #[test]
 fn a_late_subscriber_gets_the_same_response(rt: HostRuntime) -> Result<(), Fail> {
-    let acts = [
+    const ACTS: &[Act] = &[
         Act::Peers(1, &[3, 4, 9]),
         Act::Fetch(&[(1, 10)]),
         Act::Net(3, b"\0\0\0\0\0\0\0\0\x01\x02hi"),
@@ -88,7 +88,7 @@ fn a_late_subscriber_gets_the_same_response(rt: HostRuntime) -> Result<(), Fail>
         COMPLETE,
         COMPLETE,
     ];
-    let text = play(rt, Setting::with(Wrong::Nothing), &acts)?;
+    let text = play(rt, Setting::with(Wrong::Nothing), ACTS)?;
     assert_eq!(rt;
         text.as_str(),
         "-

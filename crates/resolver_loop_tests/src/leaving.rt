@@ -9,14 +9,14 @@ use std::test::Fail;
 /// subscriber has it asked for anew.
 #[test]
 fn a_consumer_drops_every_one_shot(rt: HostRuntime) -> Result<(), Fail> {
-    let acts = [
+    const ACTS: &[Act] = &[
         Act::Peers(1, &[3]),
         Act::Fetch(&[(1, 10), (1, 11)]),
         Act::Net(3, b"\0\0\0\0\0\0\0\0\x01\x02hi"),
         Act::Fetch(&[(1, 12)]),
         Act::Net(3, b"\0\0\0\0\0\0\0\x01\x01\x02ok"),
     ];
-    let text = play(rt, Setting::with(Wrong::Drops), &acts)?;
+    let text = play(rt, Setting::with(Wrong::Drops), ACTS)?;
     assert_eq!(rt;
         text.as_str(),
         "-
@@ -45,7 +45,7 @@ Ok
 /// that is dropped too nobody is left.
 #[test]
 fn a_late_subscriber_outlives_a_dropped_delivery(rt: HostRuntime) -> Result<(), Fail> {
-    let acts = [
+    const ACTS: &[Act] = &[
         Act::Peers(1, &[3]),
         Act::Fetch(&[(1, 10)]),
         Act::Net(3, b"\0\0\0\0\0\0\0\0\x01\x02hi"),
@@ -54,7 +54,7 @@ fn a_late_subscriber_outlives_a_dropped_delivery(rt: HostRuntime) -> Result<(), 
         Act::Drop,
         Act::Fetch(&[(1, 10)]),
     ];
-    let text = play(rt, Setting::with(Wrong::Nothing), &acts)?;
+    let text = play(rt, Setting::with(Wrong::Nothing), ACTS)?;
     assert_eq!(rt;
         text.as_str(),
         "-
@@ -84,13 +84,13 @@ Ok
 /// The reply is sent all the same.
 #[test]
 fn a_producer_answers_after_its_peer_left_the_set(rt: HostRuntime) -> Result<(), Fail> {
-    let acts = [
+    const ACTS: &[Act] = &[
         Act::Peers(1, &[3, 4]),
         Act::Net(3, b"\0\0\0\0\0\0\0\x07\0\x05"),
         Act::Peers(2, &[4]),
         Act::Serve(b"ok"),
     ];
-    let text = play(rt, Setting::with(Wrong::Nothing), &acts)?;
+    let text = play(rt, Setting::with(Wrong::Nothing), ACTS)?;
     assert_eq!(rt;
         text.as_str(),
         "-
