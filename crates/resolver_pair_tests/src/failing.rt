@@ -24,7 +24,7 @@ struct Plan {
 }
 
 /// One and several that go wrong, with peers of their own and common ones, and with several draws.
-const PLANS: [(u64, Option<u64>, bool); 8] = [
+const PLANS: &[(u64, Option<u64>, bool)] = &[
     (1, None, false),
     (1, None, true),
     (1, Some(1), false),
@@ -161,7 +161,7 @@ fn every_plan<R>(rt: R, until: Option<u64>) -> Result<(), Fail>
 where
     R: Wait + RandomSource + AllocGlobal + Copy + Drop + Send + 'static,
 {
-    for (count, seed, is_targeted) in PLANS {
+    for &(count, seed, is_targeted) in PLANS {
         let plan = Plan {
             count,
             seed,

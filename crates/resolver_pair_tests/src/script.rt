@@ -90,7 +90,7 @@ pub fn write_answer(lines: &mut String, answer: Answer) -> Result<(), AllocError
 }
 
 /// A key is fetched and served, and another runs out of time and is refused.
-const ACTS: [Act<'static>; 10] = [
+const ACTS: &[Act] = &[
     Act::Peers(1, &[2, 9]),
     Act::Fetch(&[(5, 10)]),
     Act::At(20),
@@ -160,7 +160,7 @@ where
 
 #[test]
 fn a_script_has_what_its_core_took(rt: HostRuntime) -> Result<(), Fail> {
-    let script = write_script(rt, &ACTS)?;
+    let script = write_script(rt, ACTS)?;
     assert_eq!(rt; script.as_str(), LINES);
     Ok(())
 }

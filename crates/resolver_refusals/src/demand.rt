@@ -31,7 +31,7 @@ pub enum Call {
 }
 
 /// The worked row of the tracker.
-pub const TRACKER: [Call; 9] = [
+pub const TRACKER: &[Call] = &[
     Call::Insert(1, &[(10, 7), (11, 7)]),
     Call::Insert(1, &[(11, 8), (12, 8)]),
     Call::Pending(1),

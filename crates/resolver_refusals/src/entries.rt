@@ -17,7 +17,7 @@ pub enum Call {
 }
 
 /// The worked row of the entries, and deliveries.
-pub const ENTRIES: [Call; 10] = [
+pub const ENTRIES: &[Call] = &[
     Call::Insert(1),
     Call::Insert(1),
     Call::Remove(1),

@@ -48,10 +48,10 @@ pub enum Call {
 }
 
 /// The worked row of the wake-up.
-pub const WAKE_UP: [Call; 3] = [Call::Ready(1, 5), Call::Fetch(5), Call::Reconcile(&[4])];
+pub const WAKE_UP: &[Call] = &[Call::Ready(1, 5), Call::Fetch(5), Call::Reconcile(&[4])];
 
 /// The worked row of a first request, with a peer that is blocked and a key that waits on.
-pub const FIRST_REQUEST: [Call; 6] = [
+pub const FIRST_REQUEST: &[Call] = &[
     Call::Reconcile(&[3, 4]),
     Call::Block(&[3]),
     Call::Ready(1, 30),

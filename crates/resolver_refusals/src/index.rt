@@ -13,7 +13,7 @@ pub enum Call {
 }
 
 /// The worked row of an index.
-pub const CHOICES: [Call; 2] = [Call::New(&[3, 0, 2]), Call::Select];
+pub const CHOICES: &[Call] = &[Call::New(&[3, 0, 2]), Call::Select];
 
 /// An index, once it is made.
 #[derive(Drop)]

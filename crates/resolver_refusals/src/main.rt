@@ -51,28 +51,25 @@ where
     R: AllocGlobal + Wait + RandomSource + Copy + Drop,
 {
     [
-        ("tracker", taken::<Demand>(alloc, way, &demand::TRACKER)),
-        (
-            "entries",
-            taken::<Deliveries>(alloc, way, &entries::ENTRIES),
-        ),
+        ("tracker", taken::<Demand>(alloc, way, demand::TRACKER)),
+        ("entries", taken::<Deliveries>(alloc, way, entries::ENTRIES)),
         (
             "overflow_rejected_drain",
-            taken::<Overflow>(alloc, way, &overflow::REJECTED_DRAIN),
+            taken::<Overflow>(alloc, way, overflow::REJECTED_DRAIN),
         ),
         ("overflow_retain", overflow::retain(alloc, way)),
         (
             "overflow_targets",
-            taken::<Overflow>(alloc, way, &overflow::TARGETS),
+            taken::<Overflow>(alloc, way, overflow::TARGETS),
         ),
-        ("index_choices", taken::<Index>(alloc, way, &index::CHOICES)),
+        ("index_choices", taken::<Index>(alloc, way, index::CHOICES)),
         (
             "fetcher_wake_up",
-            taken::<Asker>(alloc, way, &fetcher::WAKE_UP),
+            taken::<Asker>(alloc, way, fetcher::WAKE_UP),
         ),
         (
             "fetcher_first_request",
-            taken::<Asker>(alloc, way, &fetcher::FIRST_REQUEST),
+            taken::<Asker>(alloc, way, fetcher::FIRST_REQUEST),
         ),
         (
             "mailbox_book",

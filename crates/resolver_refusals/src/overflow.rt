@@ -39,7 +39,7 @@ pub enum Call {
 }
 
 /// The worked row of a drain that is rejected.
-pub const REJECTED_DRAIN: [Call; 7] = [
+pub const REJECTED_DRAIN: &[Call] = &[
     Call::Fetch(2, 10, &[]),
     Call::Fetch(1, 20, &[]),
     Call::Retain(0),
@@ -69,7 +69,7 @@ fn retain_calls(alloc: Global) -> Result<Vec<Call>, Fault> {
 }
 
 /// The worked row of targets that are joined, and of none.
-pub const TARGETS: [Call; 5] = [
+pub const TARGETS: &[Call] = &[
     Call::Fetch(1, 10, &[2, 3]),
     Call::Fetch(1, 10, &[3, 4]),
     Call::Fetch(2, 10, &[2]),

@@ -58,7 +58,7 @@ struct Mail<N: Naming, R> {
 type Shown = (&'static str, &'static str, &'static str, usize);
 
 /// The book of the row, a call each.
-const BOOK: [&str; 6] = [
+const BOOK: &[&str] = &[
     " put 0 0 true 1/10:7",
     " put 0 1 false 2/20:8",
     " put 1 0 false 2/21:9",
@@ -76,7 +76,7 @@ const ONE: &str = " 1/10:7";
 const BOTH: &str = " 1/10:7 2/20:8/21:9";
 
 /// The calls of the row, and what is shown before each.
-const CALLS: [(Call, Shown); 9] = [
+const CALLS: &[(Call, Shown)] = &[
     (Call::First(1, 10, 7), ("none", "none", "", 0)),
     (Call::First(2, 20, 8), ("0 false 1/10:7", "none", "", 1)),
     (Call::Second(2, 21, 9), (FIRST, "none", "", 2)),
@@ -138,7 +138,7 @@ fn walked<N: Naming, R: Wait + Drop>(
     task: &MockTask,
 ) -> Ending {
     let mut is_refused = false;
-    for (call, before) in CALLS {
+    for &(call, before) in CALLS {
         match take(alloc, mail, task, call) {
             Ok(()) => {}
             Err(Fault::OutOfMemory) => {

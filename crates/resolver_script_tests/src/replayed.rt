@@ -23,7 +23,7 @@ fn replayed(alloc: Global, script: &[u8]) -> io::Result<(Vec<u8>, Result<Ending,
 }
 
 /// Worked rows, and what they leave out: a name, a script, and what it prints.
-const SCRIPTS: [(&str, &[u8], &[u8]); 21] = [
+const SCRIPTS: &[(&str, &[u8], &[u8])] = &[
     (
         "opaque_first_run",
         b"opaque 100\nfetch 1 10 7\nfetched 0 x6869\nverdict 0 complete\nshow\n",
@@ -129,7 +129,7 @@ const SCRIPTS: [(&str, &[u8], &[u8]); 21] = [
 
 #[test]
 fn scripts(rt: HostRuntime) -> Result<(), Fail> {
-    for (name, script, printed) in SCRIPTS {
+    for &(name, script, printed) in SCRIPTS {
         let (output, ended) = replayed(rt.alloc(), script)?;
         assert_eq!(rt; output.as_slice(), printed, "{name}");
         assert_eq!(rt; ended, Ok(Ending::End), "{name}");
@@ -138,7 +138,7 @@ fn scripts(rt: HostRuntime) -> Result<(), Fail> {
 }
 
 /// Scripts with a line that can't be read, and what they print.
-const UNREADABLE: [(&[u8], &[u8]); 42] = [
+const UNREADABLE: &[(&[u8], &[u8])] = &[
     (b"show\n", b"line 1 unreadable\n"),
     (b"\n# \nfetch 1 10 7\n", b"line 3 unreadable\n"),
     (b"opaque 1\nopaque 1\nshow\n", b"line 2 unreadable\n"),
@@ -206,7 +206,7 @@ fn is_unreadable(ended: Result<Ending, Fault>) -> bool {
 // The first line that can't be read ends the script, and is named.
 #[test]
 fn unreadable_lines(rt: HostRuntime) -> Result<(), Fail> {
-    for (script, printed) in UNREADABLE {
+    for &(script, printed) in UNREADABLE {
         let (output, ended) = replayed(rt.alloc(), script)?;
         assert_eq!(rt; output.as_slice(), printed);
         assert!(rt; is_unreadable(ended));

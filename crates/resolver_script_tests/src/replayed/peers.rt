@@ -4,7 +4,7 @@ use super::worked::{ASKED, DELIVERED, NOTHING, print_as_worked};
 use super::*;
 
 /// Worked rows: a name, what stands before, and the script.
-const ROWS: [(&str, &str, &str); 10] = [
+const ROWS: &[(&str, &str, &str)] = &[
     (
         "peer_refusals",
         NOTHING,
@@ -150,11 +150,11 @@ show => key 1 subs 10:7 targets all retries 1 phase waiting retry 30 / wake 30
 
 #[test]
 fn rows(rt: HostRuntime) -> Result<(), Fail> {
-    print_as_worked(&rt, rt.alloc(), &ROWS)
+    print_as_worked(&rt, rt.alloc(), ROWS)
 }
 
 /// Peers that answer late, for others, or broken, and verdicts that come again.
-const HOSTILE: [(&str, &str, &str); 2] = [
+const HOSTILE: &[(&str, &str, &str)] = &[
     (
         "late_and_stale_responses",
         ASKED,
@@ -193,7 +193,7 @@ show => wake none
 
 #[test]
 fn hostile_peers(rt: HostRuntime) -> Result<(), Fail> {
-    print_as_worked(&rt, rt.alloc(), &HOSTILE)
+    print_as_worked(&rt, rt.alloc(), HOSTILE)
 }
 
 // A peer that asks ten thousand times has ten thousand open serves, and the last of them is

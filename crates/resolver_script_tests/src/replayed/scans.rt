@@ -14,7 +14,7 @@ checked 100
 ";
 
 /// A name, what stands before, and the script.
-const SCANS: [(&str, &str, &str); 27] = [
+const SCANS: &[(&str, &str, &str)] = &[
     (
         "inputs that are passed over begin a scan once the wake-up has come",
         LIMITED,
@@ -384,11 +384,11 @@ show => wake none
 
 #[test]
 fn scans(rt: HostRuntime) -> Result<(), Fail> {
-    print_as_worked(&rt, rt.alloc(), &SCANS)
+    print_as_worked(&rt, rt.alloc(), SCANS)
 }
 
 /// The greatest numbers that lines may have.
-const GREATEST: [(&str, &str, &str); 2] = [
+const GREATEST: &[(&str, &str, &str)] = &[
     (
         "a limit that never ends, and numbers of what isn't open",
         NOTHING,
@@ -430,5 +430,5 @@ show => key 1 subs 10:7 targets all retries 1 phase waiting retry 39614081257132
 
 #[test]
 fn greatest_numbers(rt: HostRuntime) -> Result<(), Fail> {
-    print_as_worked(&rt, rt.alloc(), &GREATEST)
+    print_as_worked(&rt, rt.alloc(), GREATEST)
 }

@@ -4,7 +4,7 @@ use super::*;
 use std::process::Abort;
 
 /// Lines that open no machine.
-const OPENINGS: [&[u8]; 22] = [
+const OPENINGS: &[&[u8]] = &[
     b"p2p",
     b"p2p 9",
     b"p2p 9 50",
@@ -30,7 +30,7 @@ const OPENINGS: [&[u8]; 22] = [
 ];
 
 /// Lines that an engine can't be told.
-const OF_NO_ENGINE: [&[u8]; 75] = [
+const OF_NO_ENGINE: &[&[u8]] = &[
     b"p2p 9 50 10",
     b"opaque 1",
     b"fetched 0 none",
@@ -109,7 +109,7 @@ const OF_NO_ENGINE: [&[u8]; 75] = [
 ];
 
 /// Lines that an actor can't be told.
-const OF_NO_ACTOR: [&[u8]; 14] = [
+const OF_NO_ACTOR: &[&[u8]] = &[
     b"timeout",
     b"peers 1 4",
     b"blocked -",
@@ -128,7 +128,7 @@ const OF_NO_ACTOR: [&[u8]; 14] = [
 
 #[test]
 fn openings(rt: HostRuntime) -> Result<(), Fail> {
-    for line in OPENINGS {
+    for &line in OPENINGS {
         assert_unreadable(&rt, rt.alloc(), b"", line, b"line 1 unreadable\n")?;
     }
     Ok(())
@@ -136,7 +136,7 @@ fn openings(rt: HostRuntime) -> Result<(), Fail> {
 
 #[test]
 fn of_no_engine(rt: HostRuntime) -> Result<(), Fail> {
-    for line in OF_NO_ENGINE {
+    for &line in OF_NO_ENGINE {
         assert_unreadable(
             &rt,
             rt.alloc(),
@@ -150,7 +150,7 @@ fn of_no_engine(rt: HostRuntime) -> Result<(), Fail> {
 
 #[test]
 fn of_no_actor(rt: HostRuntime) -> Result<(), Fail> {
-    for line in OF_NO_ACTOR {
+    for &line in OF_NO_ACTOR {
         assert_unreadable(&rt, rt.alloc(), b"opaque 1\n", line, b"line 2 unreadable\n")?;
     }
     Ok(())

@@ -3,7 +3,7 @@
 use super::*;
 
 /// Scripts with a line that can't be read, and what is said of it.
-const SAID: [(&[u8], &str); 26] = [
+const SAID: &[(&[u8], &str)] = &[
     (
         b"opaque 1\n\nfetch 256 10 7\n",
         "line 3: field 2: a number above 255",
@@ -61,7 +61,7 @@ const SAID: [(&[u8], &str); 26] = [
 
 #[test]
 fn unreadable_lines_say_why(rt: HostRuntime) -> Result<(), Fail> {
-    for (script, said) in SAID {
+    for &(script, said) in SAID {
         let (_, ended) = replayed(rt.alloc(), script)?;
         let Ok(Ending::Unreadable(place)) = ended else {
             return Err("an unreadable line".into());
