@@ -599,7 +599,12 @@ macro_rules! asked {
 #[test]
 fn fetches_of_each_length(rt: HostRuntime) -> Result<(), Fail> {
     const NONE: &[Seen] = &[Seen::Taken, Seen::Due(None)];
-    const ONE: &[Seen] = &[Seen::Taken, Seen::Start(0, 1), asked!(1, 0), Seen::Due(None)];
+    const ONE: &[Seen] = &[
+        Seen::Taken,
+        Seen::Start(0, 1),
+        asked!(1, 0),
+        Seen::Due(None),
+    ];
     const THREE: &[Seen] = &[
         Seen::Taken,
         Seen::Start(0, 3),
