@@ -1,3 +1,4 @@
+use crate::asserts::equal;
 use crate::names::Letter;
 use futures::Stream;
 use futures::channel::mpsc::UnboundedReceiver;
@@ -47,6 +48,25 @@ fn next(
     task.enter(|cx| taken.poll_next(cx))
 }
 
+/// A key, a value, and what a consumer says of them.
+type Judged = (u8, u16, Option<Outcome>);
+
+/// Ends the test where a consumer says something else of a value under a key.
+fn says<C: Consumer<Key = Letter, Value = u16, Subscriber = u8>>(
+    rt: &impl Abort,
+    task: &MockTask,
+    consumer: &mut C,
+    alloc: Global,
+    &(key, value, wanted): &Judged,
+) -> Result<(), Fault>
+where
+    C::Outcome: Drop,
+{
+    let outcome = outcome_of(alloc, task, consumer, key, value)?;
+    equal(rt, &outcome, &wanted);
+    Ok(())
+}
+
 /// The last value that is expected of a key is right alone, and any value where none is.
 fn judges(
     rt: &impl Abort,
@@ -54,15 +74,25 @@ fn judges(
     task: &MockTask,
     consumer: &mut mocks::Consumer<Letter, u16, u8>,
 ) -> Result<(), Fault> {
+    const EXPECTED: &[Judged] = &[(1, 7, RIGHT), (1, 6, WRONG), (2, 9, RIGHT)];
     consumer.add_expected(Letter(1), 6)?;
     consumer.add_expected(Letter(1), 7)?;
-    assert_eq!(rt; outcome_of(alloc, task, consumer, 1, 7)?, RIGHT);
-    assert_eq!(rt; outcome_of(alloc, task, consumer, 1, 6)?, WRONG);
-    assert_eq!(rt; outcome_of(alloc, task, consumer, 2, 9)?, RIGHT);
-    assert_eq!(rt; consumer.pop_expected(&Letter(1)), Some(7));
-    assert_eq!(rt; consumer.pop_expected(&Letter(1)), None);
-    assert_eq!(rt; outcome_of(alloc, task, consumer, 1, 6)?, RIGHT);
-    Ok(())
+    for judged in EXPECTED {
+        says(rt, task, consumer, alloc, judged)?;
+    }
+    equal(rt, &consumer.pop_expected(&Letter(1)), &Some(7));
+    equal(rt, &consumer.pop_expected(&Letter(1)), &None);
+    says(rt, task, consumer, alloc, &(1, 6, RIGHT))
+}
+
+/// The test is told of these pairs, and then of no more.
+fn told(rt: &impl Abort, task: &MockTask, taken: &mut UnboundedReceiver<(Letter, u16)>) {
+    const TOLD: &[(u8, u16)] = &[(1, 7), (2, 9), (1, 6)];
+    for &(key, value) in TOLD {
+        let wanted = Poll::Ready(Some((Letter(key), value)));
+        equal(rt, &next(task, taken), &wanted);
+    }
+    equal(rt, &next(task, taken), &Poll::Ready(None));
 }
 
 #[test]
@@ -72,15 +102,25 @@ fn what_is_expected_or_not_is_right(rt: HostRuntime) -> Result<(), Fail> {
     let (mut consumer, mut taken) = mocks::Consumer::new(alloc)?;
     let judged = judges(&rt, alloc, &task, &mut consumer);
     drop(consumer);
-    for (key, value) in [(1, 7), (2, 9), (1, 6)] {
-        assert_eq!(rt;
-            next(&task, &mut taken),
-            Poll::Ready(Some((Letter(key), value)))
-        );
-    }
-    assert_eq!(rt; next(&task, &mut taken), Poll::Ready(None));
+    told(&rt, &task, &mut taken);
     drop(taken);
     Ok(judged?)
+}
+
+/// What a dummy expects is right, and nothing else.
+fn judges_two(
+    rt: &impl Abort,
+    alloc: Global,
+    task: &MockTask,
+    consumer: &mut mocks::Consumer<Letter, u16, u8>,
+) -> Result<(), Fault> {
+    const TWO: &[Judged] = &[(1, 7, RIGHT), (1, 8, WRONG), (2, 8, RIGHT)];
+    consumer.add_expected(Letter(1), 7)?;
+    consumer.add_expected(Letter(2), 8)?;
+    for judged in TWO {
+        says(rt, task, consumer, alloc, judged)?;
+    }
+    Ok(())
 }
 
 #[test]
@@ -88,10 +128,7 @@ fn a_dummy_judges_too(rt: HostRuntime) -> Result<(), Fail> {
     let alloc = rt.alloc();
     let task = MockTask::new(&rt)?;
     let mut consumer = mocks::Consumer::dummy(alloc)?;
-    consumer.add_expected(Letter(1), 7)?;
-    consumer.add_expected(Letter(2), 8)?;
-    assert_eq!(rt; outcome_of(alloc, &task, &mut consumer, 1, 7)?, RIGHT);
-    assert_eq!(rt; outcome_of(alloc, &task, &mut consumer, 1, 8)?, WRONG);
-    assert_eq!(rt; outcome_of(alloc, &task, &mut consumer, 2, 8)?, RIGHT);
-    Ok(())
+    let judged = judges_two(&rt, alloc, &task, &mut consumer);
+    drop(consumer);
+    Ok(judged?)
 }

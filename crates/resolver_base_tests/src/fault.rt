@@ -5,7 +5,7 @@ use std::test::Fail;
 
 #[test]
 fn has_a_number_and_a_name(rt: HostRuntime) {
-    for (fault, number, name) in [
+    const NAMED: &[(Fault, u8, &str)] = &[
         (Fault::OutOfMemory, 1, "OutOfMemory"),
         (Fault::Failed, 2, "Failed"),
         (Fault::Ended, 3, "Ended"),
@@ -19,9 +19,10 @@ fn has_a_number_and_a_name(rt: HostRuntime) {
         (Fault::ExtraData, 11, "ExtraData"),
         (Fault::Key, 12, "Key"),
         (Fault::Uneven, 13, "Uneven"),
-    ] {
-        equal(&rt, &fault.number(), &number);
-        equal(&rt, &fault.name(), &name);
+    ];
+    for (fault, number, name) in NAMED {
+        equal(&rt, &fault.number(), number);
+        equal(&rt, &fault.name(), name);
     }
 }
 
@@ -37,7 +38,7 @@ fn says_that_memory_is_wanting(rt: HostRuntime) {
 
 #[test]
 fn says_why(rt: HostRuntime) -> Result<(), Fail> {
-    for (fault, text) in [
+    const SAID: &[(Fault, &str)] = &[
         (Fault::OutOfMemory, "out of memory"),
         (Fault::Failed, "the machine failed in an earlier step"),
         (Fault::Ended, "the machine has ended"),
@@ -51,7 +52,8 @@ fn says_why(rt: HostRuntime) -> Result<(), Fail> {
         (Fault::ExtraData, "bytes are left over"),
         (Fault::Key, "the bytes are no key"),
         (Fault::Uneven, "the book says otherwise"),
-    ] {
+    ];
+    for (fault, text) in SAID {
         equal_texts(&rt, fault.to_string(rt.alloc())?.as_str(), text);
     }
     Ok(())

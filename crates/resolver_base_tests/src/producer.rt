@@ -1,3 +1,4 @@
+use crate::asserts::equal;
 use crate::names::Letter;
 use bytes::Bytes;
 use futures::task::Poll;
@@ -29,8 +30,11 @@ fn has<O: Producer<Key = Letter>>(
     key: u8,
     bytes: Option<&'static [u8]>,
 ) -> Result<(), Fault> {
+    let found = bytes_of(task, producer, key)?;
     let wanted = Poll::Ready(bytes.map(Bytes::from_static));
-    assert_eq!(rt; bytes_of(task, producer, key)?, wanted);
+    equal(rt, &found, &wanted);
+    drop(found);
+    drop(wanted);
     Ok(())
 }
 
@@ -43,10 +47,16 @@ fn gives_what_was_inserted(
     producer.insert(Letter(1), "one")?;
     producer.insert(Letter(2), "zwei")?;
     producer.insert(Letter(2), "two")?;
-    has(rt, task, producer, 1, Some(b"one"))?;
-    has(rt, task, producer, 2, Some(b"two"))?;
-    has(rt, task, producer, 2, Some(b"two"))?;
-    has(rt, task, producer, 3, None)
+    const GIVEN: &[(u8, Option<&[u8]>)] = &[
+        (1, Some(b"one")),
+        (2, Some(b"two")),
+        (2, Some(b"two")),
+        (3, None),
+    ];
+    for &(key, bytes) in GIVEN {
+        has(rt, task, producer, key, bytes)?;
+    }
+    Ok(())
 }
 
 #[test]

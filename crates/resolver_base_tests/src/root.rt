@@ -17,7 +17,7 @@ fn delivery(alloc: Global, key: u8, subscribers: &[(u16, u64)]) -> Result<Delive
 // Key first, then the subscribers in order; a shorter equal beginning is less; marks don't count.
 #[test]
 fn deliveries_compare_by_key_and_subscribers(rt: HostRuntime) -> Result<(), Fail> {
-    let cases: [(u8, &[(u16, u64)], u8, &[(u16, u64)], Ordering); 7] = [
+    const CASES: &[(u8, &[(u16, u64)], u8, &[(u16, u64)], Ordering)] = &[
         (1, &[(10, 7)], 1, &[(10, 8)], Ordering::Equal),
         (1, &[(10, 7)], 2, &[(9, 7)], Ordering::Less),
         (2, &[(9, 7)], 1, &[(10, 7)], Ordering::Greater),
@@ -32,7 +32,7 @@ fn deliveries_compare_by_key_and_subscribers(rt: HostRuntime) -> Result<(), Fail
             Ordering::Greater,
         ),
     ];
-    for (key, subscribers, other_key, others, order) in cases {
+    for &(key, subscribers, other_key, others, order) in CASES {
         let one = delivery(rt.alloc(), key, subscribers)?;
         let other = delivery(rt.alloc(), other_key, others)?;
         compares(&rt, &one, &other, order);

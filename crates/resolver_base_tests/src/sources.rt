@@ -1,3 +1,4 @@
+use crate::asserts::equal;
 use crate::names::Letter;
 use bytes::Bytes;
 use futures::Stream;
@@ -5,6 +6,7 @@ use futures::channel::mpsc;
 use futures::task::{Context, Poll, Source, Waker};
 use futures::test::MockTask;
 use resolver_surface::{Clock, Receiver};
+use std::process::Abort;
 use std::test::Fail;
 
 /// A network over memory.
@@ -59,21 +61,43 @@ fn left<C: Clock>(task: &MockTask, clock: &mut C, moment: u128) -> (u128, bool) 
     (moment.saturating_sub(clock.now()), ready)
 }
 
+/// Ends the test where something else comes next.
+fn comes(
+    rt: &impl Abort,
+    task: &MockTask,
+    network: &mut Wire,
+    wanted: Poll<Option<(Letter, Bytes)>>,
+) {
+    let found = next(task, network);
+    equal(rt, &found, &wanted);
+    drop(found);
+    drop(wanted);
+}
+
+/// A message comes, and then the end.
+fn gives_hi(
+    rt: &impl Abort,
+    task: &MockTask,
+    sender: mpsc::UnboundedSender<(Letter, Bytes)>,
+    network: &mut Wire,
+) -> Result<(), Fail> {
+    comes(rt, task, network, Poll::Pending);
+    let sent = sender.unbounded_send((Letter(4), Bytes::from_static(b"hi")));
+    drop(sender);
+    let hi = (Letter(4), Bytes::from_static(b"hi"));
+    comes(rt, task, network, Poll::Ready(Some(hi)));
+    comes(rt, task, network, Poll::Ready(None));
+    Ok(sent?)
+}
+
 #[test]
 fn a_network_gives_what_was_sent(rt: HostRuntime) -> Result<(), Fail> {
     let task = MockTask::new(&rt)?;
     let (sender, messages) = mpsc::unbounded(rt.alloc())?;
     let mut network = Wire { messages };
-    let hi = Bytes::from_static(b"hi");
-    assert_eq!(rt; next(&task, &mut network), Poll::Pending);
-    sender.unbounded_send((Letter(4), hi.clone()?))?;
-    drop(sender);
-    assert_eq!(rt;
-        next(&task, &mut network),
-        Poll::Ready(Some((Letter(4), hi)))
-    );
-    assert_eq!(rt; next(&task, &mut network), Poll::Ready(None));
-    Ok(())
+    let given = gives_hi(&rt, &task, sender, &mut network);
+    drop(network);
+    given
 }
 
 #[test]
@@ -84,7 +108,8 @@ fn a_moment_comes_at_its_time(rt: HostRuntime) -> Result<(), Fail> {
         changed: Source::new(),
         waker: None,
     };
-    assert_eq!(rt; left(&task, &mut clock, 5), (0, true));
-    assert_eq!(rt; left(&task, &mut clock, 8), (3, false));
+    equal(&rt, &left(&task, &mut clock, 5), &(0, true));
+    equal(&rt, &left(&task, &mut clock, 8), &(3, false));
+    drop(clock);
     Ok(())
 }
