@@ -27,7 +27,6 @@ pub type Message<K, P, S, Q> = ingress::Message<K, S, Option<NonEmptyVec<P>>, Q>
 ///
 /// Contracts see the share of its sender, or none. Each call of `Resolver` and `TargetedResolver`
 /// puts one message, and waits for the mailbox's lock. Dropping a handle closes nothing.
-#[derive(Drop)]
 pub struct Mailbox<
     K: Ord + Hash,
     P: Ord + Faithful + Drop,
@@ -38,6 +37,22 @@ pub struct Mailbox<
 > {
     alloc: Global,
     sender: Sender<K, S, Option<NonEmptyVec<P>>, Q, N, R>,
+}
+
+impl<
+    K: Ord + Hash + Drop,
+    P: Ord + Faithful + Drop,
+    S: Ord + Drop,
+    Q: Predicate<K, S> + Drop,
+    N: Naming,
+    R: Drop,
+> Drop for Mailbox<K, P, S, Q, N, R> {
+    fn drop(self) {
+        let Self {
+            alloc: _,
+            sender: _,
+        } = self;
+    }
 }
 
 impl<K: Ord + Hash, P: Ord + Faithful + Drop, S: Ord, Q: Predicate<K, S>, N: Naming, R> Model

@@ -39,7 +39,6 @@ enum Status {
 ///
 /// Contracts say of which peer machines it is the code: of each that it matches it does what the
 /// machine does.
-#[derive(Drop)]
 pub struct Core<K: Ord, P: Ord, S: Ord, Q> {
     parts: Parts<K, P, S>,
     status: Status,
@@ -58,6 +57,17 @@ impl<K: Ord, P: Ord, S: Ord, Q> Model for Core<K, P, S, Q> {
 
     ghost invariant = { λ a. IsTiedUnlessFailed (parties K.cmp S.cmp P.cmp) (status_of a.status)
         a.parts };
+}
+
+impl<K: Ord + Drop, P: Ord + Drop, S: Ord + Drop, Q: Drop> Drop for Core<K, P, S, Q> {
+    fn drop(self) {
+        let Self {
+            parts: _,
+            status: _,
+            counted: _,
+            predicate: _,
+        } = self;
+    }
 }
 
 impl<K: Span + Drop, P: Ord + Clone + Drop, S: Ord + Clone + Drop, Q: Predicate<K, S> + Drop> Core<

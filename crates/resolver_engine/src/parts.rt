@@ -19,7 +19,6 @@ use std::collections::BTreeMap;
 
 /// The parts of the engine. Each has what it says of one peer machine; together they are that
 /// machine.
-#[derive(Drop)]
 pub(crate) struct Parts<K: Ord, P: Ord, S: Ord> {
     pub(crate) demand: Tracker<K, S>,
     pub(crate) entries: Inflight<K, P, S>,
@@ -29,6 +28,21 @@ pub(crate) struct Parts<K: Ord, P: Ord, S: Ord> {
     pub(crate) last_index: Option<u64>,
     pub(crate) priority_responses: bool,
     pub(crate) alloc: Global,
+}
+
+impl<K: Ord + Drop, P: Ord + Drop, S: Ord + Drop> Drop for Parts<K, P, S> {
+    fn drop(self) {
+        let Self {
+            demand: _,
+            entries: _,
+            fetcher: _,
+            serves: _,
+            next_serve: _,
+            last_index: _,
+            priority_responses: _,
+            alloc: _,
+        } = self;
+    }
 }
 
 impl<K: Ord + Drop, P: Ord + Drop, S: Ord + Drop> Parts<K, P, S> {

@@ -41,7 +41,7 @@ pub enum Phase<P> {
 }
 
 /// The peers that may be asked for a key, in the order in which they were added.
-#[derive(Debug, Drop)]
+#[derive(Debug)]
 pub struct Targets<P> {
     peers: Vec<P>,
 }
@@ -52,6 +52,12 @@ impl<P> Model for Targets<P> {
     ghost Value = { List P };
 
     ghost view = { λ a. a.peers.items };
+}
+
+impl<P: Drop> Drop for Targets<P> {
+    fn drop(self) {
+        let Self { peers: _ } = self;
+    }
 }
 
 impl<P> Targets<P> {

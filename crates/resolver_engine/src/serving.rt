@@ -21,7 +21,7 @@ use std::alloc::Global;
 use std::marker::Model;
 
 /// A peer's request that the producer has, and when it came. Contracts see the request alone.
-#[derive(Debug, Drop)]
+#[derive(Debug)]
 pub(crate) struct OpenServe<P> {
     serve: Serve<P>,
     start: u128,
@@ -33,6 +33,12 @@ impl<P> Model for OpenServe<P> {
     ghost Value = { Serve P };
 
     ghost view = { λ a. a.serve };
+}
+
+impl<P: Drop> Drop for OpenServe<P> {
+    fn drop(self) {
+        let Self { serve: _, start: _ } = self;
+    }
 }
 
 impl<P: Drop> OpenServe<P> {
@@ -47,7 +53,8 @@ impl<P: Drop> OpenServe<P> {
     fn into_serve(self) -> Serve<P>
         ensures { result ≡ self }
     {
-        self.serve
+        let Self { serve, start: _ } = self;
+        serve
     }
 
     /// How many nanoseconds ago it came.

@@ -69,7 +69,7 @@ use std::marker::Model;
 ///     fetcher.fetch(network, &mut draws, u128::from(now))?;
 /// }
 /// ```
-#[derive(Debug, Drop)]
+#[derive(Debug)]
 pub struct Fetcher<K: Ord, P: Ord> {
     pending: Pending<K>,
     requests: Requests<K, P>,
@@ -115,6 +115,24 @@ impl<K: Ord, P: Ord> Model for Fetcher<K, P> {
     ghost invariant = { λ a. IsKept K.cmp a.fetch_timeout a.retry_delay a.last_id a.pending.keys a.requests
         × IfSome a.cursor (IsRight (orders K.cmp P.cmp)
         (searched a.pending.keys a.targets.entries a.retries.entries a.peers) a.requests a.last_id) };
+}
+
+impl<K: Ord + Drop, P: Ord + Drop> Drop for Fetcher<K, P> {
+    fn drop(self) {
+        let Self {
+            pending: _,
+            requests: _,
+            targets: _,
+            retries: _,
+            peers: _,
+            fetch_timeout: _,
+            retry_delay: _,
+            priority_requests: _,
+            last_id: _,
+            cursor: _,
+            alloc: _,
+        } = self;
+    }
 }
 
 impl<K: Ord + Drop, P: Ord + Drop> Fetcher<K, P> {

@@ -15,9 +15,14 @@ use std::thread::{JoinHandle, Threads};
 use std::{io, thread};
 
 /// A loop's thread.
-#[derive(Drop)]
 pub struct Handle {
     thread: JoinHandle<Ending>,
+}
+
+impl Drop for Handle {
+    fn drop(self) {
+        let Self { thread: _ } = self;
+    }
 }
 
 impl Handle {

@@ -113,7 +113,6 @@ enum Status {
 ///     Ok(())
 /// }
 /// ```
-#[derive(Drop)]
 pub struct Actor<K: Ord, V, S: Ord, Q> {
     demand: Tracker<K, S>,
     stages: Stages<K, S, V>,
@@ -134,6 +133,19 @@ impl<K: Ord, V, S: Ord, Q> Model for Actor<K, V, S, Q> {
     ghost view = { machine_of };
 
     ghost invariant = { IsSound K.cmp };
+}
+
+impl<K: Ord + Drop, V: Drop, S: Ord + Drop, Q: Drop> Drop for Actor<K, V, S, Q> {
+    fn drop(self) {
+        let Self {
+            demand: _,
+            stages: _,
+            delay: _,
+            status: _,
+            alloc: _,
+            predicate: _,
+        } = self;
+    }
 }
 
 impl<K: Ord + Clone, V: Clone, S: Ord + Clone, Q: Predicate<K, S> + Drop> Actor<K, V, S, Q> {

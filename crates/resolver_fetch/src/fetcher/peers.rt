@@ -24,7 +24,7 @@ use std::mem;
 /// The latest set of peers with their scores, the local name, and the peers that are blocked.
 ///
 /// A call on one peer takes time logarithmic in their number.
-#[derive(Debug, Drop)]
+#[derive(Debug)]
 pub(super) struct Peers<P: Ord> {
     local: Option<P>,
     set: BTreeMap<P, Score>,
@@ -49,6 +49,19 @@ impl<P: Ord> Model for Peers<P> {
         (record { local = a.local; set = a.set.entries; blocked = a.blocked.keys }))
         × IsWhole P.cmp
         (record { local = a.local; set = a.set.entries; blocked = a.blocked.keys }) a.pool };
+}
+
+impl<P: Ord + Drop> Drop for Peers<P> {
+    fn drop(self) {
+        let Self {
+            local: _,
+            set: _,
+            blocked: _,
+            allowed: _,
+            pool: _,
+            alloc: _,
+        } = self;
+    }
 }
 
 impl<P: Ord + Drop> Peers<P> {

@@ -20,7 +20,7 @@ use std::marker::Model;
 /// lists.
 ///
 /// A call takes time logarithmic in the number of peers, unless it says otherwise.
-#[derive(Debug, Drop)]
+#[derive(Debug)]
 pub(super) struct Pool<P: Ord> {
     names: Vec<P>,
     /// What each of them weighs: nothing once it is left no more.
@@ -43,6 +43,17 @@ impl<P: Ord> Model for Pool<P> {
     } };
 
     ghost invariant = { λ a. IsPool P.cmp a.names.items a.weights a.counts a.taken.items };
+}
+
+impl<P: Ord + Drop> Drop for Pool<P> {
+    fn drop(self) {
+        let Self {
+            names: _,
+            weights: _,
+            counts: _,
+            taken: _,
+        } = self;
+    }
 }
 
 impl<P: Ord + Drop> Pool<P> {

@@ -28,7 +28,6 @@ use std::sync::ledger;
 ///
 /// It is made of the handle's runtime, by value. So a call that has its handle and can't copy the
 /// runtime has one seat, and can put under no other. Contracts see the share, or none.
-#[derive(Drop)]
 pub(super) struct Seat<K, S, M, Q, N: Names, R> {
     rt: R,
     share: Option<Share<K, S, M, Q, N>>,
@@ -41,6 +40,12 @@ impl<K, S, M, Q, N: Names, R> Model for Seat<K, S, M, Q, N, R> {
     ghost Value = { Option (Share K S M Q) };
 
     ghost view = { λ a. a.share };
+}
+
+impl<K: Drop, S: Drop, M: Drop, Q: Drop, N: Names, R: Drop> Drop for Seat<K, S, M, Q, N, R> {
+    fn drop(self) {
+        let Self { rt: _, share: _ } = self;
+    }
 }
 
 impl<K, S, M, Q, N: Names, R> Seat<K, S, M, Q, N, R> {
@@ -65,7 +70,6 @@ impl<K, S, M, Q, N: Names, R> Seat<K, S, M, Q, N, R> {
 }
 
 /// The totals of a recorded desk, and the parts that no handle has so far.
-#[derive(Drop)]
 struct Totals<N: Names> {
     puts: ledger::Book<Puts<N>>,
     takes: ledger::Book<Takes<N>>,
@@ -73,10 +77,19 @@ struct Totals<N: Names> {
     ghost unused: { spare.amount ≡ 0 },
 }
 
+impl<N: Names> Drop for Totals<N> {
+    fn drop(self) {
+        let Self {
+            puts: _,
+            takes: _,
+            spare: _,
+        } = self;
+    }
+}
+
 /// A desk, the totals of its puts and its takes where it is recorded, and who waits for a message.
 ///
 /// Between its calls the totals are the numbers of puts and takes in the desk's book.
-#[derive(Drop)]
 pub(super) struct Counted<K: Ord + Hash, S: Ord, M: Metadata, Q: Predicate<K, S>, N: Naming, R> {
     desk: Desk<K, S, M, Q>,
     totals: Option<Totals<N>>,
@@ -86,6 +99,24 @@ pub(super) struct Counted<K: Ord + Hash, S: Ord, M: Metadata, Q: Predicate<K, S>
     ghost totaled: { is_some totals ≡ N.is_recorded },
     ghost counted: { ForSome totals
         (λ t. IsCounted t.puts.total t.takes.total t.spare.parts desk) },
+}
+
+impl<
+    K: Ord + Hash + Drop,
+    S: Ord + Drop,
+    M: Metadata + Drop,
+    Q: Predicate<K, S> + Drop,
+    N: Naming,
+    R: Drop,
+> Drop for Counted<K, S, M, Q, N, R> {
+    fn drop(self) {
+        let Self {
+            desk: _,
+            totals: _,
+            waker: _,
+            seats: _,
+        } = self;
+    }
 }
 
 impl<

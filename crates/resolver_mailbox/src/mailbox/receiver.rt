@@ -30,12 +30,29 @@ use std::sync::{Arc, Wait};
 /// nothing waits.
 ///
 /// Contracts see what it gave, and the source at which its task is woken.
-#[derive(Drop)]
 pub struct Receiver<K: Ord + Hash, S: Ord, M: Metadata, Q: Predicate<K, S>, N: Naming, R> {
     pub(super) rt: R,
     pub(super) alloc: Global,
     pub(super) shared: Arc<Shared<K, S, M, Q, N, R>>,
     pub(super) taken: Taken<K, S, M, Q, N>,
+}
+
+impl<
+    K: Ord + Hash + Drop,
+    S: Ord + Drop,
+    M: Metadata + Drop,
+    Q: Predicate<K, S> + Drop,
+    N: Naming,
+    R: Drop,
+> Drop for Receiver<K, S, M, Q, N, R> {
+    fn drop(self) {
+        let Self {
+            rt: _,
+            alloc: _,
+            shared: _,
+            taken: _,
+        } = self;
+    }
 }
 
 impl<K: Ord + Hash, S: Ord, M: Metadata, Q: Predicate<K, S>, N: Naming, R> Model
