@@ -8,7 +8,8 @@
 
 pub use resolver_actor::laws;
 pub use resolver_base::root::{Delivery, Fetch, Outcome, Resolution};
-pub use resolver_demand::{ingress, subscribers};
+pub use resolver_demand::subscribers;
+pub use resolver_ingress::ingress;
 pub use resolver_mailbox::mailbox;
 pub use resolver_surface::{Consumer, Resolver, TargetedResolver};
 pub use resolver_worker::{Ending, Handle};

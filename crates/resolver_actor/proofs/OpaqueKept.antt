@@ -4,7 +4,7 @@ use Rattle.std.specs.Cmp.{IsEquivalence, IsTotalOrder}
 use Rattle.resolver_base.specs.Names.{Names, same_key, same_subscriber}
 use Rattle.resolver_base.specs.Demand.{all_pairs_of, IsSameDemand}
 use Rattle.resolver_base.specs.declared.base.fault.Fault.{Fault}
-use Rattle.resolver_demand.specs.declared.ingress.FetchKey.{FetchKey}
+use Rattle.resolver_ingress.specs.declared.ingress.FetchKey.{FetchKey}
 use Rattle.resolver_actor.specs.declared.opaque.actor.Effect.{Effect}
 use Rattle.resolver_actor.specs.declared.opaque.actor.Event.{Event as CodeEvent}
 use Rattle.resolver_actor.specs.declared.opaque.actor.Event.TheVariants as events

@@ -1,6 +1,6 @@
 -- What the actor's inputs are to the machine.
 use Rattle.std.specs.Prelude.{Bool, map}
-use Rattle.resolver_demand.specs.declared.ingress.FetchKey.{FetchKey}
+use Rattle.resolver_ingress.specs.declared.ingress.FetchKey.{FetchKey}
 use Rattle.resolver_actor.specs.declared.opaque.actor.Event.{Event as CodeEvent}
 use Rattle.resolver_actor.specs.declared.opaque.actor.Event.TheVariants as events
 use Rattle.resolver_actor.specs.declared.opaque.actor.Input.{Input as CodeInput}

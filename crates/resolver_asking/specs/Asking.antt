@@ -6,7 +6,7 @@ use Rattle.resolver_base.specs.declared.base.fault.Fault.TheVariants.{Exhausted,
 use Rattle.resolver_base.specs.declared.base.feedback.Feedback.{Feedback}
 use Rattle.resolver_base.specs.declared.base.feedback.Feedback.TheVariants.{Closed}
 use Rattle.resolver_base.specs.declared.root.Fetch.{Fetch}
-use Rattle.resolver_demand.specs.Backlog.{Item, Told}
+use Rattle.resolver_ingress.specs.Backlog.{Item, Told}
 use Rattle.resolver_mailbox.specs.Shares.{IsAdded, Share, marked}
 
 -- a fetch as it stands in a message, for its one subscriber, with what is said of it besides

@@ -2,11 +2,11 @@
 
 ghost use Rattle.std.specs.Prelude.{◌≡◌, [], ◌∷◌, map, IfOk, List};
 ghost use Rattle.resolver_asking.specs.Asking.{PutsOne, is_marked};
-ghost use Rattle.resolver_demand.specs.Backlog.{Fetches, Item, Retains, item_of};
+ghost use Rattle.resolver_ingress.specs.Backlog.{Fetches, Item, Retains, item_of};
 
 use crate::asked::Asked;
 use resolver_base::base::{Faithful, Fault, Feedback, Predicate};
-use resolver_demand::ingress::{FetchKey, Message, Metadata};
+use resolver_ingress::ingress::{FetchKey, Message, Metadata};
 use resolver_mailbox::mailbox::{Naming, Sender};
 use std::alloc::{AllocError, Global};
 use std::hash::Hash;

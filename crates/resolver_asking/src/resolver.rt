@@ -3,12 +3,12 @@
 ghost use Rattle.std.specs.Prelude.{◌≡◌, [], ◌∷◌, map, None};
 ghost use Rattle.std.specs.Option.{option_copied};
 ghost use Rattle.resolver_asking.specs.Asking.{PutsOne, asked};
-ghost use Rattle.resolver_demand.specs.Backlog.{Fetches, Retains};
+ghost use Rattle.resolver_ingress.specs.Backlog.{Fetches, Retains};
 
 use crate::putting as asking;
 use resolver_base::base::{Faithful, Fault, Feedback, NonEmptyVec, Predicate, PublicKey, Span};
 use resolver_base::root::Fetch;
-use resolver_demand::ingress;
+use resolver_ingress::ingress;
 use resolver_mailbox::mailbox::{Naming, Sender, Share};
 use resolver_surface::{Resolver as Asks, TargetedResolver};
 use std::alloc::{AllocError, Global};

@@ -1,5 +1,5 @@
 -- The keys that a test leaves without subscribers, and those that it keeps.
-use Rattle.std.proofs.Common.{◌≡◌, Bool, true, false, ℕ, List, [], ◌∷◌, length, filter, map, not, cond, nat_lt, arith, rules, subst}
+use Rattle.std.proofs.Common.{◌≡◌, Bool, true, false, ℕ, List, [], ◌∷◌, length, filter, map, not, cond, nat_lt, arith, subst}
 use Rattle.std.proofs.lemmas.Grind.{common_steps}
 use Rattle.std.specs.List.Sorted.{IsStrictlySortedBy}
 use Rattle.std.specs.declared.cmp.Ordering.{Ordering}
@@ -8,11 +8,7 @@ use Rattle.std.specs.List.{AllByRecursion, list_any}
 use Rattle.std.specs.Map.{keys_of}
 use Rattle.std.specs.Map.Calls.{RetainsPairs}
 use Rattle.resolver_base.specs.Table.{kept, emptied, has_subscribers, pruned}
-
--- a test finds an item exactly where the filter has one
-pub list_any-filter : {X : Type 0} (p : X → Bool) (xs : List X) → nat_lt 0 (length (filter p xs)) ≡ list_any p xs
-list_any-filter p [] = search rules
-list_any-filter p (x ∷ xs) = let rest = list_any-filter p xs in grind (arith, common_steps, rest)
+use Rattle.resolver_ingress.proofs.Filtered.{list_any-filter}
 
 module _ {K S : Type 0} (keep : K → S → Bool) where
   -- the first key keeps a subscriber

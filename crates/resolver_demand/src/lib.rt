@@ -1,10 +1,8 @@
-//! Who wants which data: the fetches that a resolver is asked for, and who waits for which key.
+//! Who wants which data, and what was handed out and is judged.
 //!
-//! `ingress::FetchKey` is a fetch of one key for its subscribers, `ingress::Pending` is what waits
-//! while a mailbox is full, and `subscribers::Tracker` is the demand: each key with the
-//! subscribers that wait for it. `delivery::Entries` holds what was handed out and is judged.
+//! `subscribers::Tracker` is the demand: each key with the subscribers that wait for it.
+//! `delivery::Entries` holds what was handed out and is judged.
 #![tactic(auto)]
 
 pub mod delivery;
-pub mod ingress;
 pub mod subscribers;

@@ -5,7 +5,7 @@ use crate::asserts::{equal, holds};
 use crate::counting::{Counting, Tally};
 use resolver_base::base::{Fault, NonEmptyVec};
 use resolver_base::root::Fetch;
-use resolver_demand::ingress::{FetchKey, Message, Pending, Predicate, laws};
+use resolver_ingress::ingress::{FetchKey, Message, Pending, Predicate, laws};
 use std::alloc::{AllocError, Global};
 use std::cell::Cell;
 use std::test::Fail;

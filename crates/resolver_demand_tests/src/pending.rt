@@ -9,7 +9,7 @@ ghost use Rattle.std.proofs.Common.{rules};
 use crate::asserts::equal_texts;
 use resolver_base::base::Fault;
 use resolver_base::root::Fetch;
-use resolver_demand::ingress::{FetchKey, Kept, Message, Pending, Test};
+use resolver_ingress::ingress::{FetchKey, Kept, Message, Pending, Test};
 use std::alloc::Global;
 use std::fmt::Write;
 use std::test::Fail;

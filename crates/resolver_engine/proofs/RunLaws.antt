@@ -5,7 +5,7 @@ use Rattle.std.proofs.lemmas.Cmp.{eq_by_cmp_equiv}
 use Rattle.std.specs.Cmp.{IsTotalOrder}
 use Rattle.resolver_base.specs.declared.base.fault.Fault.{Fault}
 use Rattle.resolver_base.specs.declared.base.fault.Fault.TheVariants as faults
-use Rattle.resolver_demand.specs.declared.ingress.FetchKey.{FetchKey}
+use Rattle.resolver_ingress.specs.declared.ingress.FetchKey.{FetchKey}
 use Rattle.resolver_machine.specs.Lawful.{AnswersAlike, Each, IsLawful}
 use Rattle.resolver_machine.specs.Steps as steps
 use Rattle.resolver_machine.specs.Steps.{stops}

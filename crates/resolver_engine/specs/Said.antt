@@ -3,7 +3,7 @@ use Rattle.std.specs.Prelude.{ℕ, Bool, List, map, Option, None, Some, Result, 
 use Rattle.std.specs.declared.vec.Vec.{Vec}
 use Rattle.std.specs.declared.alloc.Global.{Global}
 use Rattle.resolver_base.specs.declared.base.fault.Fault.{Fault}
-use Rattle.resolver_demand.specs.declared.ingress.FetchKey.{FetchKey}
+use Rattle.resolver_ingress.specs.declared.ingress.FetchKey.{FetchKey}
 use Rattle.resolver_request.specs.declared.wire.Message.{Message}
 use Rattle.resolver_request.specs.Reading.{whole_message}
 use Rattle.resolver_request.specs.Spelling.{spelling}

@@ -15,8 +15,8 @@ ghost use Rattle.resolver_engine.specs.Tied.{Agrees};
 use crate::inflight::Start;
 use crate::parts::Parts;
 use resolver_base::base::{Fault, NonEmptyVec};
-use resolver_demand::ingress::FetchKey;
 use resolver_fetch::fetcher::Fetcher;
+use resolver_ingress::ingress::FetchKey;
 
 /// A key to fetch, who wants it, and the peers that may be asked, if not any.
 pub(crate) type Item<K, P, S> = FetchKey<K, S, Option<NonEmptyVec<P>>>;

@@ -5,8 +5,8 @@ ghost use Rattle.std.specs.Prelude.{◌<◌, ◌^◌};
 use bytes::Bytes;
 use resolver_base::base::NonEmptyVec;
 use resolver_base::root::Outcome;
-use resolver_demand::ingress::FetchKey;
 use resolver_fetch::fetcher::Answer;
+use resolver_ingress::ingress::FetchKey;
 
 /// What happens around the engine.
 #[derive(Debug, Drop)]

@@ -5,16 +5,16 @@ use Rattle.std.specs.List.{All}
 use Rattle.std.specs.Option.{option_map_or}
 use Rattle.std.proofs.lemmas.List.{append-nil, length-map, length-take-le, map-append, take_more, take_all}
 use Rattle.std.proofs.lemmas.Bool.{eq-eqb, eqb-true, false≢true}
-use Rattle.resolver_demand.specs.declared.ingress.Message.{Message}
-use Rattle.resolver_mailbox.specs.declared.mailbox.entry.Entry.{Entry}
-use Rattle.resolver_mailbox.specs.declared.mailbox.entry.Entry.TheVariants as entries
-use Rattle.resolver_mailbox.specs.declared.mailbox.entry.Posted.{Posted}
+use Rattle.resolver_ingress.specs.declared.ingress.Message.{Message}
+use Rattle.resolver_desk.specs.declared.entry.Entry.{Entry}
+use Rattle.resolver_desk.specs.declared.entry.Entry.TheVariants as entries
+use Rattle.resolver_desk.specs.declared.entry.Posted.{Posted}
 use Rattle.resolver_base.specs.Names.{Names}
-use Rattle.resolver_demand.specs.Backlog.{Told, told_of, waiting}
-use Rattle.resolver_mailbox.specs.Book.{Call, IsBook, call_of, closes, puts_of}
-use Rattle.resolver_mailbox.specs.Desk.{Book, Desk, IsKept, calls_of}
+use Rattle.resolver_ingress.specs.Backlog.{Told, told_of, waiting}
+use Rattle.resolver_desk.specs.Book.{Call, IsBook, call_of, closes, puts_of}
+use Rattle.resolver_desk.specs.Desk.{Book, Desk, IsKept, calls_of}
 use Rattle.resolver_mailbox.specs.Shares.{Differs, Share}
-use Rattle.resolver_mailbox.proofs.Calls.{closes-append}
+use Rattle.resolver_desk.proofs.Calls.{closes-append}
 
 first : {A : Type 0} → A → List A → A
 first d [] = d

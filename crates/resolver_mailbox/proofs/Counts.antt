@@ -4,11 +4,11 @@ use Rattle.std.specs.Prelude.{Result, Ok, Err, IfOk, OnOk, OnErr, ◌-◌, ◌^�
 use Rattle.std.specs.Option.{ForSome, option_map, option_map_or, option_to_list}
 use Rattle.std.proofs.lemmas.List.{append-nil}
 use Rattle.resolver_base.specs.Names.{Names}
-use Rattle.resolver_demand.specs.Backlog.{Told}
-use Rattle.resolver_mailbox.specs.Book.{Call, Close, Put, Take, puts, puts_of, takes}
-use Rattle.resolver_mailbox.specs.Desk.{Book, Desk, desk_closed, desk_put, desk_taken, has_room, next_of, number_of, placed, with_call, with_put}
+use Rattle.resolver_ingress.specs.Backlog.{Told}
+use Rattle.resolver_desk.specs.Book.{Call, Close, Put, Take, puts, puts_of, takes}
+use Rattle.resolver_desk.specs.Desk.{Book, Desk, desk_closed, desk_put, desk_taken, has_room, next_of, number_of, placed, with_call, with_put}
 use Rattle.resolver_mailbox.specs.Shares.{IsCounted}
-use Rattle.resolver_mailbox.proofs.Calls.{puts-append, takes-append}
+use Rattle.resolver_desk.proofs.Calls.{puts-append, takes-append}
 
 pub for-one : {A : Type 0} (P : A → Type 0) (a : A) → P a → ForSome (Some a) P
 for-one {A = A} P a is x same = subst P (ap out same) is where

@@ -1,4 +1,2 @@
-pub mod Calls
-pub mod Desks
 pub mod Counts
 pub mod Agreeing

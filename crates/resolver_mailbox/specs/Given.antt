@@ -3,8 +3,8 @@ use Rattle.std.specs.Prelude.{ℕ, List, [], ◌∷◌, Option, None, Some, Resu
 use Rattle.futures.specs.declared.task.Poll.{Poll}
 use Rattle.futures.specs.declared.task.Poll.TheVariants.{Pending, Ready}
 use Rattle.resolver_base.specs.declared.base.fault.Fault.{Fault}
-use Rattle.resolver_demand.specs.declared.ingress.Message.{Message}
-use Rattle.resolver_demand.specs.Backlog.{Told, told_of}
+use Rattle.resolver_ingress.specs.declared.ingress.Message.{Message}
+use Rattle.resolver_ingress.specs.Backlog.{Told, told_of}
 
 -- what a receiver gave, in its order, and where its task is woken
 pub record Inbox (K S M Q : Type 0) : Type 0 where

@@ -1,6 +1,4 @@
 pub use Rattle.resolver_base.specs.Names
-pub use Rattle.resolver_demand.specs.Backlog
-pub mod Book
-pub mod Desk
+pub use Rattle.resolver_ingress.specs.Backlog
 pub mod Shares
 pub mod Given

@@ -2,9 +2,9 @@
 use Rattle.std.specs.Prelude.{◌≡◌, ◌<◌, ℕ, ◌+◌, ◌-◌, ◌^◌, Bool, false, true, List, [], ◌∷◌, ◌++◌, length, Option, MatchOption}
 use Rattle.std.specs.List.{All}
 use Rattle.std.specs.Option.{option_map_or}
-use Rattle.resolver_demand.specs.Backlog.{Told}
-use Rattle.resolver_mailbox.specs.Book.{Call, closes, puts, puts_of, takes}
-use Rattle.resolver_mailbox.specs.Desk.{Desk, calls_of}
+use Rattle.resolver_ingress.specs.Backlog.{Told}
+use Rattle.resolver_desk.specs.Book.{Call, closes, puts, puts_of, takes}
+use Rattle.resolver_desk.specs.Desk.{Desk, calls_of}
 
 -- the messages that a handle put, in their order, and whether it was answered Closed since
 pub record Share (K S M Q : Type 0) : Type 0 where

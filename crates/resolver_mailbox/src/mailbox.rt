@@ -5,11 +5,7 @@
 //! `Receiver`.
 
 mod agreeing;
-mod book;
-mod booking;
 mod counted;
-mod desk;
-mod entry;
 mod exact;
 mod naming;
 mod opening;
@@ -18,11 +14,11 @@ mod sender;
 mod share;
 mod taken;
 
-pub use desk::Desk;
-pub use entry::{Entry, Posted};
 pub use exact::Exact;
 pub use naming::{Names, Naming, Pages, Puts, Takes, Unrecorded};
 pub use opening::{new, recorded};
 pub use receiver::Receiver;
+pub use resolver_desk::desk::Desk;
+pub use resolver_desk::entry::{Entry, Posted};
 pub use sender::Sender;
 pub use share::Share;

@@ -5,7 +5,7 @@ ghost use Rattle.std.proofs.Common.{rules};
 
 use resolver_base::base::{Faithful, Fault, Predicate};
 use resolver_base::root::Fetch;
-use resolver_demand::ingress::{FetchKey, Message};
+use resolver_ingress::ingress::{FetchKey, Message};
 use resolver_mailbox::mailbox::{Entry, Exact};
 use std::alloc::Global;
 use std::fmt::Write;

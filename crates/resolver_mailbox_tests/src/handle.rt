@@ -6,7 +6,7 @@ use futures::task::Poll;
 use futures::test::MockTask;
 use resolver_base::base::NonEmptyVec;
 use resolver_base::root::Fetch;
-use resolver_demand::ingress;
+use resolver_ingress::ingress;
 use resolver_mailbox::mailbox::{Naming, Pages, Receiver, new, recorded};
 use resolver_opaque::{Message, Resolver};
 use resolver_surface::{Resolver as Asks, TargetedResolver};

@@ -5,7 +5,7 @@ ghost use Rattle.std.proofs.Common.{rules};
 
 use bytes::Bytes;
 use resolver_base::base::{Faithful, NonEmptyVec};
-use resolver_demand::ingress::{FetchKey, Kept, Message, Test};
+use resolver_ingress::ingress::{FetchKey, Kept, Message, Test};
 use resolver_mailbox::mailbox::{Entry, Exact, Naming, Pages, Receiver, Sender, recorded};
 use std::alloc::{AllocError, Global};
 use std::hash::Hash;

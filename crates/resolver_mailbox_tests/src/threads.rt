@@ -7,7 +7,7 @@ use crate::mailbox::{next, puts_in, shares_of};
 use futures::task::Poll;
 use futures::test::MockTask;
 use resolver_base::base::{Fault, Feedback};
-use resolver_demand::ingress::Message;
+use resolver_ingress::ingress::Message;
 use resolver_mailbox::mailbox::{Entry, Naming, Pages, Receiver, Sender, recorded};
 use std::alloc::{AllocError, AllocGlobal, Global};
 use std::fmt::Write;

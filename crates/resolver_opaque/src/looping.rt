@@ -10,7 +10,7 @@ use futures::{Future, Stream};
 use resolver_actor::opaque::{Actor, Effect, Event, Input};
 use resolver_base::base::{Faithful, Predicate, Span};
 use resolver_base::root::Delivery;
-use resolver_demand::ingress::Message;
+use resolver_ingress::ingress::Message;
 use resolver_mailbox::mailbox::{Receiver, Unrecorded};
 use resolver_surface::{Clock, Consumer};
 use resolver_worker::{Ending, Judging, TURNS, Turn, poll_moment};

@@ -4,21 +4,21 @@ ghost use Rattle.std.specs.Prelude.{◌≡◌, ◌≢◌, ◌<◌, ◌↔◌, �
 ghost use Rattle.std.specs.Option.{ForSome, option_copied, option_map, option_to_list};
 ghost use Rattle.resolver_base.specs.declared.base.fault.Fault.TheVariants.{Exhausted, OutOfMemory};
 ghost use Rattle.resolver_base.specs.declared.base.feedback.Feedback.TheVariants.{Closed};
-ghost use Rattle.resolver_demand.specs.Backlog.{told_of};
+ghost use Rattle.resolver_ingress.specs.Backlog.{told_of};
 ghost use Rattle.resolver_base.specs.Names.{names};
-ghost use Rattle.resolver_mailbox.specs.Book.{IsBook, call_of};
-ghost use Rattle.resolver_mailbox.specs.Desk.{IsOver, calls_of, desk_closed, desk_put, desk_taken, empty_book, empty_desk, feedback_of};
+ghost use Rattle.resolver_desk.specs.Book.{IsBook, call_of};
+ghost use Rattle.resolver_desk.specs.Desk.{IsOver, calls_of, desk_closed, desk_put, desk_taken, empty_book, empty_desk, feedback_of};
 ghost use Rattle.resolver_mailbox.specs.Shares.{IsAdded, IsCounted, marked};
 
 use crate::mailbox::agreeing::copied;
-use crate::mailbox::desk::Desk;
-use crate::mailbox::entry::Entry;
 use crate::mailbox::naming::{Names, Naming, Pages, Puts, Takes};
 use crate::mailbox::share::Share;
 use crate::mailbox::taken::Taken;
 use futures::task::Waker;
 use resolver_base::base::{Faithful, Fault, Feedback, Predicate};
-use resolver_demand::ingress::{Message, Metadata};
+use resolver_desk::desk::Desk;
+use resolver_desk::entry::Entry;
+use resolver_ingress::ingress::{Message, Metadata};
 use std::alloc::{AllocError, Global};
 use std::hash::Hash;
 use std::marker::{Model, PhantomData};

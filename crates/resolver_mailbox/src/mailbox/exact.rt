@@ -4,7 +4,7 @@ ghost use Rattle.std.specs.Prelude.{◌≡◌, ◌↔◌, IsTrue};
 
 use bytes::Bytes;
 use resolver_base::base::NonEmptyVec;
-use resolver_demand::ingress::Kept;
+use resolver_ingress::ingress::Kept;
 
 /// A type whose values are said to be the same exactly where they are.
 pub trait Exact {

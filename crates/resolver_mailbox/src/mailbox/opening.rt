@@ -10,7 +10,7 @@ use crate::mailbox::sender::{Sender, Shared};
 use crate::mailbox::taken::Taken;
 use futures::task::Source;
 use resolver_base::base::{Faithful, Fault, Predicate};
-use resolver_demand::ingress::Metadata;
+use resolver_ingress::ingress::Metadata;
 use std::alloc::Global;
 use std::hash::Hash;
 use std::sync::{Arc, Mutex};

@@ -4,7 +4,7 @@ ghost use Rattle.std.specs.Prelude.{◌≡◌, ◌≢◌, false, true, None, Ok,
 ghost use Rattle.std.specs.Option.{option_copied, option_map};
 ghost use Rattle.resolver_base.specs.declared.base.fault.Fault.TheVariants.{Exhausted, OutOfMemory};
 ghost use Rattle.resolver_base.specs.declared.base.feedback.Feedback.TheVariants.{Closed};
-ghost use Rattle.resolver_demand.specs.Backlog.{told_of};
+ghost use Rattle.resolver_ingress.specs.Backlog.{told_of};
 ghost use Rattle.resolver_mailbox.specs.Shares.{IsAdded, marked};
 
 use crate::mailbox::counted::{Counted, Seat};
@@ -12,7 +12,7 @@ use crate::mailbox::naming::Naming;
 use crate::mailbox::share::Share;
 use futures::task::Source;
 use resolver_base::base::{Faithful, Fault, Feedback, Predicate};
-use resolver_demand::ingress::{Message, Metadata};
+use resolver_ingress::ingress::{Message, Metadata};
 use std::alloc::{AllocError, Global};
 use std::hash::Hash;
 use std::marker::Model;

@@ -4,14 +4,14 @@ ghost use Rattle.std.specs.Prelude.{◌≡◌, ◌≢◌, ◌≤◌, ◌<◌, �
 ghost use Rattle.std.specs.Vec.{vec_len, vec_capacity};
 ghost use Rattle.resolver_base.specs.declared.base.fault.Fault.TheVariants.{Exhausted, OutOfMemory};
 ghost use Rattle.resolver_base.specs.Names.{names};
-ghost use Rattle.resolver_demand.specs.Backlog.{told_of};
-ghost use Rattle.resolver_mailbox.specs.Desk.{desk_put, feedback_of};
+ghost use Rattle.resolver_ingress.specs.Backlog.{told_of};
+ghost use Rattle.resolver_desk.specs.Desk.{desk_put, feedback_of};
 ghost use Rattle.resolver_mailbox.specs.Shares.{first_share, marked, numbered, with_message};
 
-use crate::mailbox::desk::Desk;
 use crate::mailbox::naming::{Names, Puts};
 use resolver_base::base::{Faithful, Fault, Feedback, Predicate};
-use resolver_demand::ingress::{Message, Metadata};
+use resolver_desk::desk::Desk;
+use resolver_ingress::ingress::{Message, Metadata};
 use std::alloc::{AllocError, Global};
 use std::hash::Hash;
 use std::marker::Model;
@@ -32,7 +32,7 @@ pub struct Share<K, S, M, Q, N: Names> {
 impl<K, S, M, Q, N: Names> Model for Share<K, S, M, Q, N> {
     ghost use Rattle.std.specs.Prelude.{◌≡◌, ◌<◌, map};
     ghost use Rattle.std.specs.Vec.{vec_len};
-    ghost use Rattle.resolver_demand.specs.Backlog.{told_of};
+    ghost use Rattle.resolver_ingress.specs.Backlog.{told_of};
     ghost use Rattle.resolver_mailbox.specs.Shares.{Share};
 
     ghost Value = { Share K S M Q };

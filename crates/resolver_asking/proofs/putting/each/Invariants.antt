@@ -1,6 +1,6 @@
 use Rattle.std.proofs.Common.{◌≡◌, ◌++◌, map}
 use Rattle.std.specs.Vec.Iter.{into_iter_items}
-use Rattle.resolver_demand.specs.Backlog.{item_of}
+use Rattle.resolver_ingress.specs.Backlog.{item_of}
 use Rattle.resolver_asking.proofs.putting.each.Given as goal
 
 -- What was made, and then what is left as it will stand, is all of it.

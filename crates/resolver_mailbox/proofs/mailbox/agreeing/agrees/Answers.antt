@@ -3,7 +3,7 @@ use Rattle.std.specs.List.{All}
 use Rattle.std.proofs.lemmas.Bool.{false≢true}
 use Rattle.std.proofs.lemmas.List.{take_more, take_all}
 use Rattle.std.proofs.lemmas.List.Elements.{All-map, All-push}
-use Rattle.resolver_mailbox.specs.Book.{call_of}
+use Rattle.resolver_desk.specs.Book.{call_of}
 use Rattle.resolver_mailbox.specs.Shares.{AgreesWith}
 use Rattle.resolver_mailbox.proofs.Agreeing.{refuted, so-at}
 use Rattle.resolver_mailbox.proofs.mailbox.agreeing.agrees.Goals as goal

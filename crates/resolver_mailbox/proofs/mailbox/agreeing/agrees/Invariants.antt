@@ -1,6 +1,6 @@
 use Rattle.std.proofs.Common.{map, take}
 use Rattle.std.specs.List.{All}
-use Rattle.resolver_mailbox.specs.Book.{call_of}
+use Rattle.resolver_desk.specs.Book.{call_of}
 use Rattle.resolver_mailbox.specs.Shares.{AgreesWith}
 use Rattle.resolver_mailbox.proofs.mailbox.agreeing.agrees.Given as goal
 

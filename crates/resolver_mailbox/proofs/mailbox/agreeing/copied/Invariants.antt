@@ -1,5 +1,5 @@
 use Rattle.std.proofs.Common.{◌≡◌, map, take}
-use Rattle.resolver_mailbox.specs.Book.{call_of}
+use Rattle.resolver_desk.specs.Book.{call_of}
 use Rattle.resolver_mailbox.proofs.mailbox.agreeing.copied.Given as goal
 
 -- The first calls are there again.

@@ -1,5 +1,5 @@
 use Rattle.std.proofs.Common.{◌≡◌, map, take}
-use Rattle.resolver_mailbox.specs.Book.{call_of, closes}
+use Rattle.resolver_desk.specs.Book.{call_of, closes}
 use Rattle.resolver_mailbox.proofs.mailbox.agreeing.has_close.Given as goal
 
 -- The first calls are no close.

@@ -1,11 +1,11 @@
 use Rattle.std.proofs.Common.{◌≡◌, ◌<◌, ℕ, [], ◌∷◌, length, map, take, slice_index_or, refl, ap, ◌∙◌, sym, rules, arith}
 use Rattle.std.proofs.lemmas.Bool.{false≢true}
-use Rattle.resolver_demand.specs.declared.ingress.Message.{Message}
-use Rattle.resolver_mailbox.specs.declared.mailbox.entry.Entry.{Entry}
-use Rattle.resolver_demand.specs.Backlog.{told_of}
-use Rattle.resolver_mailbox.specs.Book.{call_of, puts_of}
+use Rattle.resolver_ingress.specs.declared.ingress.Message.{Message}
+use Rattle.resolver_desk.specs.declared.entry.Entry.{Entry}
+use Rattle.resolver_ingress.specs.Backlog.{told_of}
+use Rattle.resolver_desk.specs.Book.{call_of, puts_of}
 use Rattle.resolver_mailbox.proofs.Agreeing.{differs, no-put, one-put, picks, refuted, same-at, skips}
-use Rattle.resolver_mailbox.proofs.Calls.{puts_of-append}
+use Rattle.resolver_desk.proofs.Calls.{puts_of-append}
 use Rattle.resolver_mailbox.proofs.mailbox.agreeing.has_puts.Goals as goal
 use Rattle.resolver_mailbox.proofs.mailbox.agreeing.has_puts.Goals.{in-Take, in-Close, in-Put+then-posted-handle+else-next-messages+else-not-is_same_message, in-Put+else-posted-handle, then-next-messages-via-then-next-messages, then-next-messages-via-else-next-messages+then-not-is_same_message}
 

@@ -1,6 +1,6 @@
 use Rattle.std.proofs.Common.{◌≡◌, ◌≤◌, length, map, take}
-use Rattle.resolver_demand.specs.Backlog.{told_of}
-use Rattle.resolver_mailbox.specs.Book.{call_of, puts_of}
+use Rattle.resolver_ingress.specs.Backlog.{told_of}
+use Rattle.resolver_desk.specs.Book.{call_of, puts_of}
 use Rattle.resolver_mailbox.proofs.mailbox.agreeing.has_puts.Given as goal
 
 -- The handle's puts so far are the first messages.

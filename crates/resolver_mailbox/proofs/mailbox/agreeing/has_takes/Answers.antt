@@ -1,11 +1,11 @@
 use Rattle.std.proofs.Common.{◌≡◌, ◌<◌, ℕ, [], ◌∷◌, length, map, take, slice_index_or, refl, ap, ◌∙◌, sym, rules, arith}
 use Rattle.std.proofs.lemmas.Bool.{false≢true}
-use Rattle.resolver_demand.specs.declared.ingress.Message.{Message}
-use Rattle.resolver_mailbox.specs.declared.mailbox.entry.Entry.{Entry}
-use Rattle.resolver_demand.specs.Backlog.{told_of}
-use Rattle.resolver_mailbox.specs.Book.{call_of, takes}
+use Rattle.resolver_ingress.specs.declared.ingress.Message.{Message}
+use Rattle.resolver_desk.specs.declared.entry.Entry.{Entry}
+use Rattle.resolver_ingress.specs.Backlog.{told_of}
+use Rattle.resolver_desk.specs.Book.{call_of, takes}
 use Rattle.resolver_mailbox.proofs.Agreeing.{differs, picks, refuted, same-at, skips}
-use Rattle.resolver_mailbox.proofs.Calls.{takes-append}
+use Rattle.resolver_desk.proofs.Calls.{takes-append}
 use Rattle.resolver_mailbox.proofs.mailbox.agreeing.has_takes.Goals as goal
 use Rattle.resolver_mailbox.proofs.mailbox.agreeing.has_takes.Goals.{in-Put, in-Close, in-Take+else-next-taken+else-not-is_same_message, then-next-taken-via-then-next-taken, then-next-taken-via-else-next-taken+then-not-is_same_message}
 

@@ -1,8 +1,8 @@
 use Rattle.std.proofs.Common.{◌≡◌, ◌∙◌, List, [], ◌∷◌, ◌++◌, Option, Some, None, map, is_some, refl, sym, ap, rules, arith}
 use Rattle.std.proofs.lemmas.List.{append-nil, map-append}
-use Rattle.resolver_demand.specs.declared.ingress.Message.{Message}
-use Rattle.resolver_demand.specs.Backlog.{Told, told_of}
-use Rattle.resolver_mailbox.specs.Desk.{Desk, desk_taken}
+use Rattle.resolver_ingress.specs.declared.ingress.Message.{Message}
+use Rattle.resolver_ingress.specs.Backlog.{Told, told_of}
+use Rattle.resolver_desk.specs.Desk.{Desk, desk_taken}
 use Rattle.resolver_mailbox.proofs.mailbox.taken.Taken.take.Goals as goal
 
 some-none : {A : Type 0} (a : A) (first : Option A) → Some a ≡ first → None ≡ first → ⊥

@@ -1,0 +1,10 @@
+pub mod Filtered
+pub mod Undone
+pub mod Marks
+pub mod Right
+pub mod Items
+pub mod Queue
+pub mod Pruned
+pub mod Drained
+pub mod Fetched
+pub mod Places

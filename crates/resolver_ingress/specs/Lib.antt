@@ -1,0 +1,4 @@
+pub mod Backlog
+pub mod Fetched
+pub mod Undone
+pub mod Places
