@@ -25,9 +25,14 @@ use std::test::Fail;
 use std::thread::Threads;
 
 /// A look that a test answers.
-#[derive(Drop)]
 pub struct Look {
     value: Option<oneshot::Receiver<Option<Bytes>>>,
+}
+
+impl Drop for Look {
+    fn drop(self) {
+        let Self { value: _ } = self;
+    }
 }
 
 impl Future for Look {
@@ -46,10 +51,15 @@ impl Future for Look {
 }
 
 /// A source that hands each look to its test.
-#[derive(Drop)]
 pub struct Source {
     alloc: Global,
     looks: mpsc::UnboundedSender<(Key, oneshot::Sender<Option<Bytes>>)>,
+}
+
+impl Drop for Source {
+    fn drop(self) {
+        let Self { alloc: _, looks: _ } = self;
+    }
 }
 
 impl Fetcher for Source {
@@ -82,13 +92,24 @@ pub type Asked<R> = opaque::Resolver<Key, u16, Peer, Below, Unrecorded, R>;
 pub type Looked = oneshot::Sender<Option<Bytes>>;
 
 /// What a test holds of what an actor is lent.
-#[derive(Drop)]
 pub struct Held {
     pub looks: mpsc::UnboundedReceiver<(Key, Looked)>,
     pub verdicts: mpsc::UnboundedReceiver<oneshot::Sender<Outcome>>,
     pub told: mpsc::UnboundedReceiver<Seen>,
     pub moments: mpsc::UnboundedReceiver<u128>,
     pub watch: Arc<Watch>,
+}
+
+impl Drop for Held {
+    fn drop(self) {
+        let Self {
+            looks: _,
+            verdicts: _,
+            told: _,
+            moments: _,
+            watch: _,
+        } = self;
+    }
 }
 
 /// What an actor is lent.
@@ -100,10 +121,18 @@ struct Lent {
 }
 
 /// What a test holds.
-#[derive(Drop)]
 pub struct Ends<R> {
     pub resolver: Asked<R>,
     pub held: Held,
+}
+
+impl<R: Drop> Drop for Ends<R> {
+    fn drop(self) {
+        let Self {
+            resolver: _,
+            held: _,
+        } = self;
+    }
 }
 
 /// A clock that stands at 0, with the moments that it is to wait for, and the watch that puts it forward.

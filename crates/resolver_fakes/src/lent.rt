@@ -20,10 +20,15 @@ use resolver::{Consumer, Delivery, Outcome};
 use std::alloc::Global;
 
 /// Peer sets, blocked sets or messages, as a test gives them.
-#[derive(Drop)]
 pub struct Given<T> {
     pub told: Told,
     pub given: mpsc::UnboundedReceiver<T>,
+}
+
+impl<T: Drop> Drop for Given<T> {
+    fn drop(self) {
+        let Self { told: _, given: _ } = self;
+    }
 }
 
 impl Provider for Given<(u64, Vec<Peer>)> {
@@ -55,12 +60,22 @@ impl Receiver for Given<(Peer, Bytes)> {
 }
 
 /// A way to the peers that takes everything but what goes wrong.
-#[derive(Drop)]
 pub struct Wire {
     told: Told,
     wrong: Wrong,
     checks: u64,
     sends: u64,
+}
+
+impl Drop for Wire {
+    fn drop(self) {
+        let Self {
+            told: _,
+            wrong: _,
+            checks: _,
+            sends: _,
+        } = self;
+    }
 }
 
 impl Wire {
@@ -101,10 +116,15 @@ impl Sender for Wire {
 }
 
 /// Draws that follow from a seed, or are all 0 where there is none.
-#[derive(Drop)]
 pub struct Dice {
     pub told: Told,
     pub seeded: Option<Seeded>,
+}
+
+impl Drop for Dice {
+    fn drop(self) {
+        let Self { told: _, seeded: _ } = self;
+    }
 }
 
 impl Draws for Dice {
@@ -118,12 +138,22 @@ impl Draws for Dice {
 }
 
 /// A consumer that hands each delivery's sender to its test, unless it drops them.
-#[derive(Drop)]
 pub struct Judge {
     pub alloc: Global,
     pub told: Told,
     pub wrong: Wrong,
     pub verdicts: mpsc::UnboundedSender<oneshot::Sender<Outcome>>,
+}
+
+impl Drop for Judge {
+    fn drop(self) {
+        let Self {
+            alloc: _,
+            told: _,
+            wrong: _,
+            verdicts: _,
+        } = self;
+    }
 }
 
 impl Consumer for Judge {
@@ -155,12 +185,22 @@ impl Consumer for Judge {
 }
 
 /// A producer that hands each request's sender to its test.
-#[derive(Drop)]
 pub struct Store {
     pub alloc: Global,
     pub told: Told,
     pub wrong: Wrong,
     pub serves: mpsc::UnboundedSender<oneshot::Sender<Bytes>>,
+}
+
+impl Drop for Store {
+    fn drop(self) {
+        let Self {
+            alloc: _,
+            told: _,
+            wrong: _,
+            serves: _,
+        } = self;
+    }
 }
 
 impl Producer for Store {

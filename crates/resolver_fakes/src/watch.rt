@@ -11,7 +11,6 @@ use resolver::base::Clock;
 use std::alloc::{AllocError, Global};
 use std::sync::{Arc, Mutex};
 
-#[derive(Drop)]
 struct Time {
     now: u64,
     /// The last moment that was waited for.
@@ -19,11 +18,29 @@ struct Time {
     waker: Option<Waker>,
 }
 
+impl Drop for Time {
+    fn drop(self) {
+        let Self {
+            now: _,
+            awaited: _,
+            waker: _,
+        } = self;
+    }
+}
+
 /// A moment that a test puts forward.
-#[derive(Drop)]
 pub struct Watch {
     changed: Source,
     time: Mutex<Time>,
+}
+
+impl Drop for Watch {
+    fn drop(self) {
+        let Self {
+            changed: _,
+            time: _,
+        } = self;
+    }
 }
 
 impl Watch {
@@ -72,9 +89,14 @@ impl Watch {
 }
 
 /// A clock that stands until its test puts it forward.
-#[derive(Drop)]
 pub struct Standing {
     pub watch: Arc<Watch>,
+}
+
+impl Drop for Standing {
+    fn drop(self) {
+        let Self { watch: _ } = self;
+    }
 }
 
 impl Clock for Standing {
@@ -99,10 +121,18 @@ impl Clock for Standing {
 }
 
 /// A clock that stands, and tells its test each moment that it is to wait for.
-#[derive(Drop)]
 pub struct Telling {
     pub clock: Standing,
     pub moments: mpsc::UnboundedSender<u128>,
+}
+
+impl Drop for Telling {
+    fn drop(self) {
+        let Self {
+            clock: _,
+            moments: _,
+        } = self;
+    }
 }
 
 impl Clock for Telling {

@@ -86,7 +86,6 @@ pub type Looped<R> = Loop<
 type Asked<R> = Mailbox<Key, Peer, u16, Below, Unrecorded, R>;
 
 /// What a test holds.
-#[derive(Drop)]
 pub struct World<R> {
     pub alloc: Global,
     pub mailbox: Asked<R>,
@@ -97,6 +96,22 @@ pub struct World<R> {
     pub verdicts: mpsc::UnboundedReceiver<oneshot::Sender<Outcome>>,
     pub serves: mpsc::UnboundedReceiver<oneshot::Sender<Bytes>>,
     pub told: mpsc::UnboundedReceiver<Seen>,
+}
+
+impl<R: Drop> Drop for World<R> {
+    fn drop(self) {
+        let Self {
+            alloc: _,
+            mailbox: _,
+            sets: _,
+            blocked: _,
+            network: _,
+            watch: _,
+            verdicts: _,
+            serves: _,
+            told: _,
+        } = self;
+    }
 }
 
 /// What a world's engine is lent besides.

@@ -36,16 +36,29 @@ trait Gate {
 }
 
 /// What stands behind a gate.
-#[derive(Drop)]
 struct Behind {
     is_open: bool,
     serve: Option<oneshot::Sender<Bytes>>,
 }
 
+impl Drop for Behind {
+    fn drop(self) {
+        let Self {
+            is_open: _,
+            serve: _,
+        } = self;
+    }
+}
+
 /// A gate that a test shares with its producer.
-#[derive(Drop)]
 struct Door {
     behind: Mutex<Behind>,
+}
+
+impl Drop for Door {
+    fn drop(self) {
+        let Self { behind: _ } = self;
+    }
 }
 
 /// Sends the bytes of a serve.
@@ -101,11 +114,20 @@ impl Gate for Door {
 }
 
 /// A producer behind a gate.
-#[derive(Drop)]
 struct Gated {
     alloc: Global,
     told: Told,
     door: Arc<Door>,
+}
+
+impl Drop for Gated {
+    fn drop(self) {
+        let Self {
+            alloc: _,
+            told: _,
+            door: _,
+        } = self;
+    }
 }
 
 impl Producer for Gated {
@@ -122,10 +144,18 @@ impl Producer for Gated {
 }
 
 /// A network that answers a request at once.
-#[derive(Drop)]
 struct Network {
     wire: Wire,
     answers: mpsc::UnboundedSender<(Peer, Bytes)>,
+}
+
+impl Drop for Network {
+    fn drop(self) {
+        let Self {
+            wire: _,
+            answers: _,
+        } = self;
+    }
 }
 
 impl Sender for Network {
@@ -171,13 +201,24 @@ type Asked<R> = Mailbox<Key, Peer, u16, Below, Unrecorded, R>;
 type Hands = (Consumer<Key, Bytes, u16>, Gated);
 
 /// What a test holds of it.
-#[derive(Drop)]
 struct Ends {
     sets: mpsc::UnboundedSender<(u64, Vec<Peer>)>,
     network: mpsc::UnboundedSender<(Peer, Bytes)>,
     taken: mpsc::UnboundedReceiver<(Key, Bytes)>,
     told: mpsc::UnboundedReceiver<Seen>,
     door: Arc<Door>,
+}
+
+impl Drop for Ends {
+    fn drop(self) {
+        let Self {
+            sets: _,
+            network: _,
+            taken: _,
+            told: _,
+            door: _,
+        } = self;
+    }
 }
 
 /// What the engine is lent.

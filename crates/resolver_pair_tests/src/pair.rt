@@ -13,7 +13,6 @@ use std::sync::Wait;
 use std::test::Fail;
 
 /// An engine's loop in its world, and a twin.
-#[derive(Drop)]
 pub struct Pair<R> {
     pub twin: Twin,
     task: MockTask,
@@ -21,6 +20,19 @@ pub struct Pair<R> {
     world: World<R>,
     said: String,
     expected: String,
+}
+
+impl<R: Drop> Drop for Pair<R> {
+    fn drop(self) {
+        let Self {
+            twin: _,
+            task: _,
+            looped: _,
+            world: _,
+            said: _,
+            expected: _,
+        } = self;
+    }
 }
 
 /// A world, and the loop of its engine, which is large.

@@ -53,7 +53,6 @@ const NONE: Counts = Counts {
 };
 
 /// What is asked, and what it is asked.
-#[derive(Drop)]
 pub struct Fakes {
     wire: Wire,
     dice: Dice,
@@ -61,8 +60,18 @@ pub struct Fakes {
     pub seen: mpsc::UnboundedReceiver<Seen>,
 }
 
+impl Drop for Fakes {
+    fn drop(self) {
+        let Self {
+            wire: _,
+            dice: _,
+            told: _,
+            seen: _,
+        } = self;
+    }
+}
+
 /// A core as a world's engine has it, and what is open in it.
-#[derive(Drop)]
 pub struct Twin {
     pub alloc: Global,
     pub setting: Setting,
@@ -85,6 +94,27 @@ pub struct Twin {
     pub counts: Counts,
     /// What it took, as a script for `resolver-replay`.
     pub script: String,
+}
+
+impl Drop for Twin {
+    fn drop(self) {
+        let Self {
+            alloc: _,
+            setting: _,
+            core: _,
+            fakes: _,
+            differs: _,
+            now: _,
+            eligible: _,
+            scan: _,
+            deliveries: _,
+            serves: _,
+            sent: _,
+            delivered: _,
+            counts: _,
+            script: _,
+        } = self;
+    }
 }
 
 /// A step, as a call that promises nothing.

@@ -44,10 +44,18 @@ pub const TRACKER: &[Call] = &[
 ];
 
 /// A tracker.
-#[derive(Drop)]
 pub struct Demand {
     tracker: Tracker<u8, u16>,
     alloc: Global,
+}
+
+impl Drop for Demand {
+    fn drop(self) {
+        let Self {
+            tracker: _,
+            alloc: _,
+        } = self;
+    }
 }
 
 impl Part for Demand {

@@ -31,10 +31,18 @@ pub const ENTRIES: &[Call] = &[
 ];
 
 /// Numbered deliveries of numbers.
-#[derive(Drop)]
 pub struct Deliveries {
     entries: Entries<u8, u16, u64, (), ()>,
     alloc: Global,
+}
+
+impl Drop for Deliveries {
+    fn drop(self) {
+        let Self {
+            entries: _,
+            alloc: _,
+        } = self;
+    }
 }
 
 impl Part for Deliveries {

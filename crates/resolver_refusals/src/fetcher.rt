@@ -61,10 +61,18 @@ pub const FIRST_REQUEST: &[Call] = &[
 ];
 
 /// A fetcher.
-#[derive(Drop)]
 pub struct Asker {
     fetcher: Fetcher<Key, Peer>,
     alloc: Global,
+}
+
+impl Drop for Asker {
+    fn drop(self) {
+        let Self {
+            fetcher: _,
+            alloc: _,
+        } = self;
+    }
 }
 
 impl Part for Asker {

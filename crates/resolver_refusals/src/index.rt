@@ -16,10 +16,15 @@ pub enum Call {
 pub const CHOICES: &[Call] = &[Call::New(&[3, 0, 2]), Call::Select];
 
 /// An index, once it is made.
-#[derive(Drop)]
 pub struct Index {
     index: Option<WeightedIndex>,
     alloc: Global,
+}
+
+impl Drop for Index {
+    fn drop(self) {
+        let Self { index: _, alloc: _ } = self;
+    }
 }
 
 impl Part for Index {

@@ -78,10 +78,18 @@ pub const TARGETS: &[Call] = &[
 ];
 
 /// An overflow.
-#[derive(Drop)]
 pub struct Overflow {
     pending: Pending<u16, u16, Targets, From>,
     alloc: Global,
+}
+
+impl Drop for Overflow {
+    fn drop(self) {
+        let Self {
+            pending: _,
+            alloc: _,
+        } = self;
+    }
 }
 
 impl Part for Overflow {

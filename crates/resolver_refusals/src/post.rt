@@ -46,11 +46,20 @@ type Putter<N, R> = Sender<u16, u16, (), All, N, R>;
 type Taker<N, R> = Receiver<u16, u16, (), All, N, R>;
 
 /// Two handles and the end that takes.
-#[derive(Drop)]
 struct Mail<N: Naming, R> {
     first: Putter<N, R>,
     second: Putter<N, R>,
     taker: Taker<N, R>,
+}
+
+impl<N: Naming, R: Drop> Drop for Mail<N, R> {
+    fn drop(self) {
+        let Self {
+            first: _,
+            second: _,
+            taker: _,
+        } = self;
+    }
 }
 
 /// What the mailbox shows: the shares of both handles, what was taken, and how many calls of the row's

@@ -38,10 +38,18 @@ type Silent = Engine<
 >;
 
 /// The engine that a script opened. Priorities are off.
-#[derive(Drop)]
 pub struct Peers {
     engine: Silent,
     alloc: Global,
+}
+
+impl Drop for Peers {
+    fn drop(self) {
+        let Self {
+            engine: _,
+            alloc: _,
+        } = self;
+    }
 }
 
 impl Peers {

@@ -19,10 +19,15 @@ enum Machine {
 }
 
 /// The machine that a script opened, and the moment of its next input.
-#[derive(Drop)]
 struct Session {
     machine: Machine,
     now: Moment,
+}
+
+impl Drop for Session {
+    fn drop(self) {
+        let Self { machine: _, now: _ } = self;
+    }
 }
 
 /// Reads the script, feeds its inputs one after another, and prints what comes of each before more
