@@ -2,28 +2,28 @@ use crate::asserts::{equal, holds};
 use resolver_base::base::NonEmptyVec;
 use resolver_base::root::{Delivery, Outcome, Resolution};
 use resolver_demand::delivery::{Aborted, Completion};
-use std::alloc::{AllocError, Global};
+use std::alloc::Global;
+use std::panic::Expect;
 use std::process::Abort;
-use std::test::Fail;
 
-fn copied<T: Clone>(value: &T) -> Result<T, AllocError> {
-    value.clone()
+fn copied<T: Clone>(rt: &impl Abort, value: &T) -> T {
+    value.clone().expect(rt, "memory")
 }
 
 type Over = Completion<u8, u16, u8>;
 
-fn completed(alloc: Global) -> Result<Over, AllocError> {
-    Ok(Completion {
+fn completed(rt: &impl Abort, alloc: Global) -> Over {
+    Completion {
         response: 4,
         context: 3,
         delivery: Delivery {
             key: 1,
-            subscribers: NonEmptyVec::new(alloc, (10, 7))?,
+            subscribers: NonEmptyVec::new(alloc, (10, 7)).expect(rt, "memory"),
         },
         outcome: Some(Outcome::Resolved(Resolution::Complete)),
         canceled: true,
         previously_accepted: false,
-    })
+    }
 }
 
 fn is_same(rt: &impl Abort, same: Over, completion: &Over) {
@@ -32,25 +32,22 @@ fn is_same(rt: &impl Abort, same: Over, completion: &Over) {
     drop(same);
 }
 
-fn compares_clones(rt: &impl Abort, completion: &Over) -> Result<(), AllocError> {
-    is_same(rt, completion.clone()?, completion);
-    is_same(rt, copied(completion)?, completion);
+fn compares_clones(rt: &impl Abort, completion: &Over) {
+    is_same(rt, completion.clone().expect(rt, "memory"), completion);
+    is_same(rt, copied(rt, completion), completion);
     let other = Completion {
         canceled: false,
-        ..completion.clone()?
+        ..completion.clone().expect(rt, "memory")
     };
     holds(rt, other != *completion);
     drop(other);
-    Ok(())
 }
 
 // A clone keeps the marks, which an equality of deliveries doesn't look at.
 #[test]
-fn a_clone_is_the_same(rt: HostRuntime) -> Result<(), Fail> {
-    let completion = completed(rt.alloc())?;
-    let compared = compares_clones(&rt, &completion);
+fn a_clone_is_the_same(rt: HostRuntime) {
+    let completion = completed(&rt, rt.alloc());
+    compares_clones(&rt, &completion);
     drop(completion);
-    compared?;
-    holds(&rt, copied(&Aborted {})? == Aborted {});
-    Ok(())
+    holds(&rt, copied(&rt, &Aborted {}) == Aborted {});
 }

@@ -4,12 +4,13 @@
 //! in few places, so that the tests are proved without what they are.
 
 use crate::asserts::{equal, equal_texts};
-use resolver_base::base::{Fault, NonEmptyVec};
+use resolver_base::base::NonEmptyVec;
 use resolver_base::root::{Delivery, Outcome, Resolution};
 use resolver_demand::delivery::{Aborted, Completion, Entries};
 use std::alloc::Global;
-use std::fmt::Write;
-use std::test::Fail;
+use std::fmt::{Debug, Write};
+use std::panic::Expect;
+use std::process::Abort;
 
 type Tracked = Entries<u16, u16, u8, u64, ()>;
 
@@ -54,25 +55,23 @@ enum Look {
 
 // The calls promise nothing, so that their callers are proved without what entries are.
 
-fn insert(entries: &mut Tracked, key: u16) -> Result<bool, Fault> {
-    entries.insert(key)
+fn insert(rt: &impl Abort, entries: &mut Tracked, key: u16) -> bool {
+    entries.insert(key).expect(rt, "memory")
 }
 
-fn insert_new(entries: &mut Tracked, key: u16) -> Result<(), Fail> {
-    if entries.contains(&key) {
-        return Err(Fail::from("a key that is there"));
-    }
-    Ok(entries.insert_new(key, ())?)
+fn insert_new(rt: &impl Abort, entries: &mut Tracked, key: u16) {
+    assert!(rt; !entries.contains(&key));
+    entries.insert_new(key, ()).expect(rt, "memory");
 }
 
-fn insert_below(entries: &mut Tracked, end: u16) -> Result<u16, Fault> {
+fn insert_below(rt: &impl Abort, entries: &mut Tracked, end: u16) -> u16 {
     let mut count = 0u16;
     for key in 0..end {
-        if entries.insert(key)? {
+        if insert(rt, entries, key) {
             count = count.wrapping_add(1);
         }
     }
-    Ok(count)
+    count
 }
 
 fn remove(entries: &mut Tracked, key: u16) -> bool {
@@ -94,33 +93,30 @@ fn contains(entries: &Tracked, key: u16) -> bool {
 }
 
 /// A delivery for subscriber 10.
-fn delivery(alloc: Global, key: u16) -> Result<Delivery<u16, u16>, Fault> {
-    let subscribers = NonEmptyVec::new(alloc, (10, 7))?;
-    Ok(Delivery { key, subscribers })
+fn delivery(rt: &impl Abort, alloc: Global, key: u16) -> Delivery<u16, u16> {
+    let subscribers = NonEmptyVec::new(alloc, (10, 7)).expect(rt, "memory");
+    Delivery { key, subscribers }
 }
 
-fn deliver(entries: &mut Tracked, alloc: Global, key: u16, context: u64) -> Result<u64, Fail> {
-    let delivery = delivery(alloc, key)?;
-    if !entries.contains(&delivery.key) || entries.number(&delivery.key).is_some() {
-        return Err(Fail::from("a key that isn't free"));
-    }
-    Ok(entries.deliver(delivery, context, 5)?)
+fn deliver(rt: &impl Abort, alloc: Global, entries: &mut Tracked, key: u16, context: u64) -> u64 {
+    let delivery = delivery(rt, alloc, key);
+    assert!(rt; entries.contains(&delivery.key));
+    assert!(rt; entries.number(&delivery.key).is_none());
+    entries
+        .deliver(delivery, context, 5)
+        .expect(rt, "a delivery")
 }
 
-fn redeliver(entries: &mut Tracked, alloc: Global, key: u16) -> Result<u64, Fail> {
-    let delivery = delivery(alloc, key)?;
-    if entries.response(&delivery.key).is_none() || entries.number(&delivery.key).is_some() {
-        return Err(Fail::from("a key without a response, or that isn't free"));
-    }
-    Ok(entries.redeliver(delivery)?)
+fn redeliver(rt: &impl Abort, alloc: Global, entries: &mut Tracked, key: u16) -> u64 {
+    let delivery = delivery(rt, alloc, key);
+    assert!(rt; entries.response(&delivery.key).is_some());
+    assert!(rt; entries.number(&delivery.key).is_none());
+    entries.redeliver(delivery).expect(rt, "a delivery")
 }
 
-fn accept(entries: &mut Tracked, key: u16) -> Result<(), Fail> {
-    if entries.response(&key).is_none() {
-        return Err(Fail::from("a key without a response"));
-    }
+fn accept(rt: &impl Abort, entries: &mut Tracked, key: u16) {
+    assert!(rt; entries.response(&key).is_some());
     entries.accept_response(&key);
-    Ok(())
 }
 
 fn discard(entries: &mut Tracked, key: u16) {
@@ -174,100 +170,94 @@ fn clear(entries: &mut Tracked) {
 }
 
 /// Writes the keys.
-fn spell_keys(text: &mut String, entries: &Tracked) -> Result<(), Fail> {
+fn spell_keys(rt: &impl Abort, text: &mut String, entries: &Tracked) {
     for (key, _) in entries.iter() {
-        write!(text, " {key}")?;
+        write!(text, " {key}").expect(rt, "memory");
     }
-    Ok(())
 }
 
 /// Writes what is known of a delivery that is over.
-fn spell_over(text: &mut String, over: Over) -> Result<(), Fail> {
+fn spell_over(rt: &impl Abort, text: &mut String, over: Over) {
     match over {
         Ok(completion) => {
-            let spelled = spell_completion(text, &completion);
+            spell_completion(rt, text, &completion);
             drop(completion);
-            spelled
         }
-        Err(Aborted {}) => Ok(write!(text, " aborted")?),
+        Err(Aborted {}) => write!(text, " aborted").expect(rt, "memory"),
     }
 }
 
-fn spell_completion(text: &mut String, over: &Completion<u16, u16, u64>) -> Result<(), Fail> {
+fn spell_completion(rt: &impl Abort, text: &mut String, over: &Completion<u16, u16, u64>) {
     let marks = *over.delivery.subscribers.first();
-    write!(text, " response {} of {}", over.response, over.context)?;
+    write!(text, " response {} of {}", over.response, over.context).expect(rt, "memory");
     write!(
         text,
         " key {} {marks:?} {:?}",
         over.delivery.key, over.outcome
-    )?;
-    write!(text, " {} {}", over.canceled, over.previously_accepted)?;
-    Ok(())
+    )
+    .expect(rt, "memory");
+    write!(text, " {} {}", over.canceled, over.previously_accepted).expect(rt, "memory");
 }
 
-fn spell_flag(text: &mut String, flag: bool) -> Result<(), Fail> {
-    Ok(write!(text, " {flag}")?)
+fn spell_flag(rt: &impl Abort, text: &mut String, flag: bool) {
+    write!(text, " {flag}").expect(rt, "memory");
 }
 
-fn spell_number(text: &mut String, number: Option<u64>) -> Result<(), Fail> {
-    Ok(write!(text, " {number:?}")?)
+fn spell_value(rt: &impl Abort, text: &mut String, value: &impl Debug) {
+    write!(text, " {value:?}").expect(rt, "memory");
 }
 
 /// Makes a call that changes something, and writes what it answers.
-fn change(text: &mut String, entries: &mut Tracked, call: Call) -> Result<(), Fail> {
+fn change(rt: &impl Abort, text: &mut String, entries: &mut Tracked, call: Call) {
     let alloc = *text.allocator();
     match call {
-        Call::Insert(key) => spell_flag(text, insert(entries, key)?)?,
-        Call::InsertNew(key) => insert_new(entries, key)?,
-        Call::InsertBelow(end) => write!(text, " {}", insert_below(entries, end)?)?,
-        Call::Remove(key) => spell_flag(text, remove(entries, key))?,
-        Call::Take(key) => write!(text, " {:?}", take(entries, key))?,
-        Call::Deliver(key, of) => write!(text, " {}", deliver(entries, alloc, key, of)?)?,
-        Call::Redeliver(key) => write!(text, " {}", redeliver(entries, alloc, key)?)?,
-        Call::Accept(key) => accept(entries, key)?,
+        Call::Insert(key) => spell_flag(rt, text, insert(rt, entries, key)),
+        Call::InsertNew(key) => insert_new(rt, entries, key),
+        Call::InsertBelow(end) => spell_value(rt, text, &insert_below(rt, entries, end)),
+        Call::Remove(key) => spell_flag(rt, text, remove(entries, key)),
+        Call::Take(key) => spell_value(rt, text, &take(entries, key)),
+        Call::Deliver(key, of) => spell_value(rt, text, &deliver(rt, alloc, entries, key, of)),
+        Call::Redeliver(key) => spell_value(rt, text, &redeliver(rt, alloc, entries, key)),
+        Call::Accept(key) => accept(rt, entries, key),
         Call::Discard(key) => discard(entries, key),
-        Call::Complete(number, verdict) => spell_over(text, complete(entries, number, verdict))?,
-        Call::Retain(end) => write!(text, " {}", retain(entries, end))?,
-        Call::Drain => write!(text, " {}", drain(entries))?,
+        Call::Complete(number, verdict) => spell_over(rt, text, complete(entries, number, verdict)),
+        Call::Retain(end) => spell_value(rt, text, &retain(entries, end)),
+        Call::Drain => spell_value(rt, text, &drain(entries)),
         Call::Clear => clear(entries),
-        Call::Look(look) => spell_look(text, entries, look)?,
+        Call::Look(look) => spell_look(rt, text, entries, look),
     }
-    Ok(())
 }
 
 /// Writes what is seen.
-fn spell_look(text: &mut String, entries: &Tracked, look: Look) -> Result<(), Fail> {
+fn spell_look(rt: &impl Abort, text: &mut String, entries: &Tracked, look: Look) {
     match look {
-        Look::Contains(key) => spell_flag(text, contains(entries, key))?,
-        Look::IsAccepted(key) => spell_flag(text, is_accepted(entries, key))?,
-        Look::Response(key) => write!(text, " {:?}", response(entries, key))?,
-        Look::Number(key) => spell_number(text, number(entries, key))?,
-        Look::Open(number) => write!(text, " {:?}", open(entries, number))?,
-        Look::Entry(key) => write!(text, " {:?}", entry(entries, key))?,
-        Look::Keys => spell_keys(text, entries)?,
+        Look::Contains(key) => spell_flag(rt, text, contains(entries, key)),
+        Look::IsAccepted(key) => spell_flag(rt, text, is_accepted(entries, key)),
+        Look::Response(key) => spell_value(rt, text, &response(entries, key)),
+        Look::Number(key) => spell_value(rt, text, &number(entries, key)),
+        Look::Open(number) => spell_value(rt, text, &open(entries, number)),
+        Look::Entry(key) => spell_value(rt, text, &entry(entries, key)),
+        Look::Keys => spell_keys(rt, text, entries),
     }
-    Ok(())
 }
 
-fn change_all(text: &mut String, entries: &mut Tracked, calls: &[Call]) -> Result<(), Fail> {
+fn change_all(rt: &impl Abort, text: &mut String, entries: &mut Tracked, calls: &[Call]) {
     for call in calls {
-        change(text, entries, *call)?;
+        change(rt, text, entries, *call);
     }
-    Ok(())
 }
 
 /// What calls of new entries answer.
-fn told(alloc: Global, calls: &[Call]) -> Result<String, Fail> {
+fn told(rt: &impl Abort, alloc: Global, calls: &[Call]) -> String {
     let mut text = String::new(alloc);
     let mut entries = Entries::new(alloc);
-    let changed = change_all(&mut text, &mut entries, calls);
+    change_all(rt, &mut text, &mut entries, calls);
     drop(entries);
-    changed?;
-    Ok(text)
+    text
 }
 
 #[test]
-fn entries(rt: HostRuntime) -> Result<(), Fail> {
+fn entries(rt: HostRuntime) {
     const CALLS: &[Call] = &[
         Call::Look(Look::Contains(1)),
         Call::Insert(1),
@@ -279,14 +269,13 @@ fn entries(rt: HostRuntime) -> Result<(), Fail> {
     ];
     equal_texts(
         &rt,
-        told(rt.alloc(), CALLS)?.as_str(),
+        told(&rt, rt.alloc(), CALLS).as_str(),
         " false true true false true false false",
     );
-    Ok(())
 }
 
 #[test]
-fn caches_a_response(rt: HostRuntime) -> Result<(), Fail> {
+fn caches_a_response(rt: HostRuntime) {
     const CALLS: &[Call] = &[
         Call::Insert(1),
         Call::Look(Look::IsAccepted(1)),
@@ -303,10 +292,9 @@ fn caches_a_response(rt: HostRuntime) -> Result<(), Fail> {
     ];
     equal_texts(
         &rt,
-        told(rt.alloc(), CALLS)?.as_str(),
+        told(&rt, rt.alloc(), CALLS).as_str(),
         " true false 0 Some(0) false true Some((0, 5, 40)) Some((0, 1, 40, false)) None false",
     );
-    Ok(())
 }
 
 const COMPLETE: Option<Outcome> = Some(Outcome::Resolved(Resolution::Complete));
@@ -316,7 +304,7 @@ const INVALID: Option<Outcome> = Some(Outcome::Invalid);
 const IGNORED: Option<Outcome> = Some(Outcome::Ignored);
 
 /// A delivery's number is closed twice.
-fn completed_twice(alloc: Global, verdict: Option<Outcome>) -> Result<String, Fail> {
+fn completed_twice(rt: &impl Abort, alloc: Global, verdict: Option<Outcome>) -> String {
     let calls = [
         Call::Insert(1),
         Call::Deliver(1, 40),
@@ -324,11 +312,11 @@ fn completed_twice(alloc: Global, verdict: Option<Outcome>) -> Result<String, Fa
         Call::Complete(0, verdict),
         Call::Look(Look::Number(1)),
     ];
-    told(alloc, &calls)
+    told(rt, alloc, &calls)
 }
 
 /// The same where its key is removed meanwhile.
-fn completed_without_a_key(alloc: Global, verdict: Option<Outcome>) -> Result<String, Fail> {
+fn completed_without_a_key(rt: &impl Abort, alloc: Global, verdict: Option<Outcome>) -> String {
     let calls = [
         Call::Insert(1),
         Call::Deliver(1, 40),
@@ -337,11 +325,11 @@ fn completed_without_a_key(alloc: Global, verdict: Option<Outcome>) -> Result<St
         Call::Complete(0, verdict),
         Call::Look(Look::Number(1)),
     ];
-    told(alloc, &calls)
+    told(rt, alloc, &calls)
 }
 
 /// The same where its key is removed and comes back.
-fn completed_for_another(alloc: Global, verdict: Option<Outcome>) -> Result<String, Fail> {
+fn completed_for_another(rt: &impl Abort, alloc: Global, verdict: Option<Outcome>) -> String {
     let calls = [
         Call::Insert(1),
         Call::Deliver(1, 40),
@@ -351,61 +339,58 @@ fn completed_for_another(alloc: Global, verdict: Option<Outcome>) -> Result<Stri
         Call::Complete(0, verdict),
         Call::Look(Look::Number(1)),
     ];
-    told(alloc, &calls)
+    told(rt, alloc, &calls)
 }
 
 #[test]
-fn completes(rt: HostRuntime) -> Result<(), Fail> {
+fn completes(rt: HostRuntime) {
     equal_texts(
         &rt,
-        completed_twice(rt.alloc(), COMPLETE)?.as_str(),
+        completed_twice(&rt, rt.alloc(), COMPLETE).as_str(),
         " true 0 response 0 of 40 key 1 (10, 7) Some(Resolved(Complete)) false false aborted None",
     );
     equal_texts(
         &rt,
-        completed_twice(rt.alloc(), None)?.as_str(),
+        completed_twice(&rt, rt.alloc(), None).as_str(),
         " true 0 response 0 of 40 key 1 (10, 7) None false false aborted None",
     );
     equal_texts(
         &rt,
-        completed_twice(rt.alloc(), INVALID)?.as_str(),
+        completed_twice(&rt, rt.alloc(), INVALID).as_str(),
         " true 0 response 0 of 40 key 1 (10, 7) Some(Invalid) false false aborted None",
     );
-    Ok(())
 }
 
 #[test]
-fn completes_what_was_removed(rt: HostRuntime) -> Result<(), Fail> {
+fn completes_what_was_removed(rt: HostRuntime) {
     equal_texts(
         &rt,
-        completed_without_a_key(rt.alloc(), COMPLETE)?.as_str(),
+        completed_without_a_key(&rt, rt.alloc(), COMPLETE).as_str(),
         " true 0 true response 0 of 40 key 1 (10, 7) Some(Resolved(Complete)) true false aborted None",
     );
     equal_texts(
         &rt,
-        completed_without_a_key(rt.alloc(), None)?.as_str(),
+        completed_without_a_key(&rt, rt.alloc(), None).as_str(),
         " true 0 true aborted aborted None",
     );
-    Ok(())
 }
 
 #[test]
-fn completes_what_was_removed_and_tracked_again(rt: HostRuntime) -> Result<(), Fail> {
+fn completes_what_was_removed_and_tracked_again(rt: HostRuntime) {
     equal_texts(
         &rt,
-        completed_for_another(rt.alloc(), IGNORED)?.as_str(),
+        completed_for_another(&rt, rt.alloc(), IGNORED).as_str(),
         " true 0 true true response 0 of 40 key 1 (10, 7) Some(Ignored) true false aborted None",
     );
     equal_texts(
         &rt,
-        completed_for_another(rt.alloc(), None)?.as_str(),
+        completed_for_another(&rt, rt.alloc(), None).as_str(),
         " true 0 true true aborted aborted None",
     );
-    Ok(())
 }
 
 #[test]
-fn tells_a_new_delivery_from_an_old_one(rt: HostRuntime) -> Result<(), Fail> {
+fn tells_a_new_delivery_from_an_old_one(rt: HostRuntime) {
     const CALLS: &[Call] = &[
         Call::Insert(1),
         Call::Deliver(1, 40),
@@ -421,16 +406,15 @@ fn tells_a_new_delivery_from_an_old_one(rt: HostRuntime) -> Result<(), Fail> {
     ];
     equal_texts(
         &rt,
-        told(rt.alloc(), CALLS)?.as_str(),
+        told(&rt, rt.alloc(), CALLS).as_str(),
         " true 0 true true 1 response 0 of 40 key 1 (10, 7) Some(Invalid) true false Some(1) \
         response 1 of 41 key 1 (10, 7) None false false 2 \
         response 1 of 41 key 1 (10, 7) Some(Invalid) false true",
     );
-    Ok(())
 }
 
 #[test]
-fn lets_keys_go(rt: HostRuntime) -> Result<(), Fail> {
+fn lets_keys_go(rt: HostRuntime) {
     const CALLS: &[Call] = &[
         Call::InsertBelow(10),
         Call::Retain(3),
@@ -440,14 +424,13 @@ fn lets_keys_go(rt: HostRuntime) -> Result<(), Fail> {
     ];
     equal_texts(
         &rt,
-        told(rt.alloc(), CALLS)?.as_str(),
+        told(&rt, rt.alloc(), CALLS).as_str(),
         " 10 7 0 1 2 3 false",
     );
-    Ok(())
 }
 
 #[test]
-fn clears_all_but_the_numbers(rt: HostRuntime) -> Result<(), Fail> {
+fn clears_all_but_the_numbers(rt: HostRuntime) {
     const CALLS: &[Call] = &[
         Call::Insert(1),
         Call::Deliver(1, 40),
@@ -461,14 +444,13 @@ fn clears_all_but_the_numbers(rt: HostRuntime) -> Result<(), Fail> {
     ];
     equal_texts(
         &rt,
-        told(rt.alloc(), CALLS)?.as_str(),
+        told(&rt, rt.alloc(), CALLS).as_str(),
         " true 0 Some(Some(0)) None None None true 1",
     );
-    Ok(())
 }
 
 #[test]
-fn gives_what_was_kept_of_a_key(rt: HostRuntime) -> Result<(), Fail> {
+fn gives_what_was_kept_of_a_key(rt: HostRuntime) {
     const CALLS: &[Call] = &[
         Call::InsertNew(1),
         Call::InsertNew(2),
@@ -483,55 +465,55 @@ fn gives_what_was_kept_of_a_key(rt: HostRuntime) -> Result<(), Fail> {
     ];
     equal_texts(
         &rt,
-        told(rt.alloc(), CALLS)?.as_str(),
+        told(&rt, rt.alloc(), CALLS).as_str(),
         " 0 Some((Some(0), Some(5))) false None Some((None, None)) 1 None",
     );
-    Ok(())
 }
 
 type Staged = Entries<u16, u16, u8, u64, u32>;
 
 /// A key is put with a state twice, and then states are set, of it and of a key that isn't there: whether
 /// it was new, and the states that are there.
-fn stages(entries: &mut Staged) -> Result<([bool; 2], [Option<u32>; 3]), Fault> {
-    let new = [entries.insert_state(1, 20)?, entries.insert_state(1, 30)?];
+fn stages(rt: &impl Abort, entries: &mut Staged) -> ([bool; 2], [Option<u32>; 3]) {
+    let new = [
+        entries.insert_state(1, 20).expect(rt, "memory"),
+        entries.insert_state(1, 30).expect(rt, "memory"),
+    ];
     let first = entries.state(&1).copied();
     entries.set_state(&1, 40);
     entries.set_state(&2, 50);
-    Ok((
+    (
         new,
         [
             first,
             entries.state(&1).copied(),
             entries.state(&2).copied(),
         ],
-    ))
+    )
 }
 
-fn staged(alloc: Global) -> Result<([bool; 2], [Option<u32>; 3]), Fault> {
+fn staged(rt: &impl Abort, alloc: Global) -> ([bool; 2], [Option<u32>; 3]) {
     let mut entries = Entries::new(alloc);
-    let seen = stages(&mut entries);
+    let seen = stages(rt, &mut entries);
     drop(entries);
     seen
 }
 
 #[test]
-fn keeps_a_state(rt: HostRuntime) -> Result<(), Fail> {
+fn keeps_a_state(rt: HostRuntime) {
     equal(
         &rt,
-        &staged(rt.alloc())?,
+        &staged(&rt, rt.alloc()),
         &([true, false], [Some(20), Some(40), None]),
     );
-    Ok(())
 }
 
 /// Opens a delivery of each key below 10,000.
-fn deliver_each(alloc: Global, entries: &mut Tracked) -> Result<(), Fail> {
+fn deliver_each(rt: &impl Abort, alloc: Global, entries: &mut Tracked) {
     for key in 0..10_000u16 {
-        insert(entries, key)?;
-        deliver(entries, alloc, key, 0)?;
+        insert(rt, entries, key);
+        deliver(rt, alloc, entries, key, 0);
     }
-    Ok(())
 }
 
 /// Closes them from the last on, and counts those that are answered.
@@ -547,22 +529,21 @@ fn complete_backwards(entries: &mut Tracked) -> u64 {
 
 /// How many of ten thousand deliveries were open, whether the first is open then, and under which number
 /// the last key is judged.
-fn close_each(alloc: Global, entries: &mut Tracked) -> Result<(u64, bool, Option<u64>), Fail> {
-    deliver_each(alloc, entries)?;
+fn close_each(rt: &impl Abort, alloc: Global, entries: &mut Tracked) -> (u64, bool, Option<u64>) {
+    deliver_each(rt, alloc, entries);
     let count = complete_backwards(entries);
-    Ok((count, open(entries, 0).is_some(), number(entries, 9_999)))
+    (count, open(entries, 0).is_some(), number(entries, 9_999))
 }
 
 /// The same of new entries.
-fn ten_thousand(alloc: Global) -> Result<(u64, bool, Option<u64>), Fail> {
+fn ten_thousand(rt: &impl Abort, alloc: Global) -> (u64, bool, Option<u64>) {
     let mut entries = Entries::new(alloc);
-    let seen = close_each(alloc, &mut entries);
+    let seen = close_each(rt, alloc, &mut entries);
     drop(entries);
     seen
 }
 
 #[test]
-fn closes_ten_thousand_backwards(rt: HostRuntime) -> Result<(), Fail> {
-    equal(&rt, &ten_thousand(rt.alloc())?, &(10_000, false, None));
-    Ok(())
+fn closes_ten_thousand_backwards(rt: HostRuntime) {
+    equal(&rt, &ten_thousand(&rt, rt.alloc()), &(10_000, false, None));
 }

@@ -3,24 +3,27 @@ ghost use Rattle.std.proofs.Common.{rules};
 
 use crate::asserts::{equal, holds};
 use crate::counting::{Counting, Tally};
-use resolver_base::base::{Fault, NonEmptyVec};
+use resolver_base::base::NonEmptyVec;
 use resolver_base::root::Fetch;
 use resolver_ingress::ingress::{FetchKey, Message, Pending, Predicate, laws};
-use std::alloc::{AllocError, Global};
+use std::alloc::Global;
 use std::cell::Cell;
-use std::test::Fail;
+use std::panic::Expect;
+use std::process::Abort;
 
 /// The key, the first subscriber with its mark, how many there are, and whether any peer may be asked.
 type Told = (u16, (u16, u64), usize, bool);
 
 /// What a fetch of key 1 is for the subscriber 20 with the mark 7.
-fn told_of_one(alloc: Global) -> Result<Told, AllocError> {
+fn told_of_one(rt: &impl Abort, alloc: Global) -> Told {
     let fetch = Fetch {
         key: 1,
         subscriber: 20,
         mark: 7,
     };
-    let item: FetchKey<u16, u16, Option<NonEmptyVec<u16>>> = FetchKey::from_fetch(alloc, fetch)?;
+    let item: FetchKey<u16, u16, Option<NonEmptyVec<u16>>> = FetchKey::from_fetch(
+        alloc, fetch,
+    ).expect(rt, "memory");
     let told = (
         item.key,
         *item.subscribers.first(),
@@ -28,13 +31,12 @@ fn told_of_one(alloc: Global) -> Result<Told, AllocError> {
         item.metadata.is_none(),
     );
     drop(item);
-    Ok(told)
+    told
 }
 
 #[test]
-fn fetch_of_one_subscriber(rt: HostRuntime) -> Result<(), Fail> {
-    equal(&rt, &told_of_one(rt.alloc())?, &(1, (20, 7), 1, true));
-    Ok(())
+fn fetch_of_one_subscriber(rt: HostRuntime) {
+    equal(&rt, &told_of_one(&rt, rt.alloc()), &(1, (20, 7), 1, true));
 }
 
 /// Keeps every subscriber.
@@ -53,18 +55,20 @@ impl<K: Eq> Predicate<K, u16> for All {
 
 /// A fetch of a key for one subscriber.
 fn one<K: Drop>(
+    rt: &impl Abort,
     alloc: Global,
     key: K,
     subscriber: u16,
-) -> Result<Message<K, u16, (), All>, AllocError> {
+) -> Message<K, u16, (), All> {
     let fetch = Fetch {
         key,
         subscriber,
         mark: 0,
     };
     let mut items = Vec::new(alloc);
-    items.push(FetchKey::from_fetch(alloc, fetch)?)?;
-    Ok(Message::Fetch(items))
+    let item = FetchKey::from_fetch(alloc, fetch).expect(rt, "memory");
+    items.push(item).expect(rt, "memory");
+    Message::Fetch(items)
 }
 
 type Plain = Message<u16, u16, (), All>;
@@ -89,59 +93,61 @@ fn first_of(message: &Plain) -> Option<First> {
 }
 
 /// What is told of a message's copy, and whether that is a test.
-fn told_of_copy(alloc: Global, message: &Plain) -> Result<(Option<First>, bool), AllocError> {
-    let copy = message.copy(alloc)?;
+fn told_of_copy(rt: &impl Abort, alloc: Global, message: &Plain) -> (Option<First>, bool) {
+    let copy = message.copy(alloc).expect(rt, "memory");
     let told = (first_of(&copy), matches!(copy, Message::Retain(_)));
     drop(copy);
-    Ok(told)
+    told
 }
 
-fn copied(alloc: Global, message: Plain) -> Result<(Option<First>, bool), AllocError> {
-    let told = told_of_copy(alloc, &message);
+fn copied(rt: &impl Abort, alloc: Global, message: Plain) -> (Option<First>, bool) {
+    let told = told_of_copy(rt, alloc, &message);
     drop(message);
     told
 }
 
 #[test]
-fn message_is_copied(rt: HostRuntime) -> Result<(), Fail> {
+fn message_is_copied(rt: HostRuntime) {
     let alloc = rt.alloc();
-    let (fetches, _) = copied(alloc, one(alloc, 1, 20)?)?;
+    let (fetches, _) = copied(&rt, alloc, one(&rt, alloc, 1, 20));
     equal(&rt, &fetches, &Some((1, 1, (20, 0), 1)));
-    let (_, is_test) = copied(alloc, Message::Retain(All))?;
+    let (_, is_test) = copied(&rt, alloc, Message::Retain(All));
     holds(&rt, is_test);
-    Ok(())
 }
 
 type Waiting<'a> = Pending<Counting<'a>, u16, (), All>;
 
 /// Puts a fetch of a key.
 fn put<'a>(
+    rt: &impl Abort,
     alloc: Global,
     pending: &mut Waiting<'a>,
     key: Counting<'a>,
     subscriber: u16,
-) -> Result<(), Fault> {
-    pending.handle(one(alloc, key, subscriber)?)
+) {
+    let message = one(rt, alloc, key, subscriber);
+    pending.handle(message).expect(rt, "memory");
 }
 
 /// Puts a fetch of each of 10,000 keys, one by one, and says how often keys are looked at.
 fn put_all<'a>(
+    rt: &impl Abort,
     alloc: Global,
     pending: &mut Waiting<'a>,
     looks: &'a Cell<u32>,
     subscriber: u16,
-) -> Result<u32, Fault> {
+) -> u32 {
     for name in 0..10_000u16 {
         let tally = Tally(looks);
-        put(alloc, pending, Counting { tally, name }, subscriber)?;
+        put(rt, alloc, pending, Counting { tally, name }, subscriber);
     }
-    Ok(looks.replace(0))
+    looks.replace(0)
 }
 
 /// Keeps every subscriber, and says how often keys are looked at.
-fn retain_all<'a>(pending: &mut Waiting<'a>, looks: &'a Cell<u32>) -> Result<u32, Fault> {
-    pending.handle(Message::Retain(All))?;
-    Ok(looks.replace(0))
+fn retain_all<'a>(rt: &impl Abort, pending: &mut Waiting<'a>, looks: &'a Cell<u32>) -> u32 {
+    pending.handle(Message::Retain(All)).expect(rt, "memory");
+    looks.replace(0)
 }
 
 /// Whether a test is the first that waits.
@@ -176,29 +182,30 @@ fn pops_fetches(pending: &mut Waiting, place: usize) -> Option<(usize, usize)> {
 type Queued = ([u32; 3], bool, Option<(usize, usize)>);
 
 fn queue_each<'a>(
+    rt: &impl Abort,
     alloc: Global,
     pending: &mut Waiting<'a>,
     looks: &'a Cell<u32>,
-) -> Result<Queued, Fault> {
+) -> Queued {
     let counts = [
-        put_all(alloc, pending, looks, 10)?,
-        put_all(alloc, pending, looks, 11)?,
-        retain_all(pending, looks)?,
+        put_all(rt, alloc, pending, looks, 10),
+        put_all(rt, alloc, pending, looks, 11),
+        retain_all(rt, pending, looks),
     ];
     let is_test = pops_a_test(pending);
-    Ok((counts, is_test, pops_fetches(pending, 9_999)))
+    (counts, is_test, pops_fetches(pending, 9_999))
 }
 
-fn queued(alloc: Global, looks: &Cell<u32>) -> Result<Queued, Fault> {
+fn queued(rt: &impl Abort, alloc: Global, looks: &Cell<u32>) -> Queued {
     let mut pending = Pending::new(alloc);
-    let seen = queue_each(alloc, &mut pending, looks);
+    let seen = queue_each(rt, alloc, &mut pending, looks);
     drop(pending);
     seen
 }
 
 #[test]
-fn each_of_ten_thousand_keys_is_compared_with_few(rt: HostRuntime) -> Result<(), Fail> {
-    let (counts, is_test, fetches) = queued(rt.alloc(), &Cell::new(0))?;
+fn each_of_ten_thousand_keys_is_compared_with_few(rt: HostRuntime) {
+    let (counts, is_test, fetches) = queued(&rt, rt.alloc(), &Cell::new(0));
     let [first, again, kept] = counts;
     holds(&rt, 0 < first);
     holds(&rt, first <= 1_000_000);
@@ -206,12 +213,10 @@ fn each_of_ten_thousand_keys_is_compared_with_few(rt: HostRuntime) -> Result<(),
     holds(&rt, kept <= 1_000_000);
     holds(&rt, is_test);
     equal(&rt, &fetches, &Some((10_000, 2)));
-    Ok(())
 }
 
 #[test]
-fn laws_at_numbers(_rt: HostRuntime) -> Result<(), Fail> {
+fn laws_at_numbers(_rt: HostRuntime) {
     laws::handling_is_right::<u16, u16, (), All>();
     laws::targets_stay::<u16, u16, u32>();
-    Ok(())
 }

@@ -7,12 +7,12 @@ ghost use Rattle.std.specs.Prelude.{nat_le};
 ghost use Rattle.std.proofs.Common.{rules};
 
 use crate::asserts::equal_texts;
-use resolver_base::base::Fault;
 use resolver_base::root::Fetch;
 use resolver_ingress::ingress::{FetchKey, Kept, Message, Pending, Test};
 use std::alloc::Global;
 use std::fmt::Write;
-use std::test::Fail;
+use std::panic::Expect;
+use std::process::Abort;
 
 /// Passes the subscribers of the keys from a first one on.
 #[derive(Drop)]
@@ -53,26 +53,27 @@ enum Call {
 
 // The calls promise nothing, so that their callers are proved without what waits.
 
-fn fetch(pending: &mut Waiting, alloc: Global, key: u16, subscriber: u16) -> Result<(), Fault> {
+fn fetch(rt: &impl Abort, alloc: Global, pending: &mut Waiting, key: u16, subscriber: u16) {
     let fetch = Fetch {
         key,
         subscriber,
         mark: 0,
     };
     let mut items = Vec::new(alloc);
-    items.push(FetchKey::from_fetch(alloc, fetch)?)?;
-    pending.handle(Message::Fetch(items))
+    let item = FetchKey::from_fetch(alloc, fetch).expect(rt, "memory");
+    items.push(item).expect(rt, "memory");
+    pending.handle(Message::Fetch(items)).expect(rt, "memory");
 }
 
-fn fetch_below(pending: &mut Waiting, alloc: Global, end: u16) -> Result<(), Fault> {
+fn fetch_below(rt: &impl Abort, alloc: Global, pending: &mut Waiting, end: u16) {
     for key in 0..end {
-        fetch(pending, alloc, key, 10)?;
+        fetch(rt, alloc, pending, key, 10);
     }
-    Ok(())
 }
 
-fn retain(pending: &mut Waiting, first: u16) -> Result<(), Fault> {
-    pending.handle(Message::Retain(Kept::new(FirstKey(first))))
+fn retain(rt: &impl Abort, pending: &mut Waiting, first: u16) {
+    let kept = Kept::new(FirstKey(first));
+    pending.handle(Message::Retain(kept)).expect(rt, "memory");
 }
 
 fn reject(pending: &mut Waiting) {
@@ -119,91 +120,79 @@ fn is_empty(pending: &Waiting) -> bool {
 }
 
 /// Writes a fetch: its key, and its subscribers with their marks.
-fn spell_item(text: &mut String, item: &FetchKey<u16, u16, ()>) -> Result<(), Fail> {
-    write!(text, " {}", item.key)?;
+fn spell_item(rt: &impl Abort, text: &mut String, item: &FetchKey<u16, u16, ()>) {
+    write!(text, " {}", item.key).expect(rt, "memory");
     for (name, mark) in item.subscribers.as_slice() {
-        write!(text, " {name}:{mark}")?;
+        write!(text, " {name}:{mark}").expect(rt, "memory");
     }
-    Ok(())
 }
 
 /// Writes fetches, with a comma behind each.
-fn spell_items(text: &mut String, items: &[FetchKey<u16, u16, ()>]) -> Result<(), Fail> {
+fn spell_items(rt: &impl Abort, text: &mut String, items: &[FetchKey<u16, u16, ()>]) {
     for item in items {
-        spell_item(text, item)?;
-        write!(text, ",")?;
+        spell_item(rt, text, item);
+        write!(text, ",").expect(rt, "memory");
     }
-    Ok(())
 }
 
 /// Writes a message, or that there is none.
-fn spell(text: &mut String, told: &Option<Told>) -> Result<(), Fail> {
+fn spell(rt: &impl Abort, text: &mut String, told: &Option<Told>) {
     match told {
-        Some(Message::Fetch(items)) => spell_items(text, items.as_slice()),
-        Some(Message::Retain(kept)) => Ok(write!(text, " from {}", kept.test().0)?),
-        None => Ok(write!(text, " none")?),
+        Some(Message::Fetch(items)) => spell_items(rt, text, items.as_slice()),
+        Some(Message::Retain(kept)) => {
+            write!(text, " from {}", kept.test().0).expect(rt, "memory");
+        }
+        None => write!(text, " none").expect(rt, "memory"),
     }
 }
 
 /// Takes what waits first, and writes it.
-fn spell_first(text: &mut String, pending: &mut Waiting) -> Result<(), Fail> {
+fn spell_first(rt: &impl Abort, text: &mut String, pending: &mut Waiting) {
     let told = pop(pending);
-    let spelled = spell(text, &told);
+    spell(rt, text, &told);
     drop(told);
-    spelled
 }
 
-/// Writes how many tests were taken, and the batch.
-fn spell_taken(text: &mut String, tests: usize, batch: &Option<Told>) -> Result<(), Fail> {
-    write!(text, " tests {tests}")?;
-    spell(text, batch)
-}
-
-/// Takes all that waits, and writes it.
-fn spell_all(text: &mut String, pending: &mut Waiting) -> Result<(), Fail> {
+/// Takes all that waits, and writes how many tests there were, and the batch.
+fn spell_all(rt: &impl Abort, text: &mut String, pending: &mut Waiting) {
     let (tests, batch) = take_all(pending);
-    let spelled = spell_taken(text, tests, &batch);
+    write!(text, " tests {tests}").expect(rt, "memory");
+    spell(rt, text, &batch);
     drop(batch);
-    spelled
 }
 
 /// Makes a call, and writes what it answers.
-fn make(text: &mut String, pending: &mut Waiting, call: Call) -> Result<(), Fail> {
+fn make(rt: &impl Abort, text: &mut String, pending: &mut Waiting, call: Call) {
     let alloc = *text.allocator();
     match call {
-        Call::Fetch(key, subscriber) => Ok(fetch(pending, alloc, key, subscriber)?),
-        Call::FetchBelow(end) => Ok(fetch_below(pending, alloc, end)?),
-        Call::Retain(first) => Ok(retain(pending, first)?),
-        Call::Reject => {
-            reject(pending);
-            Ok(())
-        }
-        Call::TakeTests => Ok(write!(text, " tests {}", take_tests(pending))?),
-        Call::TakeAll => spell_all(text, pending),
-        Call::Pop => spell_first(text, pending),
-        Call::IsEmpty => Ok(write!(text, " {}", is_empty(pending))?),
+        Call::Fetch(key, subscriber) => fetch(rt, alloc, pending, key, subscriber),
+        Call::FetchBelow(end) => fetch_below(rt, alloc, pending, end),
+        Call::Retain(first) => retain(rt, pending, first),
+        Call::Reject => reject(pending),
+        Call::TakeTests => write!(text, " tests {}", take_tests(pending)).expect(rt, "memory"),
+        Call::TakeAll => spell_all(rt, text, pending),
+        Call::Pop => spell_first(rt, text, pending),
+        Call::IsEmpty => write!(text, " {}", is_empty(pending)).expect(rt, "memory"),
     }
 }
 
-fn make_all(text: &mut String, pending: &mut Waiting, calls: &[Call]) -> Result<(), Fail> {
+fn make_all(rt: &impl Abort, text: &mut String, pending: &mut Waiting, calls: &[Call]) {
     for call in calls {
-        make(text, pending, *call)?;
+        make(rt, text, pending, *call);
     }
-    Ok(())
 }
 
 /// What the calls answer, of what waits where nothing did.
-fn told(alloc: Global, calls: &[Call]) -> Result<String, Fail> {
+fn told(rt: &impl Abort, alloc: Global, calls: &[Call]) -> String {
     let mut text = String::new(alloc);
     let mut pending = Pending::new(alloc);
-    let made = make_all(&mut text, &mut pending, calls);
+    make_all(rt, &mut text, &mut pending, calls);
     drop(pending);
-    made?;
-    Ok(text)
+    text
 }
 
 #[test]
-fn overflow_rejected_drain(rt: HostRuntime) -> Result<(), Fail> {
+fn overflow_rejected_drain(rt: HostRuntime) {
     const CALLS: &[Call] = &[
         Call::Fetch(2, 10),
         Call::Fetch(1, 20),
@@ -217,14 +206,13 @@ fn overflow_rejected_drain(rt: HostRuntime) -> Result<(), Fail> {
     ];
     equal_texts(
         &rt,
-        told(rt.alloc(), CALLS)?.as_str(),
+        told(&rt, rt.alloc(), CALLS).as_str(),
         " tests 1 tests 0 2 10:0 11:0, 1 20:0, 3 30:0, true",
     );
-    Ok(())
 }
 
 #[test]
-fn overflow_retain(rt: HostRuntime) -> Result<(), Fail> {
+fn overflow_retain(rt: HostRuntime) {
     const CALLS: &[Call] = &[
         Call::FetchBelow(100),
         Call::Retain(99),
@@ -235,14 +223,13 @@ fn overflow_retain(rt: HostRuntime) -> Result<(), Fail> {
     ];
     equal_texts(
         &rt,
-        told(rt.alloc(), CALLS)?.as_str(),
+        told(&rt, rt.alloc(), CALLS).as_str(),
         " tests 1 99 10:0 11:0, 0 12:0, true",
     );
-    Ok(())
 }
 
 #[test]
-fn first_is_taken_by_itself(rt: HostRuntime) -> Result<(), Fail> {
+fn first_is_taken_by_itself(rt: HostRuntime) {
     const CALLS: &[Call] = &[
         Call::Pop,
         Call::Fetch(1, 10),
@@ -254,8 +241,7 @@ fn first_is_taken_by_itself(rt: HostRuntime) -> Result<(), Fail> {
     ];
     equal_texts(
         &rt,
-        told(rt.alloc(), CALLS)?.as_str(),
+        told(&rt, rt.alloc(), CALLS).as_str(),
         " none from 0 1 10:0, 2 20:0, none",
     );
-    Ok(())
 }

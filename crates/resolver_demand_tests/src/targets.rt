@@ -11,7 +11,8 @@ use resolver_base::base::NonEmptyVec;
 use resolver_ingress::ingress::{FetchKey, Message, Metadata, Pending, Predicate};
 use std::alloc::Global;
 use std::fmt::Write;
-use std::test::Fail;
+use std::panic::Expect;
+use std::process::Abort;
 
 type Targets = Option<NonEmptyVec<u16>>;
 
@@ -34,65 +35,63 @@ type Told = Message<u16, u16, Targets, All>;
 type Waiting = Pending<u16, u16, Targets, All>;
 
 /// These peers; with none of them any peer may be asked.
-fn targets(alloc: Global, peers: &[u16]) -> Result<Targets, Fail> {
-    Ok(NonEmptyVec::try_from(peers.to_vec(alloc)?).ok())
+fn targets(rt: &impl Abort, alloc: Global, peers: &[u16]) -> Targets {
+    NonEmptyVec::try_from(peers.to_vec(alloc).expect(rt, "memory")).ok()
 }
 
 /// A fetch of this key for subscriber 10 of these peers.
-fn item(alloc: Global, key: u16, peers: &[u16]) -> Result<FetchKey<u16, u16, Targets>, Fail> {
-    Ok(FetchKey {
+fn item(rt: &impl Abort, alloc: Global, key: u16, peers: &[u16]) -> FetchKey<u16, u16, Targets> {
+    FetchKey {
         key,
-        subscribers: NonEmptyVec::new(alloc, (10, 0))?,
-        metadata: targets(alloc, peers)?,
-    })
+        subscribers: NonEmptyVec::new(alloc, (10, 0)).expect(rt, "memory"),
+        metadata: targets(rt, alloc, peers),
+    }
 }
 
 /// A fetch of key 1 of these peers.
-fn fetch(alloc: Global, peers: &[u16]) -> Result<Told, Fail> {
+fn fetch(rt: &impl Abort, alloc: Global, peers: &[u16]) -> Told {
     let mut items = Vec::new(alloc);
-    items.push(item(alloc, 1, peers)?)?;
-    Ok(Message::Fetch(items))
+    items.push(item(rt, alloc, 1, peers)).expect(rt, "memory");
+    Message::Fetch(items)
 }
 
 /// Fetches of these keys of any peers.
-fn fetches(alloc: Global, keys: &[u16]) -> Result<Told, Fail> {
+fn fetches(rt: &impl Abort, alloc: Global, keys: &[u16]) -> Told {
     let mut items = Vec::new(alloc);
     for key in keys {
-        items.push(item(alloc, *key, &[])?)?;
+        items.push(item(rt, alloc, *key, &[])).expect(rt, "memory");
     }
-    Ok(Message::Fetch(items))
+    Message::Fetch(items)
 }
 
 /// Writes the peers that may be asked.
-fn spell_targets(text: &mut String, targets: &Targets) -> Result<(), Fail> {
+fn spell_targets(rt: &impl Abort, text: &mut String, targets: &Targets) {
     let Some(targets) = targets else {
-        return Ok(write!(text, " any")?);
+        return write!(text, " any").expect(rt, "memory");
     };
     for peer in targets.as_slice() {
-        write!(text, " {peer}")?;
+        write!(text, " {peer}").expect(rt, "memory");
     }
-    Ok(())
 }
 
 /// Writes fetches: each key with its peers.
-fn spell_items(text: &mut String, items: &[FetchKey<u16, u16, Targets>]) -> Result<(), Fail> {
+fn spell_items(rt: &impl Abort, text: &mut String, items: &[FetchKey<u16, u16, Targets>]) {
     for item in items {
-        write!(text, " {} of", item.key)?;
-        spell_targets(text, &item.metadata)?;
+        write!(text, " {} of", item.key).expect(rt, "memory");
+        spell_targets(rt, text, &item.metadata);
     }
-    Ok(())
 }
 
 /// Writes a message.
-fn spell(text: &mut String, told: &Told) -> Result<(), Fail> {
+fn spell(rt: &impl Abort, text: &mut String, told: &Told) {
     match told {
-        Message::Fetch(items) => spell_items(text, items.as_slice()),
-        Message::Retain(_) => Ok(write!(text, " retain")?),
+        Message::Fetch(items) => spell_items(rt, text, items.as_slice()),
+        Message::Retain(_) => write!(text, " retain").expect(rt, "memory"),
     }
 }
 
-fn handle(pending: &mut Waiting, told: Told) -> Result<(), Fail> {
-    Ok(pending.handle(told)?)
+fn handle(rt: &impl Abort, pending: &mut Waiting, told: Told) {
+    pending.handle(told).expect(rt, "memory");
 }
 
 /// Takes what waits by a drain.
@@ -106,155 +105,127 @@ fn drained(pending: &mut Waiting) -> Option<Told> {
 }
 
 /// Hands fetches of key 1 to an overflow.
-fn hand_all(alloc: Global, pending: &mut Waiting, fetches: &[&[u16]]) -> Result<(), Fail> {
+fn hand_all(rt: &impl Abort, alloc: Global, pending: &mut Waiting, fetches: &[&[u16]]) {
     for one in fetches {
-        handle(pending, fetch(alloc, one)?)?;
+        handle(rt, pending, fetch(rt, alloc, one));
     }
     pending.law();
-    Ok(())
 }
 
 /// Writes what a drain takes, where something waits.
-fn spell_drained(text: &mut String, pending: &mut Waiting) -> Result<(), Fail> {
-    match drained(pending) {
-        Some(batch) => {
-            let spelled = spell(text, &batch);
-            drop(batch);
-            spelled
-        }
-        None => Ok(()),
+fn spell_drained(rt: &impl Abort, text: &mut String, pending: &mut Waiting) {
+    if let Some(batch) = drained(pending) {
+        spell(rt, text, &batch);
+        drop(batch);
     }
-}
-
-fn spell_queued(text: &mut String, pending: &mut Waiting, fetches: &[&[u16]]) -> Result<(), Fail> {
-    hand_all(*text.allocator(), pending, fetches)?;
-    spell_drained(text, pending)
 }
 
 /// What a drain gives of an overflow that was handed fetches of key 1 of these peers.
-fn queued(alloc: Global, fetches: &[&[u16]]) -> Result<String, Fail> {
+fn queued(rt: &impl Abort, alloc: Global, fetches: &[&[u16]]) -> String {
     let mut text = String::new(alloc);
     let mut pending = Pending::new(alloc);
-    let spelled = spell_queued(&mut text, &mut pending, fetches);
+    hand_all(rt, alloc, &mut pending, fetches);
+    spell_drained(rt, &mut text, &mut pending);
     drop(pending);
-    spelled?;
-    Ok(text)
+    text
 }
 
 #[test]
-fn overflow_targets(rt: HostRuntime) -> Result<(), Fail> {
-    let joined = queued(rt.alloc(), &[&[2, 3], &[3, 4]])?;
+fn overflow_targets(rt: HostRuntime) {
+    let joined = queued(&rt, rt.alloc(), &[&[2, 3], &[3, 4]]);
     equal_texts(&rt, joined.as_str(), " 1 of 2 3 4");
-    let any = queued(rt.alloc(), &[&[2], &[], &[3]])?;
+    let any = queued(&rt, rt.alloc(), &[&[2], &[], &[3]]);
     equal_texts(&rt, any.as_str(), " 1 of any");
-    Ok(())
 }
 
 /// The copy of these targets.
-fn copied_targets(alloc: Global, peers: &[u16]) -> Result<String, Fail> {
+fn copied_targets(rt: &impl Abort, alloc: Global, peers: &[u16]) -> String {
     let mut text = String::new(alloc);
-    let copy = targets(alloc, peers)?.copy()?;
-    spell_targets(&mut text, &copy)?;
-    Ok(text)
-}
-
-/// Writes the copy of a message.
-fn spell_copy(text: &mut String, told: &Told) -> Result<(), Fail> {
-    match told.copy(*text.allocator()) {
-        Ok(copy) => {
-            let spelled = spell(text, &copy);
-            drop(copy);
-            spelled
-        }
-        Err(error) => Err(error.into()),
-    }
+    let copy = targets(rt, alloc, peers).copy().expect(rt, "memory");
+    spell_targets(rt, &mut text, &copy);
+    text
 }
 
 /// The copy of a message.
-fn copied(alloc: Global, told: Told) -> Result<String, Fail> {
+fn copied(rt: &impl Abort, alloc: Global, told: Told) -> String {
     let mut text = String::new(alloc);
-    let spelled = spell_copy(&mut text, &told);
+    let copy = told.copy(alloc).expect(rt, "memory");
     drop(told);
-    spelled?;
-    Ok(text)
+    spell(rt, &mut text, &copy);
+    drop(copy);
+    text
 }
 
 #[test]
-fn targets_are_copied(rt: HostRuntime) -> Result<(), Fail> {
+fn targets_are_copied(rt: HostRuntime) {
     let alloc = rt.alloc();
-    equal_texts(&rt, copied_targets(alloc, &[2, 3])?.as_str(), " 2 3");
-    equal_texts(&rt, copied_targets(alloc, &[])?.as_str(), " any");
+    equal_texts(&rt, copied_targets(&rt, alloc, &[2, 3]).as_str(), " 2 3");
+    equal_texts(&rt, copied_targets(&rt, alloc, &[]).as_str(), " any");
     equal_texts(
         &rt,
-        copied(alloc, fetch(alloc, &[2, 3])?)?.as_str(),
+        copied(&rt, alloc, fetch(&rt, alloc, &[2, 3])).as_str(),
         " 1 of 2 3",
     );
-    Ok(())
 }
 
 /// What an earlier and a later fetch say together.
-fn merged(alloc: Global, earlier: &[u16], later: &[u16]) -> Result<String, Fail> {
+fn merged(rt: &impl Abort, alloc: Global, earlier: &[u16], later: &[u16]) -> String {
     let mut text = String::new(alloc);
-    let mut all = targets(alloc, earlier)?;
-    all.merge(alloc, targets(alloc, later)?)?;
-    spell_targets(&mut text, &all)?;
-    Ok(text)
+    let mut all = targets(rt, alloc, earlier);
+    all.merge(alloc, targets(rt, alloc, later))
+        .expect(rt, "memory");
+    spell_targets(rt, &mut text, &all);
+    text
 }
 
 #[test]
-fn many_targets_are_joined(rt: HostRuntime) -> Result<(), Fail> {
-    let all = merged(rt.alloc(), &[5], &[9, 8, 7, 6, 5, 4, 3, 4, 5, 6])?;
+fn many_targets_are_joined(rt: HostRuntime) {
+    let all = merged(&rt, rt.alloc(), &[5], &[9, 8, 7, 6, 5, 4, 3, 4, 5, 6]);
     equal_texts(&rt, all.as_str(), " 5 9 8 7 6 4 3");
-    Ok(())
 }
 
 #[test]
-fn nothing_said_stays(rt: HostRuntime) -> Result<(), Fail> {
+fn nothing_said_stays(rt: HostRuntime) {
     let mut all = ();
-    all.merge(rt.alloc(), ())?;
-    equal(&rt, &all.copy()?, &());
-    Ok(())
-}
-
-fn spell_waiting(text: &mut String, pending: &mut Waiting, keys: &[u16]) -> Result<(), Fail> {
-    let alloc = *text.allocator();
-    hand_all(alloc, pending, &[&[]])?;
-    handle(pending, fetches(alloc, keys)?)?;
-    spell_drained(text, pending)
+    all.merge(rt.alloc(), ()).expect(&rt, "memory");
+    equal(&rt, &all.copy().expect(&rt, "memory"), &());
 }
 
 /// What waits once an overflow that has a fetch of key 1 was handed fetches of these keys.
-fn waiting(alloc: Global, keys: &[u16]) -> Result<String, Fail> {
+fn waiting(rt: &impl Abort, alloc: Global, keys: &[u16]) -> String {
     let mut text = String::new(alloc);
     let mut pending = Pending::new(alloc);
-    let spelled = spell_waiting(&mut text, &mut pending, keys);
+    hand_all(rt, alloc, &mut pending, &[&[]]);
+    handle(rt, &mut pending, fetches(rt, alloc, keys));
+    spell_drained(rt, &mut text, &mut pending);
     drop(pending);
-    spelled?;
-    Ok(text)
+    text
 }
 
 #[test]
-fn copies_of_each_length(rt: HostRuntime) -> Result<(), Fail> {
+fn copies_of_each_length(rt: HostRuntime) {
     let alloc = rt.alloc();
     for (keys, seen) in [
         ([].as_slice(), ""),
         ([4].as_slice(), " 4 of any"),
         ([4, 1, 3].as_slice(), " 4 of any 1 of any 3 of any"),
     ] {
-        equal_texts(&rt, copied(alloc, fetches(alloc, keys)?)?.as_str(), seen);
+        equal_texts(
+            &rt,
+            copied(&rt, alloc, fetches(&rt, alloc, keys)).as_str(),
+            seen,
+        );
     }
-    Ok(())
 }
 
 #[test]
-fn messages_of_each_length(rt: HostRuntime) -> Result<(), Fail> {
+fn messages_of_each_length(rt: HostRuntime) {
     let alloc = rt.alloc();
     for (keys, seen) in [
         ([].as_slice(), " 1 of any"),
         ([4].as_slice(), " 1 of any 4 of any"),
         ([4, 1, 3].as_slice(), " 1 of any 4 of any 3 of any"),
     ] {
-        equal_texts(&rt, waiting(alloc, keys)?.as_str(), seen);
+        equal_texts(&rt, waiting(&rt, alloc, keys).as_str(), seen);
     }
-    Ok(())
 }
