@@ -10,6 +10,7 @@ use resolver_base::base::{Check, Fault, NonEmptyVec, PrioritySet};
 use resolver_fetch::fetcher::Answer::{self, Checked, Drawn, Sent};
 use resolver_fetch::fetcher::{Ask, Config, Fetcher, ID};
 use std::alloc::Global;
+use std::panic::Expect;
 use std::process::Abort;
 
 /// A call. A moment is `at`, or stands alone.
@@ -152,12 +153,12 @@ pub fn delayed(delay: u32) -> Config<u8>
 }
 
 /// These peers.
-pub fn peers_of(alloc: Global, names: &[u8]) -> Result<Vec<u8>, Fault> {
+pub fn peers_of(rt: &impl Abort, alloc: Global, names: &[u8]) -> Vec<u8> {
     let mut peers = Vec::new(alloc);
     for name in names {
-        peers.push(*name)?;
+        peers.push(*name).expect(rt, "memory");
     }
-    Ok(peers)
+    peers
 }
 
 // What a test does and sees goes through calls that promise nothing, so that their callers are
@@ -166,48 +167,42 @@ pub fn peers_of(alloc: Global, names: &[u8]) -> Result<Vec<u8>, Fault> {
 pub type Node = Fetcher<u8, u8>;
 
 /// Takes these peers in place of the latest set.
-pub fn set_peers(alloc: Global, fetcher: &mut Node, names: &[u8]) -> Result<(), Fault> {
-    let peers = peers_of(alloc, names)?;
-    if fetcher.is_scanning() {
-        return Err(Fault::Unasked);
-    }
-    fetcher.reconcile(peers)
+pub fn set_peers(rt: &impl Abort, alloc: Global, fetcher: &mut Node, names: &[u8]) -> Seen {
+    let peers = peers_of(rt, alloc, names);
+    assert!(rt; !fetcher.is_scanning());
+    fetcher.reconcile(peers).expect(rt, "memory");
+    Seen::Done
 }
 
 /// Takes these peers as the ones that are blocked.
-fn set_blocked(alloc: Global, fetcher: &mut Node, names: &[u8]) -> Result<(), Fault> {
-    let peers = peers_of(alloc, names)?;
-    if fetcher.is_scanning() {
-        return Err(Fault::Unasked);
-    }
-    fetcher.set_blocked(peers)
+fn set_blocked(rt: &impl Abort, alloc: Global, fetcher: &mut Node, names: &[u8]) -> Seen {
+    let peers = peers_of(rt, alloc, names);
+    assert!(rt; !fetcher.is_scanning());
+    fetcher.set_blocked(peers).expect(rt, "memory");
+    Seen::Done
 }
 
 /// A key waits from now on.
-fn add_ready(fetcher: &mut Node, key: u8, at: u64) -> Result<(), Fault> {
-    if fetcher.is_scanning() || fetcher.is_waiting(&key) || fetcher.is_asked(&key) {
-        return Err(Fault::Unasked);
-    }
-    fetcher.add_ready(key, u128::from(at))
+fn add_ready(rt: &impl Abort, fetcher: &mut Node, key: u8, at: u64) -> Seen {
+    assert!(rt; !fetcher.is_scanning() && !fetcher.is_waiting(&key) && !fetcher.is_asked(&key));
+    fetcher.add_ready(key, u128::from(at)).expect(rt, "memory");
+    Seen::Done
 }
 
 /// A key waits to be tried again.
-fn add_retry(fetcher: &mut Node, key: u8, at: u64) -> Result<(), Fault> {
-    if fetcher.is_scanning() || fetcher.is_waiting(&key) || fetcher.is_asked(&key) {
-        return Err(Fault::Unasked);
-    }
-    fetcher.add_retry(key, u128::from(at))
+fn add_retry(rt: &impl Abort, fetcher: &mut Node, key: u8, at: u64) -> Seen {
+    assert!(rt; !fetcher.is_scanning() && !fetcher.is_waiting(&key) && !fetcher.is_asked(&key));
+    fetcher.add_retry(key, u128::from(at)).expect(rt, "memory");
+    Seen::Done
 }
 
 /// A key may be asked of these peers too, and of no others.
-fn add_targets(alloc: Global, fetcher: &mut Node, key: u8, names: &[u8]) -> Result<(), Fault> {
-    let Ok(targets) = NonEmptyVec::try_from(peers_of(alloc, names)?) else {
-        return Ok(());
-    };
-    if fetcher.is_scanning() {
-        return Err(Fault::Unasked);
+fn add_targets(rt: &impl Abort, alloc: Global, fetcher: &mut Node, key: u8, names: &[u8]) -> Seen {
+    if let Ok(targets) = NonEmptyVec::try_from(peers_of(rt, alloc, names)) {
+        assert!(rt; !fetcher.is_scanning());
+        fetcher.add_targets(key, targets).expect(rt, "memory");
     }
-    fetcher.add_targets(key, targets)
+    Seen::Done
 }
 
 /// Takes in so many responses of a peer.
@@ -221,10 +216,8 @@ pub fn recorded(fetcher: &mut Node, peer: u8, count: u8, elapsed: u128, bytes: u
 }
 
 /// Begins a scan.
-fn begun(fetcher: &mut Node, at: u64) -> Result<Option<Ask<u8, u8>>, Fault> {
-    if fetcher.is_scanning() {
-        return Err(Fault::Unasked);
-    }
+fn begun(rt: &impl Abort, fetcher: &mut Node, at: u64) -> Result<Option<Ask<u8, u8>>, Fault> {
+    assert!(rt; !fetcher.is_scanning());
     fetcher.scan_begin(u128::from(at))
 }
 
@@ -318,80 +311,61 @@ fn counts(fetcher: &Node) -> Seen {
     )
 }
 
-/// What is seen of a change.
-fn changed(change: Result<(), Fault>) -> Result<Seen, Fault> {
-    change?;
-    Ok(Seen::Done)
-}
-
 /// What is seen of a step of a scan.
-fn stepped(step: Result<Option<Ask<u8, u8>>, Fault>) -> Result<Seen, Fault> {
+fn stepped(step: Result<Option<Ask<u8, u8>>, Fault>) -> Seen {
     match step {
-        Ok(ask) => Ok(asked(ask)),
-        Err(Fault::OutOfMemory) => Err(Fault::OutOfMemory),
-        Err(fault) => Ok(Seen::Refused(fault)),
+        Ok(ask) => asked(ask),
+        Err(fault) => Seen::Refused(fault),
     }
 }
 
 /// Makes a call, and tells what is seen.
-fn made(alloc: Global, fetcher: &mut Node, call: Call) -> Result<Seen, Fault> {
+fn made(rt: &impl Abort, alloc: Global, fetcher: &mut Node, call: Call) -> Seen {
     match call {
-        Call::Peers(names) => changed(set_peers(alloc, fetcher, names)),
-        Call::Blocked(names) => changed(set_blocked(alloc, fetcher, names)),
-        Call::Ready { key, at } => changed(add_ready(fetcher, key, at)),
-        Call::Retry { key, at } => changed(add_retry(fetcher, key, at)),
-        Call::Targets(key, names) => changed(add_targets(alloc, fetcher, key, names)),
+        Call::Peers(names) => set_peers(rt, alloc, fetcher, names),
+        Call::Blocked(names) => set_blocked(rt, alloc, fetcher, names),
+        Call::Ready { key, at } => add_ready(rt, fetcher, key, at),
+        Call::Retry { key, at } => add_retry(rt, fetcher, key, at),
+        Call::Targets(key, names) => add_targets(rt, alloc, fetcher, key, names),
         Call::Record {
             peer,
             count,
             elapsed,
             bytes,
-        } => Ok(recorded(fetcher, peer, count, elapsed, bytes)),
-        Call::Begin(at) => stepped(begun(fetcher, at)),
+        } => recorded(fetcher, peer, count, elapsed, bytes),
+        Call::Begin(at) => stepped(begun(rt, fetcher, at)),
         Call::Answer(answer) => stepped(answered(fetcher, answer)),
-        Call::Response { peer, at } => Ok(Seen::Answered(pop_response(fetcher, peer, at))),
-        Call::Missing(at) => Ok(Seen::Popped(pop_missing(fetcher, at))),
-        Call::Overdue(at) => Ok(Seen::Popped(pop_active(fetcher, u128::from(at)))),
-        Call::WakeUp => Ok(Seen::At(wake_up(fetcher))),
-        Call::Deadline => Ok(Seen::At(deadline(fetcher))),
-        Call::Weight(peer) => Ok(Seen::Weight(weight(fetcher, peer))),
-        Call::Phase(key) => Ok(phase(fetcher, key)),
-        Call::Queues => Ok(queues(fetcher)),
-        Call::TargetsOf(key) => Ok(Seen::Last(last_target(fetcher, key))),
-        Call::HasTargets(key) => Ok(Seen::Is(has_targets(fetcher, key))),
-        Call::Counts => Ok(counts(fetcher)),
+        Call::Response { peer, at } => Seen::Answered(pop_response(fetcher, peer, at)),
+        Call::Missing(at) => Seen::Popped(pop_missing(fetcher, at)),
+        Call::Overdue(at) => Seen::Popped(pop_active(fetcher, u128::from(at))),
+        Call::WakeUp => Seen::At(wake_up(fetcher)),
+        Call::Deadline => Seen::At(deadline(fetcher)),
+        Call::Weight(peer) => Seen::Weight(weight(fetcher, peer)),
+        Call::Phase(key) => phase(fetcher, key),
+        Call::Queues => queues(fetcher),
+        Call::TargetsOf(key) => Seen::Last(last_target(fetcher, key)),
+        Call::HasTargets(key) => Seen::Is(has_targets(fetcher, key)),
+        Call::Counts => counts(fetcher),
     }
 }
 
 /// Makes calls, and compares what is seen at each.
-pub fn goes_on(
-    rt: &impl Abort,
-    alloc: Global,
-    fetcher: &mut Node,
-    calls: &[(Call, Seen)],
-) -> Result<(), Fault> {
+pub fn goes_on(rt: &impl Abort, alloc: Global, fetcher: &mut Node, calls: &[(Call, Seen)]) {
     for (place, (call, seen)) in calls.iter().enumerate() {
-        assert_eq!(rt; made(alloc, fetcher, *call)?, *seen, "at place {place}");
+        assert_eq!(rt; made(rt, alloc, fetcher, *call), *seen, "at place {place}");
     }
-    Ok(())
 }
 
 /// Makes calls of a new fetcher, and compares what is seen at each.
-pub fn goes(rt: &impl Abort, alloc: Global, calls: &[(Call, Seen)]) -> Result<(), Fault> {
-    goes_after(rt, alloc, 10, calls)
+pub fn goes(rt: &impl Abort, alloc: Global, calls: &[(Call, Seen)]) {
+    goes_after(rt, alloc, 10, calls);
 }
 
 /// The same with another delay.
-pub fn goes_after(
-    rt: &impl Abort,
-    alloc: Global,
-    delay: u32,
-    calls: &[(Call, Seen)],
-) -> Result<(), Fault> {
+pub fn goes_after(rt: &impl Abort, alloc: Global, delay: u32, calls: &[(Call, Seen)]) {
     let mut fetcher = Fetcher::new(alloc, delayed(delay));
-    let ended = goes_on(rt, alloc, &mut fetcher, calls);
+    goes_on(rt, alloc, &mut fetcher, calls);
     drop(fetcher);
-    ended
 }
 
 /// What is seen once the scan is told this number.

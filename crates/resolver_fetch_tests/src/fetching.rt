@@ -8,13 +8,11 @@ ghost use Rattle.resolver_fetch.specs.Fetcher.{IsTimely};
 
 use crate::keys::Key;
 use bytes::Bytes;
-use resolver_base::base::{
-    Check, Draws, Fault, Feedback, NonEmptyVec, PublicKey, Sender, Unreliable,
-};
+use resolver_base::base::{Check, Draws, Feedback, NonEmptyVec, PublicKey, Sender, Unreliable};
 use resolver_fetch::fetcher::{Config, Fetcher, ID};
 use std::alloc::Global;
+use std::panic::Expect;
 use std::process::Abort;
-use std::test::Fail;
 
 /// A name of one byte.
 #[derive(Clone, Copy, Debug, PartialEq, Eq, PartialOrd, Ord, Hash)]
@@ -161,72 +159,68 @@ type Node = Fetcher<Key, Peer>;
 // proved without what a fetcher is. One that a fetcher may not be given now ends the test.
 
 /// These peers.
-fn named(alloc: Global, names: &[u8]) -> Result<Vec<Peer>, Fault> {
+fn named(rt: &impl Abort, alloc: Global, names: &[u8]) -> Vec<Peer> {
     let mut peers = Vec::new(alloc);
     for name in names {
-        peers.push(Peer(*name))?;
+        peers.push(Peer(*name)).expect(rt, "memory");
     }
-    Ok(peers)
+    peers
 }
 
 /// Takes these peers in place of the latest set.
-fn set_peers(alloc: Global, fetcher: &mut Node, names: &[u8]) -> Result<(), Fault> {
-    let peers = named(alloc, names)?;
-    if fetcher.is_scanning() {
-        return Err(Fault::Unasked);
-    }
-    fetcher.reconcile(peers)
+fn set_peers(rt: &impl Abort, alloc: Global, fetcher: &mut Node, names: &[u8]) -> Seen {
+    let peers = named(rt, alloc, names);
+    assert!(rt; !fetcher.is_scanning());
+    fetcher.reconcile(peers).expect(rt, "memory");
+    Seen::Done
 }
 
 /// Takes these peers as the ones that are blocked.
-fn set_blocked(alloc: Global, fetcher: &mut Node, names: &[u8]) -> Result<(), Fault> {
-    let peers = named(alloc, names)?;
-    if fetcher.is_scanning() {
-        return Err(Fault::Unasked);
-    }
-    fetcher.set_blocked(peers)
+fn set_blocked(rt: &impl Abort, alloc: Global, fetcher: &mut Node, names: &[u8]) -> Seen {
+    let peers = named(rt, alloc, names);
+    assert!(rt; !fetcher.is_scanning());
+    fetcher.set_blocked(peers).expect(rt, "memory");
+    Seen::Done
 }
 
 /// The key waits from now on.
-fn add_ready(fetcher: &mut Node, at: u64) -> Result<(), Fault> {
-    if fetcher.is_scanning() || fetcher.is_waiting(&KEY) || fetcher.is_asked(&KEY) {
-        return Err(Fault::Unasked);
-    }
-    fetcher.add_ready(KEY, u128::from(at))
+fn add_ready(rt: &impl Abort, fetcher: &mut Node, at: u64) -> Seen {
+    assert!(rt; !fetcher.is_scanning() && !fetcher.is_waiting(&KEY) && !fetcher.is_asked(&KEY));
+    fetcher.add_ready(KEY, u128::from(at)).expect(rt, "memory");
+    Seen::Done
 }
 
 /// The key waits to be tried again.
-fn add_retry(fetcher: &mut Node, at: u64) -> Result<(), Fault> {
-    if fetcher.is_scanning() || fetcher.is_waiting(&KEY) || fetcher.is_asked(&KEY) {
-        return Err(Fault::Unasked);
-    }
-    fetcher.add_retry(KEY, u128::from(at))
+fn add_retry(rt: &impl Abort, fetcher: &mut Node, at: u64) -> Seen {
+    assert!(rt; !fetcher.is_scanning() && !fetcher.is_waiting(&KEY) && !fetcher.is_asked(&KEY));
+    fetcher.add_retry(KEY, u128::from(at)).expect(rt, "memory");
+    Seen::Done
 }
 
 /// The key may be asked of this peer alone.
-fn add_target(alloc: Global, fetcher: &mut Node, name: u8) -> Result<(), Fault> {
-    let targets = NonEmptyVec::new(alloc, Peer(name))?;
-    if fetcher.is_scanning() {
-        return Err(Fault::Unasked);
-    }
-    fetcher.add_targets(KEY, targets)
+fn add_target(rt: &impl Abort, alloc: Global, fetcher: &mut Node, name: u8) -> Seen {
+    let targets = NonEmptyVec::new(alloc, Peer(name)).expect(rt, "memory");
+    assert!(rt; !fetcher.is_scanning());
+    fetcher.add_targets(KEY, targets).expect(rt, "memory");
+    Seen::Done
 }
 
 /// Fetches. The calls are these, and no others.
 fn fetch(
+    rt: &impl Abort,
     fetcher: &mut Node,
     network: &mut Network,
     numbers: &mut Numbers,
     at: u64,
-) -> Result<(), Fault> {
-    if fetcher.is_scanning() {
-        return Err(Fault::Unasked);
-    }
-    fetcher.fetch(network, numbers, u128::from(at))
+) {
+    assert!(rt; !fetcher.is_scanning());
+    fetcher
+        .fetch(network, numbers, u128::from(at))
+        .expect(rt, "memory");
 }
 
 /// Fetches, and compares the calls that the fetch makes.
-fn fetches(rt: &impl Abort, fetcher: &mut Node, at: u64, script: Script) -> Result<(), Fault> {
+fn fetches(rt: &impl Abort, fetcher: &mut Node, at: u64, script: Script) -> Seen {
     let mut network = Network {
         checks: script.checks,
         checked: 0,
@@ -239,13 +233,13 @@ fn fetches(rt: &impl Abort, fetcher: &mut Node, at: u64, script: Script) -> Resu
         drawn: 0,
         is_right: true,
     };
-    fetch(fetcher, &mut network, &mut numbers, at)?;
+    fetch(rt, fetcher, &mut network, &mut numbers, at);
     assert!(rt; network.is_right && numbers.is_right);
     assert_eq!(rt; network.checked, script.checks.len());
     assert_eq!(rt; network.sent, script.sends.len());
     assert_eq!(rt; numbers.drawn, script.draws.len());
     assert!(rt; !is_scanning(fetcher));
-    Ok(())
+    Seen::Done
 }
 
 /// Whether a scan is open.
@@ -294,49 +288,36 @@ fn weight(fetcher: &Node, peer: u8) -> Option<u64> {
     fetcher.weight(&Peer(peer))
 }
 
-/// What is seen of a change.
-fn changed(change: Result<(), Fault>) -> Result<Seen, Fault> {
-    change?;
-    Ok(Seen::Done)
-}
-
 /// Makes a call, and tells what is seen.
-fn made(rt: &impl Abort, alloc: Global, fetcher: &mut Node, call: Call) -> Result<Seen, Fault> {
+fn made(rt: &impl Abort, alloc: Global, fetcher: &mut Node, call: Call) -> Seen {
     match call {
-        Call::Peers(names) => changed(set_peers(alloc, fetcher, names)),
-        Call::Blocked(names) => changed(set_blocked(alloc, fetcher, names)),
-        Call::Ready(at) => changed(add_ready(fetcher, at)),
-        Call::Retry(at) => changed(add_retry(fetcher, at)),
-        Call::Target(peer) => changed(add_target(alloc, fetcher, peer)),
-        Call::Fetch(at, script) => changed(fetches(rt, fetcher, at, script)),
-        Call::Response { id, peer, at } => Ok(Seen::Elapsed(pop_response(fetcher, id, peer, at))),
-        Call::Missing { id, peer, at } => Ok(Seen::Is(pop_missing(fetcher, id, peer, at))),
-        Call::Overdue(at) => Ok(Seen::Is(pop_active(fetcher, at))),
-        Call::Deadlines => Ok(deadlines(fetcher)),
-        Call::Counts => Ok(counts(fetcher)),
-        Call::Weight(peer) => Ok(Seen::Weight(weight(fetcher, peer))),
+        Call::Peers(names) => set_peers(rt, alloc, fetcher, names),
+        Call::Blocked(names) => set_blocked(rt, alloc, fetcher, names),
+        Call::Ready(at) => add_ready(rt, fetcher, at),
+        Call::Retry(at) => add_retry(rt, fetcher, at),
+        Call::Target(peer) => add_target(rt, alloc, fetcher, peer),
+        Call::Fetch(at, script) => fetches(rt, fetcher, at, script),
+        Call::Response { id, peer, at } => Seen::Elapsed(pop_response(fetcher, id, peer, at)),
+        Call::Missing { id, peer, at } => Seen::Is(pop_missing(fetcher, id, peer, at)),
+        Call::Overdue(at) => Seen::Is(pop_active(fetcher, at)),
+        Call::Deadlines => deadlines(fetcher),
+        Call::Counts => counts(fetcher),
+        Call::Weight(peer) => Seen::Weight(weight(fetcher, peer)),
     }
 }
 
 /// Makes calls, and compares what is seen at each.
-fn goes_on(
-    rt: &impl Abort,
-    alloc: Global,
-    fetcher: &mut Node,
-    calls: &[(Call, Seen)],
-) -> Result<(), Fault> {
+fn goes_on(rt: &impl Abort, alloc: Global, fetcher: &mut Node, calls: &[(Call, Seen)]) {
     for (place, (call, seen)) in calls.iter().enumerate() {
-        assert_eq!(rt; made(rt, alloc, fetcher, *call)?, *seen, "at place {place}");
+        assert_eq!(rt; made(rt, alloc, fetcher, *call), *seen, "at place {place}");
     }
-    Ok(())
 }
 
 /// Makes calls of a new fetcher, and compares what is seen at each.
-fn goes(rt: &impl Abort, alloc: Global, calls: &[(Call, Seen)]) -> Result<(), Fault> {
+fn goes(rt: &impl Abort, alloc: Global, calls: &[(Call, Seen)]) {
     let mut fetcher = Fetcher::new(alloc, config());
-    let ended = goes_on(rt, alloc, &mut fetcher, calls);
+    goes_on(rt, alloc, &mut fetcher, calls);
     drop(fetcher);
-    ended
 }
 
 /// Asks peer 4 for key 1 under the id 5.
@@ -354,7 +335,7 @@ const NOTHING: Script<'static> = Script {
 };
 
 #[test]
-fn fetcher_first_request(rt: HostRuntime) -> Result<(), Fail> {
+fn fetcher_first_request(rt: HostRuntime) {
     const CALLS: &[(Call, Seen)] = &[
         (Call::Peers(&[4]), Seen::Done),
         (Call::Ready(30), Seen::Done),
@@ -378,12 +359,11 @@ fn fetcher_first_request(rt: HostRuntime) -> Result<(), Fail> {
             Seen::Elapsed(Some(0)),
         ),
     ];
-    goes(&rt, rt.alloc(), CALLS)?;
-    Ok(())
+    goes(&rt, rt.alloc(), CALLS);
 }
 
 #[test]
-fn fetcher_missing_and_retry(rt: HostRuntime) -> Result<(), Fail> {
+fn fetcher_missing_and_retry(rt: HostRuntime) {
     // The next id follows the last.
     const SECOND: Script = Script {
         draws: &[(5, 4), (1, 0)],
@@ -409,12 +389,11 @@ fn fetcher_missing_and_retry(rt: HostRuntime) -> Result<(), Fail> {
         (Call::Fetch(60, SECOND), Seen::Done),
         (Call::Deadlines, Seen::Deadlines(None, Some(110))),
     ];
-    goes(&rt, rt.alloc(), CALLS)?;
-    Ok(())
+    goes(&rt, rt.alloc(), CALLS);
 }
 
 #[test]
-fn fetcher_wake_up(rt: HostRuntime) -> Result<(), Fail> {
+fn fetcher_wake_up(rt: HostRuntime) {
     const CALLS: &[(Call, Seen)] = &[
         (Call::Ready(5), Seen::Done),
         (Call::Deadlines, Seen::Deadlines(Some(5), None)),
@@ -423,12 +402,11 @@ fn fetcher_wake_up(rt: HostRuntime) -> Result<(), Fail> {
         (Call::Peers(&[4]), Seen::Done),
         (Call::Deadlines, Seen::Deadlines(Some(5), None)),
     ];
-    goes(&rt, rt.alloc(), CALLS)?;
-    Ok(())
+    goes(&rt, rt.alloc(), CALLS);
 }
 
 #[test]
-fn refused_sends(rt: HostRuntime) -> Result<(), Fail> {
+fn refused_sends(rt: HostRuntime) {
     const LAST: &[u8] = b"\xff\xff\xff\xff\xff\xff\xff\xff\0\x01";
     const FIRST: &[u8] = b"\0\0\0\0\0\0\0\0\0\x01";
     const REFUSED: Script = Script {
@@ -452,8 +430,7 @@ fn refused_sends(rt: HostRuntime) -> Result<(), Fail> {
         (Call::Counts, Seen::Counts(true, 0, 0)),
         (Call::Deadlines, Seen::Deadlines(Some(10), None)),
     ];
-    goes(&rt, rt.alloc(), CALLS)?;
-    Ok(())
+    goes(&rt, rt.alloc(), CALLS);
 }
 
 /// Peer 9 is the local one, requests go before other messages, and nothing is waited for before a
@@ -469,15 +446,14 @@ fn with_priority(alloc: Global) -> Node {
 }
 
 /// Makes calls of such a fetcher, and compares what is seen at each.
-fn goes_first(rt: &impl Abort, alloc: Global, calls: &[(Call, Seen)]) -> Result<(), Fault> {
+fn goes_first(rt: &impl Abort, alloc: Global, calls: &[(Call, Seen)]) {
     let mut fetcher = with_priority(alloc);
-    let ended = goes_on(rt, alloc, &mut fetcher, calls);
+    goes_on(rt, alloc, &mut fetcher, calls);
     drop(fetcher);
-    ended
 }
 
 #[test]
-fn timeout_and_limits(rt: HostRuntime) -> Result<(), Fail> {
+fn timeout_and_limits(rt: HostRuntime) {
     const FIRST: Script = Script {
         draws: &[(4, 3), (2, 1), (1 << 64, 1234)],
         checks: &[(4, Check::Clear)],
@@ -498,12 +474,11 @@ fn timeout_and_limits(rt: HostRuntime) -> Result<(), Fail> {
         (Call::Counts, Seen::Counts(true, 0, 1)),
         (Call::Deadlines, Seen::Deadlines(Some(60), None)),
     ];
-    goes_first(&rt, rt.alloc(), CALLS)?;
-    Ok(())
+    goes_first(&rt, rt.alloc(), CALLS);
 }
 
 #[test]
-fn blocked_target(rt: HostRuntime) -> Result<(), Fail> {
+fn blocked_target(rt: HostRuntime) {
     const LIMITED: Script = Script {
         draws: &[(4, 0), (1, 0)],
         checks: &[(3, Check::Until(20))],
@@ -520,8 +495,7 @@ fn blocked_target(rt: HostRuntime) -> Result<(), Fail> {
         (Call::Fetch(0, LIMITED), Seen::Done),
         (Call::Deadlines, Seen::Deadlines(Some(20), None)),
     ];
-    goes(&rt, rt.alloc(), CALLS)?;
-    Ok(())
+    goes(&rt, rt.alloc(), CALLS);
 }
 
 /// What a peer weighs, where it is known.
@@ -532,7 +506,7 @@ macro_rules! weighs {
 }
 
 #[test]
-fn sets_of_each_length(rt: HostRuntime) -> Result<(), Fail> {
+fn sets_of_each_length(rt: HostRuntime) {
     const CALLS: &[(Call, Seen)] = &[
         (Call::Peers(&[]), Seen::Done),
         weighs!(4, None),
@@ -556,6 +530,5 @@ fn sets_of_each_length(rt: HostRuntime) -> Result<(), Fail> {
         (Call::Peers(&[]), Seen::Done),
         weighs!(5, None),
     ];
-    goes(&rt, rt.alloc(), CALLS)?;
-    Ok(())
+    goes(&rt, rt.alloc(), CALLS);
 }

@@ -2,8 +2,8 @@
 
 use crate::asserts::equal;
 use resolver_request::score::{DURATION_MAX, Score};
+use std::panic::Expect;
 use std::process::Abort;
-use std::test::Fail;
 
 const MILLISECOND: u128 = 1_000_000;
 
@@ -82,14 +82,13 @@ fn thirty_two_observations(rt: HostRuntime) {
 }
 
 #[test]
-fn a_clone_is_its_source(rt: HostRuntime) -> Result<(), Fail> {
+fn a_clone_is_its_source(rt: HostRuntime) {
     let mut score = Score::default();
     score.record(MILLISECOND, 1000);
-    let cloned = score.clone()?;
+    let cloned = score.clone().expect(&rt, "memory");
     score.record(MILLISECOND, 0);
     equal(&rt, &cloned.weight(), &1_000_001);
     equal(&rt, &score.weight(), &500_001);
-    Ok(())
 }
 
 #[test]

@@ -9,8 +9,8 @@ use resolver_base::base::Fault;
 use resolver_request::wire::{Message, Payload, max_message_size};
 use std::alloc::Global;
 use std::fmt::Debug;
+use std::panic::Expect;
 use std::process::Abort;
-use std::test::Fail;
 
 const REQUEST_BYTES: [u8; 10] = [0, 0, 0, 0, 0, 0, 0x04, 0xd2, 0, 0x7b];
 
@@ -19,14 +19,14 @@ const ERROR_BYTES: [u8; 9] = [0, 0, 0, 0, 0, 0, 0, 0xff, 2];
 const RESPONSE_BYTES: [u8; 23] = *b"\0\0\0\0\0\0\x10\xe1\x01\x0dHello, world!";
 
 #[test]
-fn wire_vectors(rt: HostRuntime) -> Result<(), Fail> {
+fn wire_vectors(rt: HostRuntime) {
     let alloc = rt.alloc();
     let payload = Payload::Request(Key { value: 123 });
-    spelled(&rt, alloc, &Message { id: 1234, payload }, &REQUEST_BYTES)?;
+    spelled(&rt, alloc, &Message { id: 1234, payload }, &REQUEST_BYTES);
     let payload = Payload::Error;
-    spelled(&rt, alloc, &Message { id: 255, payload }, &ERROR_BYTES)?;
+    spelled(&rt, alloc, &Message { id: 255, payload }, &ERROR_BYTES);
     let payload = Payload::Response(Bytes::from_static(b"Hello, world!"));
-    spelled(&rt, alloc, &Message { id: 4321, payload }, &RESPONSE_BYTES)?;
+    spelled(&rt, alloc, &Message { id: 4321, payload }, &RESPONSE_BYTES);
 
     let cases: [(&[u8], Fault); 4] = [
         (b"\0\0\0\0\0\0\x04\xd2\0", Fault::EndOfBuffer),
@@ -35,55 +35,49 @@ fn wire_vectors(rt: HostRuntime) -> Result<(), Fail> {
         (b"\0\0\0\0\0\0\0\xff\x02\0", Fault::ExtraData),
     ];
     for (bytes, fault) in cases {
-        decodes(&rt, alloc, bytes, Some(fault))?;
+        decodes(&rt, alloc, bytes, Some(fault));
     }
 
     equal(&rt, &max_message_size::<Key>(0), &14);
     equal(&rt, &max_message_size::<Key>(100), &114);
     equal(&rt, &max_message_size::<Zeros>(0), &73);
-    Ok(())
 }
 
 /// The message is written as these bytes and read from them, alone and with a byte behind them.
-fn spelled(rt: &impl Abort, alloc: Global, message: &Message<Key>, bytes: &[u8]) -> Result<(), Fail>
+fn spelled(rt: &impl Abort, alloc: Global, message: &Message<Key>, bytes: &[u8])
     requires { IsShort message.now.payload }
 {
     equal(rt, &message.encode_size(), &bytes.len());
     let mut out = BytesMut::new(alloc);
-    message.write(&mut out)?;
+    message.write(&mut out).expect(rt, "memory");
     equal_lists(rt, out.as_slice(), bytes);
-    out.extend_from_slice(&[7])?;
-    let mut buffer = out.freeze()?;
-    gives(rt, Message::read(&mut buffer), message)?;
+    out.extend_from_slice(&[7]).expect(rt, "memory");
+    let mut buffer = out.freeze().expect(rt, "memory");
+    gives(rt, Message::read(&mut buffer), message);
     equal_lists(rt, buffer.as_slice(), &[7]);
-    let alone = Bytes::copy_from_slice(alloc, bytes)?;
-    gives(rt, Message::decode(alone), message)
+    let alone = Bytes::copy_from_slice(alloc, bytes).expect(rt, "memory");
+    gives(rt, Message::decode(alone), message);
 }
 
 /// What was read is this.
-fn gives<T: PartialEq + Debug + Drop>(
-    rt: &impl Abort,
-    found: Result<T, Fault>,
-    wanted: &T,
-) -> Result<(), Fail> {
-    let found = found?;
+fn gives<T: PartialEq + Debug + Drop>(rt: &impl Abort, found: Result<T, Fault>, wanted: &T) {
+    let found = found.expect(rt, "a message");
     equal(rt, &found, wanted);
     drop(found);
-    Ok(())
 }
 
 /// The bytes are refused so, or spell a message which is written as they are.
-fn decodes(rt: &impl Abort, alloc: Global, bytes: &[u8], fault: Option<Fault>) -> Result<(), Fail> {
-    match Message::<Key>::decode(Bytes::copy_from_slice(alloc, bytes)?) {
+fn decodes(rt: &impl Abort, alloc: Global, bytes: &[u8], fault: Option<Fault>) {
+    let copied = Bytes::copy_from_slice(alloc, bytes).expect(rt, "memory");
+    match Message::<Key>::decode(copied) {
         Err(refusal) => assert_eq!(rt; Some(refusal), fault, "at {bytes:?}"),
         Ok(message) => {
             assert_eq!(rt; None, fault, "at {bytes:?}");
             let mut out = BytesMut::new(alloc);
-            message.write(&mut out)?;
+            message.write(&mut out).expect(rt, "memory");
             equal_lists(rt, out.as_slice(), bytes);
         }
     }
-    Ok(())
 }
 
 /// At this place, a byte from the first to the last of these is refused so.
@@ -91,23 +85,22 @@ type Change = (usize, u8, u8, Fault);
 
 /// Each beginning has too few bytes. Each change of one byte is refused as the first of these that
 /// names it says, or is read, where none does.
-fn altered(rt: &impl Abort, alloc: Global, bytes: &[u8], changes: &[Change]) -> Result<(), Fail> {
+fn altered(rt: &impl Abort, alloc: Global, bytes: &[u8], changes: &[Change]) {
     for place in 0..bytes.len() {
-        decodes(rt, alloc, &bytes[..place], Some(Fault::EndOfBuffer))?;
+        decodes(rt, alloc, &bytes[..place], Some(Fault::EndOfBuffer));
         for value in 0..=u8::MAX {
-            let mut changed = Vec::from_slice(alloc, bytes)?;
+            let mut changed = Vec::from_slice(alloc, bytes).expect(rt, "memory");
             changed[place] = value;
             let change = changes.iter().find(|change| change.0 == place
                 && change.1 <= value
                 && value <= change.2);
-            decodes(rt, alloc, &changed, change.map(|change| change.3))?;
+            decodes(rt, alloc, &changed, change.map(|change| change.3));
         }
     }
-    Ok(())
 }
 
 #[test]
-fn messages_cut_short_or_changed(rt: HostRuntime) -> Result<(), Fail> {
+fn messages_cut_short_or_changed(rt: HostRuntime) {
     // A byte of a key is read as the length of a value that isn't there.
     let request = [
         (8, 1, 1, Fault::EndOfBuffer),
@@ -126,13 +119,13 @@ fn messages_cut_short_or_changed(rt: HostRuntime) -> Result<(), Fail> {
         (9, 0, 12, Fault::ExtraData),
         (9, 14, 255, Fault::EndOfBuffer),
     ];
-    altered(&rt, rt.alloc(), &REQUEST_BYTES, &request)?;
-    altered(&rt, rt.alloc(), &ERROR_BYTES, &error)?;
-    altered(&rt, rt.alloc(), &RESPONSE_BYTES, &response)
+    altered(&rt, rt.alloc(), &REQUEST_BYTES, &request);
+    altered(&rt, rt.alloc(), &ERROR_BYTES, &error);
+    altered(&rt, rt.alloc(), &RESPONSE_BYTES, &response);
 }
 
 #[test]
-fn responses_of_zeros(rt: HostRuntime) -> Result<(), Fail> {
+fn responses_of_zeros(rt: HostRuntime) {
     let alloc = rt.alloc();
     let cases: [(u16, usize, usize, usize, &[u8]); 5] = [
         (0, 10, 10, 1, b"\0"),
@@ -142,46 +135,42 @@ fn responses_of_zeros(rt: HostRuntime) -> Result<(), Fail> {
         (16384, 16396, 12, 2, b"\x80\x80\x01"),
     ];
     for (len, size, inline_size, count, length) in cases {
-        let value = BytesMut::zeroed(alloc, usize::from(len))?.freeze()?;
+        let value = BytesMut::zeroed(alloc, usize::from(len))
+            .expect(&rt, "memory")
+            .freeze()
+            .expect(&rt, "memory");
         let payload = Payload::<Key>::Response(value);
         let message = Message { id: 0, payload };
         equal(&rt, &message.encode_size(), &size);
         equal(&rt, &message.encode_inline_size(), &inline_size);
-        let written = is_written(&rt, alloc, &message, count, length);
+        is_written(&rt, alloc, &message, count, length);
         drop(message);
-        written?;
     }
-    Ok(())
 }
 
 /// The message is a response under the id 0. It is written in so many pieces, and its value's length in these
 /// bytes; and it is read again.
-fn is_written(
-    rt: &impl Abort,
-    alloc: Global,
-    message: &Message<Key>,
-    count: usize,
-    length: &[u8],
-) -> Result<(), Fail>
+fn is_written(rt: &impl Abort, alloc: Global, message: &Message<Key>, count: usize, length: &[u8])
     requires { IsShort message.now.payload }
 {
-    let pieces = message.write_bufs(alloc)?;
+    let pieces = message.write_bufs(alloc).expect(rt, "memory");
     equal(rt, &pieces.len(), &count);
     drop(pieces);
 
     let mut out = BytesMut::new(alloc);
-    message.write(&mut out)?;
+    message.write(&mut out).expect(rt, "memory");
     equal(rt, &out.len(), &message.encode_size());
     holds(rt, out.as_slice().starts_with(b"\0\0\0\0\0\0\0\0\x01"));
     holds(
         rt,
         out.as_slice().get(9..message.encode_inline_size()) == Some(length),
     );
-    gives(rt, Message::decode(out.freeze()?), message)
+    let written = out.freeze().expect(rt, "memory");
+    gives(rt, Message::decode(written), message);
 }
 
 #[test]
-fn lengths_misspelled(rt: HostRuntime) -> Result<(), Fail> {
+fn lengths_misspelled(rt: HostRuntime) {
     let cases: [(&[u8], Fault); 6] = [
         (b"", Fault::EndOfBuffer),
         (b"\x80", Fault::EndOfBuffer),
@@ -191,39 +180,43 @@ fn lengths_misspelled(rt: HostRuntime) -> Result<(), Fail> {
         (b"\x80\x80\x80\x80\0", Fault::InvalidVarint),
     ];
     for (length, fault) in cases {
-        let mut bytes = BytesMut::copy_from_slice(rt.alloc(), b"\0\0\0\0\0\0\0\0\x01")?;
-        bytes.extend_from_slice(length)?;
-        decodes(&rt, rt.alloc(), &bytes, Some(fault))?;
+        let start = b"\0\0\0\0\0\0\0\0\x01";
+        let mut bytes = BytesMut::copy_from_slice(rt.alloc(), start).expect(&rt, "memory");
+        bytes.extend_from_slice(length).expect(&rt, "memory");
+        decodes(&rt, rt.alloc(), &bytes, Some(fault));
     }
-    Ok(())
 }
 
 #[test]
-fn keys_refused(rt: HostRuntime) -> Result<(), Fail> {
+fn keys_refused(rt: HostRuntime) {
     let alloc = rt.alloc();
     let request = Message {
         id: 0,
         payload: Payload::Request(Zeros),
     };
-    let whole = BytesMut::zeroed(alloc, 73)?.freeze()?;
-    let read = gives(&rt, Message::decode(whole), &request);
+    let whole = BytesMut::zeroed(alloc, 73)
+        .expect(&rt, "memory")
+        .freeze()
+        .expect(&rt, "memory");
+    gives(&rt, Message::decode(whole), &request);
     drop(request);
-    read?;
-    let short = BytesMut::zeroed(alloc, 72)?.freeze()?;
+    let short = BytesMut::zeroed(alloc, 72)
+        .expect(&rt, "memory")
+        .freeze()
+        .expect(&rt, "memory");
     equal(
         &rt,
         &Message::<Zeros>::decode(short).err(),
         &Some(Fault::EndOfBuffer),
     );
 
-    let mut bytes = BytesMut::zeroed(alloc, 72)?;
-    bytes.extend_from_slice(&[1])?;
-    let mut bytes = bytes.freeze()?;
+    let mut bytes = BytesMut::zeroed(alloc, 72).expect(&rt, "memory");
+    bytes.extend_from_slice(&[1]).expect(&rt, "memory");
+    let mut bytes = bytes.freeze().expect(&rt, "memory");
     equal(
         &rt,
         &Message::<Zeros>::read(&mut bytes).err(),
         &Some(Fault::Key),
     );
     equal(&rt, &bytes.len(), &73);
-    Ok(())
 }
