@@ -9,7 +9,8 @@ use resolver_ingress::ingress::{FetchKey, Message};
 use resolver_mailbox::mailbox::{Entry, Exact};
 use std::alloc::Global;
 use std::fmt::Write;
-use std::test::Fail;
+use std::panic::Expect;
+use std::process::Abort;
 
 /// Keeps every subscriber.
 #[derive(Clone, Copy)]
@@ -50,61 +51,57 @@ pub fn fetch(alloc: Global, key: u16, subscriber: u16, mark: u64) -> Result<Told
 }
 
 /// Writes a fetch: its key, and each subscriber with its mark.
-fn spell_item(text: &mut String, item: &FetchKey<u16, u16, ()>) -> Result<(), Fail> {
-    write!(text, " {}", item.key)?;
+fn spell_item(rt: &impl Abort, text: &mut String, item: &FetchKey<u16, u16, ()>) {
+    write!(text, " {}", item.key).expect(rt, "memory");
     for (subscriber, mark) in item.subscribers.as_slice() {
-        write!(text, " {subscriber}:{mark}")?;
+        write!(text, " {subscriber}:{mark}").expect(rt, "memory");
     }
-    Ok(())
 }
 
 /// Writes a message: its fetches.
-pub fn spell(text: &mut String, message: &Told) -> Result<(), Fail> {
+pub fn spell(rt: &impl Abort, text: &mut String, message: &Told) {
     match message {
         Message::Fetch(items) => {
             for item in items {
-                spell_item(text, item)?;
+                spell_item(rt, text, item);
             }
         }
-        Message::Retain(_) => write!(text, " retain")?,
+        Message::Retain(_) => write!(text, " retain").expect(rt, "memory"),
     }
-    Ok(())
 }
 
 /// Writes messages, each on its line.
-pub fn spell_all(text: &mut String, messages: &[Told]) -> Result<(), Fail> {
+pub fn spell_all(rt: &impl Abort, text: &mut String, messages: &[Told]) {
     for message in messages {
-        spell(text, message)?;
-        writeln!(text)?;
+        spell(rt, text, message);
+        writeln!(text).expect(rt, "memory");
     }
-    Ok(())
 }
 
 /// Writes a call of a book.
-fn spell_entry(text: &mut String, entry: &Entry<u16, u16, (), All>) -> Result<(), Fail> {
+fn spell_entry(rt: &impl Abort, text: &mut String, entry: &Entry<u16, u16, (), All>) {
     match entry {
         Entry::Put(posted) => {
             write!(
                 text,
                 "put {} {} {}",
                 posted.handle, posted.place, posted.is_ok
-            )?;
-            spell(text, &posted.message)?;
+            )
+            .expect(rt, "memory");
+            spell(rt, text, &posted.message);
         }
         Entry::Take(message) => {
-            write!(text, "take")?;
-            spell(text, message)?;
+            write!(text, "take").expect(rt, "memory");
+            spell(rt, text, message);
         }
-        Entry::Close => write!(text, "close")?,
+        Entry::Close => write!(text, "close").expect(rt, "memory"),
     }
-    writeln!(text)?;
-    Ok(())
+    writeln!(text).expect(rt, "memory");
 }
 
 /// Writes a book, each call on its line.
-pub fn spell_book(text: &mut String, book: &[Entry<u16, u16, (), All>]) -> Result<(), Fail> {
+pub fn spell_book(rt: &impl Abort, text: &mut String, book: &[Entry<u16, u16, (), All>]) {
     for entry in book {
-        spell_entry(text, entry)?;
+        spell_entry(rt, text, entry);
     }
-    Ok(())
 }

@@ -6,11 +6,12 @@ use futures::task::Poll;
 use futures::test::MockTask;
 use resolver_base::base::Fault;
 use resolver_mailbox::mailbox::{Entry, Naming, Pages, Receiver, Sender, Share, new, recorded};
-use std::alloc::{AllocError, Global};
+use std::alloc::Global;
 use std::fmt::Write;
 use std::marker::Brand;
+use std::panic::Expect;
+use std::process::Abort;
 use std::sync::Wait;
-use std::test::Fail;
 
 /// The first handle and the receiver of a mailbox that was made.
 type Made<N, R> = Result<
@@ -42,161 +43,156 @@ pub fn puts_in(book: &[Entry<u16, u16, (), All>]) -> u64 {
 
 /// The shares of some handles.
 pub fn shares_of<'a, N: Naming, R>(
+    rt: &impl Abort,
     alloc: Global,
     handles: &'a [Sender<u16, u16, (), All, N, R>],
-) -> Result<Vec<&'a Share<u16, u16, (), All, N>>, AllocError> {
+) -> Vec<&'a Share<u16, u16, (), All, N>> {
     let mut shares = Vec::new(alloc);
     for handle in handles {
         if let Some(share) = handle.share() {
-            shares.push(share)?;
+            shares.push(share).expect(rt, "memory");
         }
     }
-    Ok(shares)
+    shares
 }
 
 /// Puts a fetch of a key for one subscriber with its mark, and writes the answer.
 fn put<N: Naming, R: Wait>(
+    rt: &impl Abort,
     text: &mut String,
     handle: &mut Sender<u16, u16, (), All, N, R>,
     told: (u16, u16, u64),
-) -> Result<(), Fail> {
-    let message = fetch(*text.allocator(), told.0, told.1, told.2)?;
-    writeln!(text, "{:?}", handle.enqueue(message)?)?;
-    Ok(())
+) {
+    let message = fetch(*text.allocator(), told.0, told.1, told.2).expect(rt, "memory");
+    let feedback = handle.enqueue(message).expect(rt, "an answer");
+    writeln!(text, "{feedback:?}").expect(rt, "memory");
 }
 
 /// Polls, and writes what the poll gives.
 fn poll<N: Naming, R: Wait + Drop>(
+    rt: &impl Abort,
     text: &mut String,
     task: &MockTask,
     receiver: &mut Receiver<u16, u16, (), All, N, R>,
-) -> Result<(), Fail> {
+) {
     match next(task, receiver) {
-        Poll::Ready(Some(message)) => spell(text, &message?)?,
-        Poll::Ready(None) => write!(text, " end")?,
-        Poll::Pending => write!(text, " pending")?,
+        Poll::Ready(Some(message)) => spell(rt, text, &message.expect(rt, "a message")),
+        Poll::Ready(None) => write!(text, " end").expect(rt, "memory"),
+        Poll::Pending => write!(text, " pending").expect(rt, "memory"),
     }
-    writeln!(text)?;
-    Ok(())
+    writeln!(text).expect(rt, "memory");
 }
 
 /// Writes the share of a handle: its number, its mark, and its messages.
 fn spell_share<N: Naming, R>(
+    rt: &impl Abort,
     text: &mut String,
     handle: &Sender<u16, u16, (), All, N, R>,
-) -> Result<(), Fail> {
+) {
     match handle.share() {
         Some(share) => {
-            writeln!(text, "share {} {}", share.handle(), share.is_closed())?;
-            spell_all(text, share.puts())
+            writeln!(text, "share {} {}", share.handle(), share.is_closed()).expect(rt, "memory");
+            spell_all(rt, text, share.puts());
         }
-        None => Ok(writeln!(text, "none")?),
+        None => writeln!(text, "none").expect(rt, "memory"),
     }
 }
 
 /// Two handles put, the receiver takes, the mailbox is closed, and the first handle puts again:
 /// writes the answers, and then the shares, what was taken, and the book.
 fn row<N: Naming, R: Wait + Drop>(
+    rt: &impl Abort,
     text: &mut String,
     task: &MockTask,
     first: &mut Sender<u16, u16, (), All, N, R>,
     second: &mut Sender<u16, u16, (), All, N, R>,
     receiver: &mut Receiver<u16, u16, (), All, N, R>,
-) -> Result<(), Fail> {
-    spell_share(text, first)?;
-    spell_share(text, second)?;
-    put(text, first, (1, 10, 7))?;
-    put(text, first, (2, 20, 8))?;
-    put(text, second, (2, 21, 9))?;
-    poll(text, task, receiver)?;
-    poll(text, task, receiver)?;
-    poll(text, task, receiver)?;
+) {
+    spell_share(rt, text, first);
+    spell_share(rt, text, second);
+    put(rt, text, first, (1, 10, 7));
+    put(rt, text, first, (2, 20, 8));
+    put(rt, text, second, (2, 21, 9));
+    poll(rt, text, task, receiver);
+    poll(rt, text, task, receiver);
+    poll(rt, text, task, receiver);
     first.close();
-    put(text, first, (3, 30, 5))?;
-    spell_share(text, first)?;
-    spell_share(text, second)?;
-    writeln!(text, "taken")?;
-    spell_all(text, receiver.taken())?;
-    spell_book_for(text, first, second, receiver)
+    put(rt, text, first, (3, 30, 5));
+    spell_share(rt, text, first);
+    spell_share(rt, text, second);
+    writeln!(text, "taken").expect(rt, "memory");
+    spell_all(rt, text, receiver.taken());
+    spell_book_for(rt, text, first, second, receiver);
 }
 
 /// Writes the book that is lent for these shares.
 fn spell_lent<N: Naming, R: Wait>(
+    rt: &impl Abort,
     text: &mut String,
     receiver: &Receiver<u16, u16, (), All, N, R>,
     shares: &[&Share<u16, u16, (), All, N>],
-) -> Result<(), Fail> {
-    let book = receiver.book(*text.allocator(), shares)?;
-    let written = spell_book(text, book.as_slice());
+) {
+    let book = receiver
+        .book(*text.allocator(), shares)
+        .expect(rt, "a book");
+    spell_book(rt, text, book.as_slice());
     drop(book);
-    written
 }
 
 /// Writes the book that is lent for no share, and where the handles have shares, for that of one
 /// and for those of both.
 fn spell_book_for<N: Naming, R: Wait>(
+    rt: &impl Abort,
     text: &mut String,
     first: &Sender<u16, u16, (), All, N, R>,
     second: &Sender<u16, u16, (), All, N, R>,
     receiver: &Receiver<u16, u16, (), All, N, R>,
-) -> Result<(), Fail> {
-    spell_lent(text, receiver, &[])?;
-    let (Some(one), Some(other)) = (first.share(), second.share()) else {
-        return Ok(());
-    };
-    spell_lent(text, receiver, &[one])?;
-    spell_lent(text, receiver, &[one, other])
+) {
+    spell_lent(rt, text, receiver, &[]);
+    if let (Some(one), Some(other)) = (first.share(), second.share()) {
+        spell_lent(rt, text, receiver, &[one]);
+        spell_lent(rt, text, receiver, &[one, other]);
+    }
 }
 
 /// Writes the row of a handle and its clone.
 fn row_of_both<N: Naming, R: Wait + Copy + Drop>(
+    rt: &impl Abort,
     text: &mut String,
     task: &MockTask,
     first: &mut Sender<u16, u16, (), All, N, R>,
     receiver: &mut Receiver<u16, u16, (), All, N, R>,
-) -> Result<(), Fail> {
-    match first.clone() {
-        Ok(mut second) => {
-            let written = row(text, task, first, &mut second, receiver);
-            drop(second);
-            written
-        }
-        Err(error) => Err(error.into()),
-    }
+) {
+    let mut second = first.clone().expect(rt, "memory");
+    row(rt, text, task, first, &mut second, receiver);
+    drop(second);
 }
 
 /// Writes the row in a mailbox that was made.
 fn row_in<N: Naming, R: Wait + Copy + Drop>(
+    rt: &impl Abort,
     text: &mut String,
     task: &MockTask,
     made: Made<N, R>,
-) -> Result<(), Fail> {
-    match made {
-        Ok((mut handle, mut receiver)) => {
-            let written = row_of_both(text, task, &mut handle, &mut receiver);
-            drop(handle);
-            drop(receiver);
-            written
-        }
-        Err(fault) => Err(fault.into()),
-    }
+) {
+    let (mut handle, mut receiver) = made.expect(rt, "a mailbox");
+    row_of_both(rt, text, task, &mut handle, &mut receiver);
+    drop(handle);
+    drop(receiver);
 }
 
 /// Writes the row in a recorded mailbox of capacity 1.
-fn recorded_row<N, R>(text: &mut String, rt: R, pages: Pages, task: &MockTask) -> Result<(), Fail>
+fn recorded_row<N, R>(rt: R, text: &mut String, pages: Pages, task: &MockTask)
 where
     N: Naming,
-    R: Wait + Copy + Drop,
+    R: Abort + Wait + Copy + Drop,
     requires recorded { N.is_recorded ≡ true }
     requires puts { pages.puts.name ≡ N.puts }
     requires takes { pages.takes.name ≡ N.takes }
 {
     let alloc = *text.allocator();
-    row_in(
-        text,
-        task,
-        recorded::<u16, u16, (), All, N, R>(rt, alloc, pages, 1),
-    )
+    let made = recorded::<u16, u16, (), All, N, R>(rt, alloc, pages, 1);
+    row_in(&rt, text, task, made);
 }
 
 /// The calls of the row, and what is shown behind it.
@@ -209,49 +205,45 @@ const BOOK: &str = "put 0 0 true 1 10:7\nput 0 1 false 2 20:8\nput 1 0 false 2 2
     take 1 10:7\ntake 2 20:8 21:9\nclose\n";
 
 #[test]
-fn mailbox_book(rt: HostRuntime) -> Result<(), Fail> {
-    let task = MockTask::new(&rt)?;
+fn mailbox_book(rt: HostRuntime) {
+    let task = MockTask::new(&rt).expect(&rt, "a task");
     let mut text = String::new(rt.alloc());
-    recorded_row::<Brand, _>(&mut text, rt, Pages::new(), &task)?;
+    recorded_row::<Brand, _>(rt, &mut text, Pages::new(), &task);
     let mut wanted = String::new(rt.alloc());
-    write!(wanted, "{ROW}{BOOK}{BOOK}{BOOK}")?;
+    write!(wanted, "{ROW}{BOOK}{BOOK}{BOOK}").expect(&rt, "memory");
     assert_eq!(rt; text.as_str(), wanted.as_str());
-    Ok(())
 }
 
 #[test]
-fn mailbox_book_not_recorded(rt: HostRuntime) -> Result<(), Fail> {
-    let task = MockTask::new(&rt)?;
+fn mailbox_book_not_recorded(rt: HostRuntime) {
+    let task = MockTask::new(&rt).expect(&rt, "a task");
     let mut text = String::new(rt.alloc());
-    row_in(
-        &mut text,
-        &task,
-        new::<u16, u16, (), All, _>(rt, rt.alloc(), 1),
-    )?;
+    let made = new::<u16, u16, (), All, _>(rt, rt.alloc(), 1);
+    row_in(&rt, &mut text, &task, made);
     assert_eq!(rt;
         text.as_str(),
         "none\nnone\nOk\nBackoff\nBackoff\n 1 10:7\n 2 20:8 21:9\n pending\nClosed\n\
         none\nnone\ntaken\n"
     );
-    Ok(())
 }
 
 /// Three puts, a close, and polls until the mailbox has ended: writes the answers.
 fn shut<N: Naming, R: Wait + Drop>(
+    rt: &impl Abort,
     text: &mut String,
     task: &MockTask,
     handle: &mut Sender<u16, u16, (), All, N, R>,
     receiver: &mut Receiver<u16, u16, (), All, N, R>,
-) -> Result<(), Fail> {
-    put(text, handle, (1, 10, 7))?;
-    put(text, handle, (2, 20, 8))?;
-    put(text, handle, (3, 30, 9))?;
+) {
+    put(rt, text, handle, (1, 10, 7));
+    put(rt, text, handle, (2, 20, 8));
+    put(rt, text, handle, (3, 30, 9));
     handle.close();
-    poll(text, task, receiver)?;
-    poll(text, task, receiver)?;
-    poll(text, task, receiver)?;
-    poll(text, task, receiver)?;
-    poll(text, task, receiver)
+    poll(rt, text, task, receiver);
+    poll(rt, text, task, receiver);
+    poll(rt, text, task, receiver);
+    poll(rt, text, task, receiver);
+    poll(rt, text, task, receiver);
 }
 
 /// What a mailbox of capacity 2 answers then.
@@ -259,71 +251,61 @@ const SHUT: &str = "Ok\nOk\nBackoff\n 1 10:7\n 2 20:8\n 3 30:9\n end\n end\n";
 
 /// The same in a mailbox that was made.
 fn shut_in<N: Naming, R: Wait + Drop>(
+    rt: &impl Abort,
     text: &mut String,
     task: &MockTask,
     made: Made<N, R>,
-) -> Result<(), Fail> {
-    match made {
-        Ok((mut handle, mut receiver)) => {
-            let written = shut(text, task, &mut handle, &mut receiver);
-            drop(handle);
-            drop(receiver);
-            written
-        }
-        Err(fault) => Err(fault.into()),
-    }
+) {
+    let (mut handle, mut receiver) = made.expect(rt, "a mailbox");
+    shut(rt, text, task, &mut handle, &mut receiver);
+    drop(handle);
+    drop(receiver);
 }
 
 /// The same in a recorded mailbox of capacity 2.
-fn recorded_shut<N, R>(text: &mut String, rt: R, pages: Pages, task: &MockTask) -> Result<(), Fail>
+fn recorded_shut<N, R>(rt: R, text: &mut String, pages: Pages, task: &MockTask)
 where
     N: Naming,
-    R: Wait + Copy + Drop,
+    R: Abort + Wait + Copy + Drop,
     requires recorded { N.is_recorded ≡ true }
     requires puts { pages.puts.name ≡ N.puts }
     requires takes { pages.takes.name ≡ N.takes }
 {
     let alloc = *text.allocator();
-    shut_in(
-        text,
-        task,
-        recorded::<u16, u16, (), All, N, R>(rt, alloc, pages, 2),
-    )
+    let made = recorded::<u16, u16, (), All, N, R>(rt, alloc, pages, 2);
+    shut_in(&rt, text, task, made);
 }
 
 #[test]
-fn what_waits_is_given_after_the_close(rt: HostRuntime) -> Result<(), Fail> {
-    let task = MockTask::new(&rt)?;
+fn what_waits_is_given_after_the_close(rt: HostRuntime) {
+    let task = MockTask::new(&rt).expect(&rt, "a task");
     let mut text = String::new(rt.alloc());
-    recorded_shut::<Brand, _>(&mut text, rt, Pages::new(), &task)?;
+    recorded_shut::<Brand, _>(rt, &mut text, Pages::new(), &task);
     assert_eq!(rt; text.as_str(), SHUT);
-    Ok(())
 }
 
 #[test]
-fn what_waits_is_given_after_the_close_not_recorded(rt: HostRuntime) -> Result<(), Fail> {
-    let task = MockTask::new(&rt)?;
+fn what_waits_is_given_after_the_close_not_recorded(rt: HostRuntime) {
+    let task = MockTask::new(&rt).expect(&rt, "a task");
     let mut text = String::new(rt.alloc());
-    shut_in(
-        &mut text,
-        &task,
-        new::<u16, u16, (), All, _>(rt, rt.alloc(), 2),
-    )?;
+    let made = new::<u16, u16, (), All, _>(rt, rt.alloc(), 2);
+    shut_in(&rt, &mut text, &task, made);
     assert_eq!(rt; text.as_str(), SHUT);
-    Ok(())
 }
 
 /// Whether the task was woken by what was done since it last polled in vain, and whether the
 /// mailbox is over then.
 fn wakes<N: Naming, R: Wait + Drop>(
+    rt: &impl Abort,
     alloc: Global,
     task: &MockTask,
     handle: &mut Sender<u16, u16, (), All, N, R>,
     receiver: &mut Receiver<u16, u16, (), All, N, R>,
-) -> Result<([bool; 4], bool), Fault> {
+) -> ([bool; 4], bool) {
     let _ = next(task, receiver);
     let asleep = task.is_woken();
-    handle.enqueue(fetch(alloc, 1, 10, 7)?)?;
+    let message = fetch(alloc, 1, 10, 7).expect(rt, "memory");
+    handle.enqueue(message).expect(rt, "an answer");
     let put = task.is_woken();
     let _ = next(task, receiver);
     let _ = next(task, receiver);
@@ -334,33 +316,29 @@ fn wakes<N: Naming, R: Wait + Drop>(
         Poll::Ready(None) => true,
         _ => false,
     };
-    Ok((woken, is_over))
+    (woken, is_over)
 }
 
 /// The same in a mailbox that was made.
 fn wakes_in<N: Naming, R: Wait + Drop>(
+    rt: &impl Abort,
     alloc: Global,
     task: &MockTask,
     made: Made<N, R>,
-) -> Result<([bool; 4], bool), Fault> {
-    match made {
-        Ok((mut handle, mut receiver)) => {
-            let woken = wakes(alloc, task, &mut handle, &mut receiver);
-            drop(handle);
-            drop(receiver);
-            woken
-        }
-        Err(fault) => Err(fault),
-    }
+) -> ([bool; 4], bool) {
+    let (mut handle, mut receiver) = made.expect(rt, "a mailbox");
+    let woken = wakes(rt, alloc, task, &mut handle, &mut receiver);
+    drop(handle);
+    drop(receiver);
+    woken
 }
 
 #[test]
-fn a_put_and_a_close_wake_the_receiver(rt: HostRuntime) -> Result<(), Fail> {
+fn a_put_and_a_close_wake_the_receiver(rt: HostRuntime) {
     let alloc = rt.alloc();
-    let task = MockTask::new(&rt)?;
+    let task = MockTask::new(&rt).expect(&rt, "a task");
     let made = new::<u16, u16, (), All, _>(rt, alloc, 1);
-    let (woken, is_over) = wakes_in(alloc, &task, made)?;
+    let (woken, is_over) = wakes_in(&rt, alloc, &task, made);
     assert_eq!(rt; woken, [false, true, false, true]);
     assert!(rt; is_over);
-    Ok(())
 }

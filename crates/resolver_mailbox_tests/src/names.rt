@@ -7,25 +7,25 @@ use bytes::Bytes;
 use resolver_base::base::{Faithful, NonEmptyVec};
 use resolver_ingress::ingress::{FetchKey, Kept, Message, Test};
 use resolver_mailbox::mailbox::{Entry, Exact, Naming, Pages, Receiver, Sender, recorded};
-use std::alloc::{AllocError, Global};
+use std::alloc::Global;
 use std::hash::Hash;
 use std::marker::Brand;
+use std::panic::Expect;
+use std::process::Abort;
 use std::sync::Wait;
-use std::test::Fail;
 
 /// Whether a value is the same as its clone, and not the same as another.
-fn is_told_apart<T: Exact + Faithful + Drop>(one: &T, other: &T) -> Result<bool, AllocError> {
-    let clone = one.clone()?;
-    Ok(one.is_same(&clone) && !clone.is_same(other) && !other.is_same(one))
+fn is_told_apart<T: Exact + Faithful + Drop>(rt: &impl Abort, one: &T, other: &T) -> bool {
+    let clone = one.clone().expect(rt, "memory");
+    one.is_same(&clone) && !clone.is_same(other) && !other.is_same(one)
 }
 
 #[test]
-fn names_are_cloned_and_compared_exactly(rt: HostRuntime) -> Result<(), Fail> {
-    assert!(rt; is_told_apart(&[1u8, 2, 3], &[1, 2, 4])?);
-    assert!(rt; is_told_apart(&(1u8, (2u16, 3u32), [4u64]), &(1, (2, 3), [5]))?);
-    assert!(rt; is_told_apart(&Bytes::from_static(b"ab"), &Bytes::from_static(b"ac"))?);
-    assert!(rt; is_told_apart(&Kept::new(1u8), &Kept::new(2))?);
-    Ok(())
+fn names_are_cloned_and_compared_exactly(rt: HostRuntime) {
+    assert!(rt; is_told_apart(&rt, &[1u8, 2, 3], &[1, 2, 4]));
+    assert!(rt; is_told_apart(&rt, &(1u8, (2u16, 3u32), [4u64]), &(1, (2, 3), [5])));
+    assert!(rt; is_told_apart(&rt, &Bytes::from_static(b"ab"), &Bytes::from_static(b"ac")));
+    assert!(rt; is_told_apart(&rt, &Kept::new(1u8), &Kept::new(2)));
 }
 
 /// A test that every subscriber passes, with a number that tells it from others.
@@ -55,17 +55,20 @@ impl Exact for Everyone {
 type Told<K, S> = Message<K, S, (), Kept<Everyone>>;
 
 /// A fetch of this key for this subscriber with the mark 7.
-fn fetch<K: Drop, S: Drop>(alloc: Global, key: K, subscriber: S) -> Result<Told<K, S>, Fail> {
-    let Ok(subscribers) = NonEmptyVec::new(alloc, (subscriber, 7)) else {
-        return Err("memory for a subscriber".into());
-    };
-    let mut items = Vec::new(alloc);
-    items.push(FetchKey {
+fn fetch<K, S>(rt: &impl Abort, alloc: Global, key: K, subscriber: S) -> Told<K, S>
+where
+    K: Drop,
+    S: Drop,
+{
+    let subscribers = NonEmptyVec::new(alloc, (subscriber, 7)).expect(rt, "memory");
+    let item = FetchKey {
         key,
         subscribers,
         metadata: (),
-    })?;
-    Ok(Message::Fetch(items))
+    };
+    let mut items = Vec::new(alloc);
+    items.push(item).expect(rt, "memory");
+    Message::Fetch(items)
 }
 
 type Call<K, S> = Entry<K, S, (), Kept<Everyone>>;
@@ -101,30 +104,35 @@ fn is_test<K, S>(call: &Call<K, S>) -> bool {
 
 /// Puts a fetch of this key for this subscriber, and the test 9.
 fn put_both<K, S, N, R>(
+    rt: &impl Abort,
     alloc: Global,
     handle: &mut Handle<K, S, N, R>,
     key: &K,
     subscriber: &S,
-) -> Result<(), Fail>
+)
 where
     K: Ord + Hash + Faithful + Drop,
     S: Ord + Faithful + Drop,
     N: Naming,
     R: Wait,
 {
-    handle.enqueue(fetch(alloc, key.clone()?, subscriber.clone()?)?)?;
-    handle.enqueue(Message::Retain(Kept::new(Everyone(9))))?;
-    Ok(())
+    let key = key.clone().expect(rt, "memory");
+    let subscriber = subscriber.clone().expect(rt, "memory");
+    let message = fetch(rt, alloc, key, subscriber);
+    handle.enqueue(message).expect(rt, "an answer");
+    let message = Message::Retain(Kept::new(Everyone(9)));
+    handle.enqueue(message).expect(rt, "an answer");
 }
 
 /// Whether these are all that the book has for the handle's share.
 fn has_both<K, S, N, R>(
+    rt: &impl Abort,
     alloc: Global,
     handle: &Handle<K, S, N, R>,
     receiver: &Mail<K, S, N, R>,
     key: &K,
     subscriber: &S,
-) -> Result<bool, Fail>
+) -> bool
 where
     K: Ord + Hash + Faithful + Exact + Drop,
     S: Ord + Faithful + Exact + Drop,
@@ -132,72 +140,62 @@ where
     R: Wait,
 {
     let Some(share) = handle.share() else {
-        return Ok(false);
+        return false;
     };
-    let book = receiver.book(alloc, &[share])?;
+    let book = receiver.book(alloc, &[share]).expect(rt, "a book");
     let has_both = book.len() == 2 && is_fetch(&book[0], key, subscriber) && is_test(&book[1]);
     drop(book);
-    Ok(has_both)
+    has_both
 }
 
 /// Puts both. Whether the book has them then.
 fn put_and_look<K, S, N, R>(
+    rt: &impl Abort,
     alloc: Global,
     handle: &mut Handle<K, S, N, R>,
     receiver: &Mail<K, S, N, R>,
     key: &K,
     subscriber: &S,
-) -> Result<bool, Fail>
+) -> bool
 where
     K: Ord + Hash + Faithful + Exact + Drop,
     S: Ord + Faithful + Exact + Drop,
     N: Naming,
     R: Wait,
 {
-    put_both(alloc, handle, key, subscriber)?;
-    has_both(alloc, handle, receiver, key, subscriber)
+    put_both(rt, alloc, handle, key, subscriber);
+    has_both(rt, alloc, handle, receiver, key, subscriber)
 }
 
 /// The same in a recorded mailbox of capacity 1.
-fn are_booked<K, S, N, R>(
-    rt: R,
-    alloc: Global,
-    pages: Pages,
-    key: &K,
-    subscriber: &S,
-) -> Result<bool, Fail>
+fn are_booked<K, S, N, R>(rt: R, alloc: Global, pages: Pages, key: &K, subscriber: &S) -> bool
 where
     K: Ord + Hash + Faithful + Exact + Drop,
     S: Ord + Faithful + Exact + Drop,
     N: Naming,
-    R: Wait + Copy + Drop,
+    R: Abort + Wait + Copy + Drop,
     requires recorded { N.is_recorded ≡ true }
     requires puts { pages.puts.name ≡ N.puts }
     requires takes { pages.takes.name ≡ N.takes }
 {
-    match recorded::<K, S, (), Kept<Everyone>, N, R>(rt, alloc, pages, 1) {
-        Ok((mut handle, receiver)) => {
-            let are_booked = put_and_look(alloc, &mut handle, &receiver, key, subscriber);
-            drop(handle);
-            drop(receiver);
-            are_booked
-        }
-        Err(fault) => Err(fault.into()),
-    }
+    let made = recorded::<K, S, (), Kept<Everyone>, N, R>(rt, alloc, pages, 1);
+    let (mut handle, receiver) = made.expect(&rt, "a mailbox");
+    let are_booked = put_and_look(&rt, alloc, &mut handle, &receiver, key, subscriber);
+    drop(handle);
+    drop(receiver);
+    are_booked
 }
 
 #[test]
-fn byte_arrays_and_bytes_are_booked(rt: HostRuntime) -> Result<(), Fail> {
+fn byte_arrays_and_bytes_are_booked(rt: HostRuntime) {
     let key = [1u8, 2, 3];
     let bytes = Bytes::from_static(b"ab");
-    assert!(rt; are_booked::<_, _, Brand, _>(rt, rt.alloc(), Pages::new(), &key, &bytes)?);
-    Ok(())
+    assert!(rt; are_booked::<_, _, Brand, _>(rt, rt.alloc(), Pages::new(), &key, &bytes));
 }
 
 #[test]
-fn tuples_are_booked(rt: HostRuntime) -> Result<(), Fail> {
+fn tuples_are_booked(rt: HostRuntime) {
     let pair = (1u8, Bytes::from_static(b"cd"));
     let triple = (1u8, 2u16, [3u32, 4]);
-    assert!(rt; are_booked::<_, _, Brand, _>(rt, rt.alloc(), Pages::new(), &pair, &triple)?);
-    Ok(())
+    assert!(rt; are_booked::<_, _, Brand, _>(rt, rt.alloc(), Pages::new(), &pair, &triple));
 }

@@ -9,12 +9,13 @@ use futures::test::MockTask;
 use resolver_base::base::{Fault, Feedback};
 use resolver_ingress::ingress::Message;
 use resolver_mailbox::mailbox::{Entry, Naming, Pages, Receiver, Sender, recorded};
-use std::alloc::{AllocError, AllocGlobal, Global};
+use std::alloc::{AllocGlobal, Global};
 use std::fmt::Write;
 use std::marker::Brand;
+use std::panic::Expect;
+use std::process::Abort;
 use std::random::RandomSource;
 use std::sync::Wait;
-use std::test::Fail;
 use std::thread::{self, JoinHandle, Threads};
 
 /// A handle of the tests.
@@ -114,17 +115,17 @@ fn start<N, R>(
     alloc: Global,
     handle: Handle<N, R>,
     job: Job,
-) -> Result<JoinHandle<(Handle<N, R>, Tally)>, AllocError>
+) -> JoinHandle<(Handle<N, R>, Tally)>
 where
     N: Naming + Send + Sync + 'static,
-    R: Threads + Wait + Copy + Drop + Send + 'static,
+    R: Abort + Threads + Wait + Copy + Drop + Send + 'static,
 {
     let mut handle = handle;
     let work = move || {
         let tally = work(&mut handle, alloc, job);
         (handle, tally)
     };
-    Ok(thread::spawn(&rt, work)?)
+    thread::spawn(&rt, work).expect(&rt, "a thread")
 }
 
 /// A thread for each job, with a handle of its own.
@@ -133,16 +134,19 @@ fn start_all<N, R>(
     alloc: Global,
     handle: &Handle<N, R>,
     jobs: &[Job],
-) -> Result<Vec<JoinHandle<(Handle<N, R>, Tally)>>, AllocError>
+) -> Vec<JoinHandle<(Handle<N, R>, Tally)>>
 where
     N: Naming + Send + Sync + 'static,
-    R: Threads + Wait + Copy + Drop + Send + 'static,
+    R: Abort + Threads + Wait + Copy + Drop + Send + 'static,
 {
     let mut running = Vec::new(alloc);
     for job in jobs {
-        running.push(start(rt, alloc, handle.clone()?, *job)?)?;
+        let handle = handle.clone().expect(&rt, "memory");
+        running
+            .push(start(rt, alloc, handle, *job))
+            .expect(&rt, "memory");
     }
-    Ok(running)
+    running
 }
 
 /// Waits for the threads, and gives their handles, and what they were answered together.
@@ -150,50 +154,51 @@ fn join_all<N, R>(
     rt: R,
     alloc: Global,
     running: Vec<JoinHandle<(Handle<N, R>, Tally)>>,
-) -> Result<(Vec<Handle<N, R>>, Tally), AllocError>
+) -> (Vec<Handle<N, R>>, Tally)
 where
     N: Naming + Send + Sync + 'static,
-    R: Threads + Wait + Copy + Drop + Send + 'static,
+    R: Abort + Threads + Wait + Copy + Drop + Send + 'static,
 {
     let mut handles = Vec::new(alloc);
     let mut all = Tally::new();
     for thread in running {
         let (handle, tally) = thread.join(&rt);
         all = all.plus(tally);
-        handles.push(handle)?;
+        handles.push(handle).expect(&rt, "memory");
     }
-    Ok((handles, all))
+    (handles, all)
 }
 
 /// Writes how many fetches a message has, and of the first one the key and how many want it.
-fn spell_size(text: &mut String, message: &Told) -> Result<(), Fail> {
+fn spell_size(rt: &impl Abort, text: &mut String, message: &Told) {
     match message {
         Message::Fetch(items) => {
-            write!(text, "{}", items.len())?;
+            write!(text, "{}", items.len()).expect(rt, "memory");
             if let Some(item) = items.first() {
-                write!(text, " of {} for {}", item.key, item.subscribers.len())?;
+                write!(text, " of {} for {}", item.key, item.subscribers.len()).expect(
+                    rt, "memory",
+                );
             }
         }
-        Message::Retain(_) => write!(text, "retain")?,
+        Message::Retain(_) => write!(text, "retain").expect(rt, "memory"),
     }
-    writeln!(text)?;
-    Ok(())
+    writeln!(text).expect(rt, "memory");
 }
 
 /// Polls up to the end, and writes what the receiver gives.
 fn take_all<N: Naming, R: Wait + Drop>(
+    rt: &impl Abort,
     text: &mut String,
     task: &MockTask,
     receiver: &mut Receiver<u16, u16, (), All, N, R>,
-) -> Result<(), Fail> {
+) {
     for _ in 0..1000_u64 {
         match next(task, receiver) {
-            Poll::Ready(Some(message)) => spell_size(text, &message?)?,
-            Poll::Ready(None) => return Ok(writeln!(text, "end")?),
-            Poll::Pending => return Ok(writeln!(text, "pending")?),
+            Poll::Ready(Some(message)) => spell_size(rt, text, &message.expect(rt, "a message")),
+            Poll::Ready(None) => return writeln!(text, "end").expect(rt, "memory"),
+            Poll::Pending => return writeln!(text, "pending").expect(rt, "memory"),
         }
     }
-    Ok(())
 }
 
 /// How many puts stand after the first close of a book, and how many closes it has.
@@ -235,23 +240,24 @@ struct Found {
 
 /// What the book says, which is lent for the shares of these handles.
 fn find<N: Naming, R: Wait>(
+    rt: &impl Abort,
     alloc: Global,
     handles: &[Handle<N, R>],
     receiver: &Receiver<u16, u16, (), All, N, R>,
     tally: Tally,
-) -> Result<Found, Fault> {
-    let shares = shares_of(alloc, handles)?;
-    let book = receiver.book(alloc, shares.as_slice())?;
+) -> Found {
+    let shares = shares_of(rt, alloc, handles);
+    let book = receiver.book(alloc, shares.as_slice()).expect(rt, "a book");
     let (after, closes) = after_the_close(book.as_slice());
     let booked = puts_in(book.as_slice());
     drop(book);
-    Ok(Found {
+    Found {
         tally,
         held: held(handles),
         booked,
         after,
         closes,
-    })
+    }
 }
 
 /// How a mailbox is used.
@@ -267,67 +273,61 @@ struct Use {
 
 /// The receiver takes what waits once the threads are over, which is written.
 fn end<N: Naming, R: Wait + Drop>(
+    rt: &impl Abort,
     text: &mut String,
     task: &MockTask,
     handles: &[Handle<N, R>],
     receiver: &mut Receiver<u16, u16, (), All, N, R>,
     tally: Tally,
-) -> Result<Found, Fail> {
-    take_all(text, task, receiver)?;
-    Ok(find(*text.allocator(), handles, receiver, tally)?)
+) -> Found {
+    take_all(rt, text, task, receiver);
+    find(rt, *text.allocator(), handles, receiver, tally)
 }
 
 /// A thread for each job over a mailbox that is used so, and its end.
 fn run_over<N, R>(
-    text: &mut String,
     rt: R,
+    text: &mut String,
     handle: &Handle<N, R>,
     receiver: &mut Receiver<u16, u16, (), All, N, R>,
     jobs: &[Job],
     how: Use,
-) -> Result<Found, Fail>
+) -> Found
 where
     N: Naming + Send + Sync + 'static,
-    R: Threads + Wait + RandomSource + AllocGlobal + Copy + Drop + Send + 'static,
+    R: Abort + Threads + Wait + RandomSource + AllocGlobal + Copy + Drop + Send + 'static,
 {
     let alloc = *text.allocator();
-    let task = MockTask::new(&rt)?;
-    let running = start_all(rt, alloc, handle, jobs)?;
+    let task = MockTask::new(&rt).expect(&rt, "a task");
+    let running = start_all(rt, alloc, handle, jobs);
     for _ in 0..how.polls {
         let _ = next(&task, receiver);
     }
-    match join_all(rt, alloc, running) {
-        Ok((handles, tally)) => {
-            if how.closes {
-                receiver.close();
-            }
-            let found = end(text, &task, handles.as_slice(), receiver, tally);
-            drop(handles);
-            found
-        }
-        Err(error) => Err(error.into()),
+    let (handles, tally) = join_all(rt, alloc, running);
+    if how.closes {
+        receiver.close();
     }
+    let found = end(&rt, text, &task, handles.as_slice(), receiver, tally);
+    drop(handles);
+    found
 }
 
 /// The same over a recorded mailbox.
-fn run<N, R>(text: &mut String, rt: R, pages: Pages, jobs: &[Job], how: Use) -> Result<Found, Fail>
+fn run<N, R>(rt: R, text: &mut String, pages: Pages, jobs: &[Job], how: Use) -> Found
 where
     N: Naming + Send + Sync + 'static,
-    R: Threads + Wait + RandomSource + AllocGlobal + Copy + Drop + Send + 'static,
+    R: Abort + Threads + Wait + RandomSource + AllocGlobal + Copy + Drop + Send + 'static,
     requires recorded { N.is_recorded ≡ true }
     requires puts { pages.puts.name ≡ N.puts }
     requires takes { pages.takes.name ≡ N.takes }
 {
     let alloc = *text.allocator();
-    match recorded::<u16, u16, (), All, N, R>(rt, alloc, pages, how.capacity) {
-        Ok((handle, mut receiver)) => {
-            let found = run_over(text, rt, &handle, &mut receiver, jobs, how);
-            drop(handle);
-            drop(receiver);
-            found
-        }
-        Err(fault) => Err(fault.into()),
-    }
+    let made = recorded::<u16, u16, (), All, N, R>(rt, alloc, pages, how.capacity);
+    let (handle, mut receiver) = made.expect(&rt, "a mailbox");
+    let found = run_over(rt, text, &handle, &mut receiver, jobs, how);
+    drop(handle);
+    drop(receiver);
+    found
 }
 
 /// Fetches of this many keys from the first one on.
@@ -341,7 +341,7 @@ fn keys(count: u16, key: u16) -> Job {
 }
 
 #[test]
-fn the_book_holds_what_four_threads_put(rt: HostRuntime) -> Result<(), Fail> {
+fn the_book_holds_what_four_threads_put(rt: HostRuntime) {
     let mut text = String::new(rt.alloc());
     let jobs = [
         keys(250, 0),
@@ -354,12 +354,11 @@ fn the_book_holds_what_four_threads_put(rt: HostRuntime) -> Result<(), Fail> {
         polls: 500,
         closes: false,
     };
-    let found = run::<Brand, _>(&mut text, rt, Pages::new(), &jobs, how)?;
+    let found = run::<Brand, _>(rt, &mut text, Pages::new(), &jobs, how);
     assert_eq!(rt;
         (found.tally.wrong, found.held, found.booked),
         (0, 1000, 1000)
     );
-    Ok(())
 }
 
 /// Three threads put while a fourth closes, which is started after this many of them.
@@ -377,7 +376,7 @@ fn closing_after(place: usize) -> [Job; 4] {
 }
 
 #[test]
-fn closing(rt: HostRuntime) -> Result<(), Fail> {
+fn closing(rt: HostRuntime) {
     let how = Use {
         capacity: 1,
         polls: 0,
@@ -386,7 +385,7 @@ fn closing(rt: HostRuntime) -> Result<(), Fail> {
     for place in 0..4_usize {
         let mut text = String::new(rt.alloc());
         let jobs = closing_after(place);
-        let found = run::<Brand, _>(&mut text, rt, Pages::new(), &jobs, how)?;
+        let found = run::<Brand, _>(rt, &mut text, Pages::new(), &jobs, how);
         let put = found.tally.ok.saturating_add(found.tally.backoff);
         assert_eq!(rt; put.saturating_add(found.tally.closed), 300);
         assert_eq!(rt;
@@ -396,7 +395,6 @@ fn closing(rt: HostRuntime) -> Result<(), Fail> {
         assert_eq!(rt; (found.closes, found.after), (1, 0));
         assert!(rt; text.as_str().ends_with("end\n"));
     }
-    Ok(())
 }
 
 /// Five hundred fetches of key 7, for subscribers from this one on.
@@ -410,7 +408,7 @@ fn five_hundred(subscriber: u16) -> Job {
 }
 
 #[test]
-fn full_desk(rt: HostRuntime) -> Result<(), Fail> {
+fn full_desk(rt: HostRuntime) {
     let mut text = String::new(rt.alloc());
     let jobs = [five_hundred(0), five_hundred(500)];
     let how = Use {
@@ -418,7 +416,7 @@ fn full_desk(rt: HostRuntime) -> Result<(), Fail> {
         polls: 0,
         closes: true,
     };
-    let found = run::<Brand, _>(&mut text, rt, Pages::new(), &jobs, how)?;
+    let found = run::<Brand, _>(rt, &mut text, Pages::new(), &jobs, how);
     assert_eq!(rt; text.as_str(), "1 of 7 for 1\n1 of 7 for 999\nend\n");
     assert_eq!(rt; (found.tally.ok, found.tally.backoff), (1, 999));
     assert_eq!(rt;
@@ -426,5 +424,4 @@ fn full_desk(rt: HostRuntime) -> Result<(), Fail> {
         (0, 1000, 1000)
     );
     assert_eq!(rt; (found.closes, found.after), (1, 0));
-    Ok(())
 }
