@@ -4,12 +4,12 @@ use futures::Stream;
 use futures::channel::mpsc::UnboundedReceiver;
 use futures::task::Poll;
 use futures::test::MockTask;
-use resolver_base::base::{Fault, NonEmptyVec};
+use resolver_base::base::NonEmptyVec;
 use resolver_base::root::{Delivery, Outcome, Resolution};
 use resolver_surface::{Consumer, mocks};
 use std::alloc::Global;
+use std::panic::Expect;
 use std::process::Abort;
-use std::test::Fail;
 
 const RIGHT: Option<Outcome> = Some(Outcome::Resolved(Resolution::Complete));
 
@@ -17,26 +17,24 @@ const WRONG: Option<Outcome> = Some(Outcome::Invalid);
 
 /// What a consumer says at once of this value under this key.
 fn outcome_of<C: Consumer<Key = Letter, Value = u16, Subscriber = u8>>(
+    rt: &impl Abort,
     alloc: Global,
     task: &MockTask,
     consumer: &mut C,
     key: u8,
     value: u16,
-) -> Result<Option<Outcome>, Fault>
+) -> Option<Outcome>
 where
     C::Outcome: Drop,
 {
-    let Ok(subscribers) = NonEmptyVec::new(alloc, (10, 7)) else {
-        return Err(Fault::OutOfMemory);
-    };
     let delivery = Delivery {
         key: Letter(key),
-        subscribers,
+        subscribers: NonEmptyVec::new(alloc, (10, 7)).expect(rt, "memory"),
     };
-    let mut verdict = consumer.deliver(delivery, value)?;
+    let mut verdict = consumer.deliver(delivery, value).expect(rt, "memory");
     match task.poll(&mut verdict) {
-        Poll::Ready(Ok(outcome)) => Ok(Some(outcome.into())),
-        _ => Ok(None),
+        Poll::Ready(Ok(outcome)) => Some(outcome.into()),
+        _ => None,
     }
 }
 
@@ -54,17 +52,16 @@ type Judged = (u8, u16, Option<Outcome>);
 /// Ends the test where a consumer says something else of a value under a key.
 fn says<C: Consumer<Key = Letter, Value = u16, Subscriber = u8>>(
     rt: &impl Abort,
+    alloc: Global,
     task: &MockTask,
     consumer: &mut C,
-    alloc: Global,
     &(key, value, wanted): &Judged,
-) -> Result<(), Fault>
+)
 where
     C::Outcome: Drop,
 {
-    let outcome = outcome_of(alloc, task, consumer, key, value)?;
+    let outcome = outcome_of(rt, alloc, task, consumer, key, value);
     equal(rt, &outcome, &wanted);
-    Ok(())
 }
 
 /// The last value that is expected of a key is right alone, and any value where none is.
@@ -73,16 +70,16 @@ fn judges(
     alloc: Global,
     task: &MockTask,
     consumer: &mut mocks::Consumer<Letter, u16, u8>,
-) -> Result<(), Fault> {
+) {
     const EXPECTED: &[Judged] = &[(1, 7, RIGHT), (1, 6, WRONG), (2, 9, RIGHT)];
-    consumer.add_expected(Letter(1), 6)?;
-    consumer.add_expected(Letter(1), 7)?;
+    consumer.add_expected(Letter(1), 6).expect(rt, "memory");
+    consumer.add_expected(Letter(1), 7).expect(rt, "memory");
     for judged in EXPECTED {
-        says(rt, task, consumer, alloc, judged)?;
+        says(rt, alloc, task, consumer, judged);
     }
     equal(rt, &consumer.pop_expected(&Letter(1)), &Some(7));
     equal(rt, &consumer.pop_expected(&Letter(1)), &None);
-    says(rt, task, consumer, alloc, &(1, 6, RIGHT))
+    says(rt, alloc, task, consumer, &(1, 6, RIGHT));
 }
 
 /// The test is told of these pairs, and then of no more.
@@ -96,15 +93,14 @@ fn told(rt: &impl Abort, task: &MockTask, taken: &mut UnboundedReceiver<(Letter,
 }
 
 #[test]
-fn what_is_expected_or_not_is_right(rt: HostRuntime) -> Result<(), Fail> {
+fn what_is_expected_or_not_is_right(rt: HostRuntime) {
     let alloc = rt.alloc();
-    let task = MockTask::new(&rt)?;
-    let (mut consumer, mut taken) = mocks::Consumer::new(alloc)?;
-    let judged = judges(&rt, alloc, &task, &mut consumer);
+    let task = MockTask::new(&rt).expect(&rt, "a task");
+    let (mut consumer, mut taken) = mocks::Consumer::new(alloc).expect(&rt, "memory");
+    judges(&rt, alloc, &task, &mut consumer);
     drop(consumer);
     told(&rt, &task, &mut taken);
     drop(taken);
-    Ok(judged?)
 }
 
 /// What a dummy expects is right, and nothing else.
@@ -113,22 +109,20 @@ fn judges_two(
     alloc: Global,
     task: &MockTask,
     consumer: &mut mocks::Consumer<Letter, u16, u8>,
-) -> Result<(), Fault> {
+) {
     const TWO: &[Judged] = &[(1, 7, RIGHT), (1, 8, WRONG), (2, 8, RIGHT)];
-    consumer.add_expected(Letter(1), 7)?;
-    consumer.add_expected(Letter(2), 8)?;
+    consumer.add_expected(Letter(1), 7).expect(rt, "memory");
+    consumer.add_expected(Letter(2), 8).expect(rt, "memory");
     for judged in TWO {
-        says(rt, task, consumer, alloc, judged)?;
+        says(rt, alloc, task, consumer, judged);
     }
-    Ok(())
 }
 
 #[test]
-fn a_dummy_judges_too(rt: HostRuntime) -> Result<(), Fail> {
+fn a_dummy_judges_too(rt: HostRuntime) {
     let alloc = rt.alloc();
-    let task = MockTask::new(&rt)?;
-    let mut consumer = mocks::Consumer::dummy(alloc)?;
-    let judged = judges_two(&rt, alloc, &task, &mut consumer);
+    let task = MockTask::new(&rt).expect(&rt, "a task");
+    let mut consumer = mocks::Consumer::dummy(alloc).expect(&rt, "memory");
+    judges_two(&rt, alloc, &task, &mut consumer);
     drop(consumer);
-    Ok(judged?)
 }

@@ -4,53 +4,51 @@ ghost use Rattle.std.proofs.Common.{rules};
 use crate::asserts::{equal, equal_lists, holds};
 use resolver_base::base::{NonEmptyVec, Predicate};
 use std::alloc::Global;
+use std::panic::Expect;
 use std::process::Abort;
-use std::test::Fail;
 
 #[test]
-fn grows_in_order(rt: HostRuntime) -> Result<(), Fail> {
-    let mut list = NonEmptyVec::new(rt.alloc(), 5u8)?;
+fn grows_in_order(rt: HostRuntime) {
+    let mut list = NonEmptyVec::new(rt.alloc(), 5u8).expect(&rt, "memory");
     equal(&rt, list.first(), &5);
-    list.push(7)?;
-    list.insert(1, 6)?;
+    list.push(7).expect(&rt, "memory");
+    list.insert(1, 6).expect(&rt, "memory");
     equal(&rt, &list.len(), &3);
     equal_lists(&rt, list.as_slice(), &[5, 6, 7]);
     holds(&rt, list.contains(&6));
     holds(&rt, !list.contains(&8));
-    Ok(())
 }
 
 #[test]
-fn takes_a_list_that_has_items(rt: HostRuntime) -> Result<(), Fail> {
-    let items = [5u8, 6].to_vec(rt.alloc())?;
-    let list = NonEmptyVec::try_from(items).ok().ok_or("two items")?;
+fn takes_a_list_that_has_items(rt: HostRuntime) {
+    let items = [5u8, 6].to_vec(rt.alloc()).expect(&rt, "memory");
+    let list = NonEmptyVec::try_from(items).ok().expect(&rt, "two items");
     equal_lists(&rt, list.into_vec().as_slice(), &[5, 6]);
     let back = NonEmptyVec::<u8>::try_from(Vec::new(rt.alloc()))
         .err()
-        .ok_or("no item")?;
+        .expect(&rt, "the empty list");
     holds(&rt, back.is_empty());
-    Ok(())
 }
 
 #[test]
-fn gives_its_items(rt: HostRuntime) -> Result<(), Fail> {
-    let list = list_of(rt.alloc(), &[5u8, 6])?;
+fn gives_its_items(rt: HostRuntime) {
+    let list = list_of(&rt, rt.alloc(), &[5u8, 6]);
     let mut given = Vec::new(rt.alloc());
     for item in list.iter() {
-        given.push(*item)?;
+        given.push(*item).expect(&rt, "memory");
     }
     equal_lists(&rt, given.as_slice(), &[5, 6]);
-    Ok(())
 }
 
 #[test]
-fn is_cloned_and_mapped(rt: HostRuntime) -> Result<(), Fail> {
-    let list = list_of(rt.alloc(), &[5u8, 6])?;
-    let same = list.clone();
-    let halves = list.map_into(rt.alloc(), |item| u16::from(item) / 2)?;
+fn is_cloned_and_mapped(rt: HostRuntime) {
+    let list = list_of(&rt, rt.alloc(), &[5u8, 6]);
+    let same = list.clone().expect(&rt, "memory");
+    let halves = list
+        .map_into(rt.alloc(), |item| u16::from(item) / 2)
+        .expect(&rt, "memory");
     equal_lists(&rt, halves.as_slice(), &[2, 3]);
-    equal_lists(&rt, same?.as_slice(), &[5, 6]);
-    Ok(())
+    equal_lists(&rt, same.as_slice(), &[5, 6]);
 }
 
 /// Keeps the subscribers up to a bound.
@@ -67,58 +65,52 @@ impl Predicate<u8, u16> for UpTo {
 }
 
 #[test]
-fn keeps_subscribers_or_all(rt: HostRuntime) -> Result<(), Fail> {
-    let mut list = NonEmptyVec::new(rt.alloc(), (10u16, 7))?;
-    list.push((11, 8))?;
+fn keeps_subscribers_or_all(rt: HostRuntime) {
+    let mut list = NonEmptyVec::new(rt.alloc(), (10u16, 7)).expect(&rt, "memory");
+    list.push((11, 8)).expect(&rt, "memory");
     holds(&rt, !list.keeps_any(&1, &UpTo(9)));
     holds(&rt, !list.retain_kept(&1, &UpTo(9)));
     equal(&rt, &list.len(), &2);
     holds(&rt, list.keeps_any(&1, &UpTo(10)));
     holds(&rt, list.retain_kept(&1, &UpTo(10)));
     equal_lists(&rt, list.as_slice(), &[(10, 7)]);
-    Ok(())
 }
 
 /// A list of these items, of which there is one at least.
-fn list_of<T: Copy>(alloc: Global, items: &[T]) -> Result<NonEmptyVec<T>, Fail> {
-    match NonEmptyVec::try_from(Vec::from_slice(alloc, items)?) {
-        Ok(list) => Ok(list),
-        Err(_) => Err("no item".into()),
-    }
+fn list_of<T: Copy>(rt: &impl Abort, alloc: Global, items: &[T]) -> NonEmptyVec<T> {
+    let items = Vec::from_slice(alloc, items).expect(rt, "memory");
+    NonEmptyVec::try_from(items).ok().expect(rt, "an item")
 }
 
 /// A list of 5 that is joined by these items has all of these then.
-fn joins(rt: &impl Abort, alloc: Global, more: &[u8], all: &[u8]) -> Result<(), Fail> {
-    let mut peers = list_of(alloc, &[5])?;
-    peers.join(alloc, list_of(alloc, more)?)?;
+fn joins(rt: &impl Abort, alloc: Global, more: &[u8], all: &[u8]) {
+    let mut peers = list_of(rt, alloc, &[5]);
+    let more = list_of(rt, alloc, more);
+    peers.join(alloc, more).expect(rt, "memory");
     equal_lists(rt, peers.as_slice(), all);
-    Ok(())
 }
 
 #[test]
-fn joins_without_repeats(rt: HostRuntime) -> Result<(), Fail> {
-    joins(&rt, rt.alloc(), &[6, 5, 6], &[5, 6])?;
+fn joins_without_repeats(rt: HostRuntime) {
+    joins(&rt, rt.alloc(), &[6, 5, 6], &[5, 6]);
     let more = [9, 8, 7, 6, 5, 4, 3, 4, 5, 6];
-    joins(&rt, rt.alloc(), &more, &[5, 9, 8, 7, 6, 4, 3])
+    joins(&rt, rt.alloc(), &more, &[5, 9, 8, 7, 6, 4, 3]);
 }
 
 /// Subscriber 5 alone that is joined by these subscribers has all of these beside it then.
-fn joins_subscribers(
-    rt: &impl Abort,
-    alloc: Global,
-    more: &[(u8, u64)],
-    all: &[(u8, u64)],
-) -> Result<(), Fail> {
-    let mut subscribers = list_of(alloc, &[(5, 1)])?;
-    subscribers.join_subscribers(alloc, list_of(alloc, more)?)?;
+fn joins_subscribers(rt: &impl Abort, alloc: Global, more: &[(u8, u64)], all: &[(u8, u64)]) {
+    let mut subscribers = list_of(rt, alloc, &[(5, 1)]);
+    let more = list_of(rt, alloc, more);
+    subscribers
+        .join_subscribers(alloc, more)
+        .expect(rt, "memory");
     equal_lists(rt, subscribers.as_slice(), all);
-    Ok(())
 }
 
 #[test]
-fn joins_subscribers_without_repeats(rt: HostRuntime) -> Result<(), Fail> {
+fn joins_subscribers_without_repeats(rt: HostRuntime) {
     let few = [(4, 2), (5, 3), (4, 4)];
-    joins_subscribers(&rt, rt.alloc(), &few, &[(5, 1), (4, 2)])?;
+    joins_subscribers(&rt, rt.alloc(), &few, &[(5, 1), (4, 2)]);
     let many = [
         (9, 0),
         (8, 1),
@@ -131,5 +123,5 @@ fn joins_subscribers_without_repeats(rt: HostRuntime) -> Result<(), Fail> {
         (5, 8),
     ];
     let all = [(5, 1), (9, 0), (8, 1), (7, 2), (6, 3), (4, 5), (3, 6)];
-    joins_subscribers(&rt, rt.alloc(), &many, &all)
+    joins_subscribers(&rt, rt.alloc(), &many, &all);
 }

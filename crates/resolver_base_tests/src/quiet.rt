@@ -3,7 +3,7 @@ use futures::task::Poll;
 use futures::test::MockTask;
 use resolver_surface::mocks::Quiet;
 use resolver_surface::{Blocker, Provider};
-use std::test::Fail;
+use std::panic::Expect;
 
 /// Whether a provider has no set so far.
 fn has_no_set<D: Provider<PublicKey = Letter>>(task: &MockTask, provider: &mut D) -> bool {
@@ -17,13 +17,12 @@ fn blocks_nobody<B: Blocker<PublicKey = Letter>>(task: &MockTask, blocker: &mut 
 }
 
 #[test]
-fn quiet_sources_give_nothing(rt: HostRuntime) -> Result<(), Fail> {
-    let task = MockTask::new(&rt)?;
+fn quiet_sources_give_nothing(rt: HostRuntime) {
+    let task = MockTask::new(&rt).expect(&rt, "a task");
     let mut quiet = Quiet::new();
     for _ in 0..3 {
         assert!(rt; has_no_set(&task, &mut quiet));
         assert!(rt; blocks_nobody(&task, &mut quiet));
         assert!(rt; !task.is_woken());
     }
-    Ok(())
 }

@@ -1,22 +1,27 @@
 use crate::asserts::{equal, equal_lists, holds};
 use resolver_base::base::NonEmptyVec;
 use resolver_base::root::{Delivery, Fetch, Outcome, Resolution, laws};
-use std::alloc::{AllocError, Global};
+use std::alloc::Global;
 use std::cmp::Ordering;
+use std::panic::Expect;
 use std::process::Abort;
-use std::test::Fail;
 
-fn delivery(alloc: Global, key: u8, subscribers: &[(u16, u64)]) -> Result<Delivery<u8, u16>, Fail> {
-    let listed = Vec::from_slice(alloc, subscribers)?;
-    match NonEmptyVec::try_from(listed) {
-        Ok(subscribers) => Ok(Delivery { key, subscribers }),
-        Err(_) => Err("no subscriber".into()),
-    }
+fn delivery(
+    rt: &impl Abort,
+    alloc: Global,
+    key: u8,
+    subscribers: &[(u16, u64)],
+) -> Delivery<u8, u16> {
+    let listed = Vec::from_slice(alloc, subscribers).expect(rt, "memory");
+    let subscribers = NonEmptyVec::try_from(listed)
+        .ok()
+        .expect(rt, "a subscriber");
+    Delivery { key, subscribers }
 }
 
 // Key first, then the subscribers in order; a shorter equal beginning is less; marks don't count.
 #[test]
-fn deliveries_compare_by_key_and_subscribers(rt: HostRuntime) -> Result<(), Fail> {
+fn deliveries_compare_by_key_and_subscribers(rt: HostRuntime) {
     const CASES: &[(u8, &[(u16, u64)], u8, &[(u16, u64)], Ordering)] = &[
         (1, &[(10, 7)], 1, &[(10, 8)], Ordering::Equal),
         (1, &[(10, 7)], 2, &[(9, 7)], Ordering::Less),
@@ -33,13 +38,12 @@ fn deliveries_compare_by_key_and_subscribers(rt: HostRuntime) -> Result<(), Fail
         ),
     ];
     for &(key, subscribers, other_key, others, order) in CASES {
-        let one = delivery(rt.alloc(), key, subscribers)?;
-        let other = delivery(rt.alloc(), other_key, others)?;
+        let one = delivery(&rt, rt.alloc(), key, subscribers);
+        let other = delivery(&rt, rt.alloc(), other_key, others);
         compares(&rt, &one, &other, order);
         drop(one);
         drop(other);
     }
-    Ok(())
 }
 
 /// Compares to another so.
@@ -75,43 +79,41 @@ fn fetches_compare_by_key_and_subscriber(rt: HostRuntime) {
 }
 
 #[test]
-fn deliveries_compare_whatever_their_marks(rt: HostRuntime) -> Result<(), Fail> {
-    let one = delivery(rt.alloc(), 1, &[(10, 7)])?;
-    let other = delivery(rt.alloc(), 1, &[(10, 8)])?;
+fn deliveries_compare_whatever_their_marks(rt: HostRuntime) {
+    let one = delivery(&rt, rt.alloc(), 1, &[(10, 7)]);
+    let other = delivery(&rt, rt.alloc(), 1, &[(10, 8)]);
     holds(&rt, laws::are_equal_deliveries(&one, &other));
     equal(
         &rt,
         &laws::order_of_deliveries(&one, &other),
         &Ordering::Equal,
     );
-    Ok(())
 }
 
-fn copied<T: Clone>(value: &T) -> Result<T, AllocError> {
-    value.clone()
+fn copied<T: Clone>(rt: &impl Abort, value: &T) -> T {
+    value.clone().expect(rt, "memory")
 }
 
 #[test]
-fn clones_of_a_fetch_keep_the_mark(rt: HostRuntime) -> Result<(), Fail> {
+fn clones_of_a_fetch_keep_the_mark(rt: HostRuntime) {
     let fetch = Fetch {
         key: 1u8,
         subscriber: 10u16,
         mark: 7,
     };
-    for same in [fetch.clone()?, copied(&fetch)?] {
+    for same in [fetch.clone().expect(&rt, "memory"), copied(&rt, &fetch)] {
         equal(&rt, &(same.key, same.subscriber, same.mark), &(1, 10, 7));
     }
-    Ok(())
 }
 
 #[test]
-fn clones_of_a_delivery_keep_the_marks(rt: HostRuntime) -> Result<(), Fail> {
-    let handed = delivery(rt.alloc(), 1, &[(10, 7), (11, 8)])?;
-    let (same, again) = (handed.clone(), copied(&handed));
+fn clones_of_a_delivery_keep_the_marks(rt: HostRuntime) {
+    let handed = delivery(&rt, rt.alloc(), 1, &[(10, 7), (11, 8)]);
+    let same = handed.clone().expect(&rt, "memory");
+    let again = copied(&rt, &handed);
     drop(handed);
-    has_two_marks(&rt, same?);
-    has_two_marks(&rt, again?);
-    Ok(())
+    has_two_marks(&rt, same);
+    has_two_marks(&rt, again);
 }
 
 /// It is the delivery of key 1 to subscribers 10 and 11, with the marks 7 and 8.

@@ -1,7 +1,7 @@
 use crate::asserts::equal;
 use bytes::Bytes;
 use resolver_base::base::{Check, Feedback, PublicKey, Sender, Unreliable};
-use std::test::Fail;
+use std::panic::Expect;
 
 /// A name of one byte.
 #[derive(Clone, Copy, Debug, PartialEq, Eq, PartialOrd, Ord, Hash)]
@@ -49,18 +49,17 @@ fn tried<S: Sender>(
 }
 
 #[test]
-fn sends_to_a_peer(rt: HostRuntime) -> Result<(), Fail> {
+fn sends_to_a_peer(rt: HostRuntime) {
     let mut wire = Wire {
         known: Peer(1),
         room: 2,
     };
-    let short = Bytes::copy_from_slice(rt.alloc(), &[5, 6])?;
+    let short = Bytes::copy_from_slice(rt.alloc(), &[5, 6]).expect(&rt, "memory");
     let (check, sent) = tried(&mut wire, &Peer(1), short, true);
     equal(&rt, &check, &Check::Clear);
     equal(&rt, &sent, &Unreliable::Outcome(Feedback::Ok));
-    let long = Bytes::copy_from_slice(rt.alloc(), &[5, 6, 7])?;
+    let long = Bytes::copy_from_slice(rt.alloc(), &[5, 6, 7]).expect(&rt, "memory");
     let (check, sent) = tried(&mut wire, &Peer(2), long, false);
     equal(&rt, &check, &Check::Until(7));
     equal(&rt, &sent, &Unreliable::Rejected);
-    Ok(())
 }

@@ -6,8 +6,8 @@ use futures::channel::mpsc;
 use futures::task::{Context, Poll, Source, Waker};
 use futures::test::MockTask;
 use resolver_surface::{Clock, Receiver};
+use std::panic::Expect;
 use std::process::Abort;
-use std::test::Fail;
 
 /// A network over memory.
 #[derive(Drop)]
@@ -80,29 +80,28 @@ fn gives_hi(
     task: &MockTask,
     sender: mpsc::UnboundedSender<(Letter, Bytes)>,
     network: &mut Wire,
-) -> Result<(), Fail> {
+) {
     comes(rt, task, network, Poll::Pending);
-    let sent = sender.unbounded_send((Letter(4), Bytes::from_static(b"hi")));
+    let hi = (Letter(4), Bytes::from_static(b"hi"));
+    sender.unbounded_send(hi).expect(rt, "memory");
     drop(sender);
     let hi = (Letter(4), Bytes::from_static(b"hi"));
     comes(rt, task, network, Poll::Ready(Some(hi)));
     comes(rt, task, network, Poll::Ready(None));
-    Ok(sent?)
 }
 
 #[test]
-fn a_network_gives_what_was_sent(rt: HostRuntime) -> Result<(), Fail> {
-    let task = MockTask::new(&rt)?;
-    let (sender, messages) = mpsc::unbounded(rt.alloc())?;
+fn a_network_gives_what_was_sent(rt: HostRuntime) {
+    let task = MockTask::new(&rt).expect(&rt, "a task");
+    let (sender, messages) = mpsc::unbounded(rt.alloc()).expect(&rt, "memory");
     let mut network = Wire { messages };
-    let given = gives_hi(&rt, &task, sender, &mut network);
+    gives_hi(&rt, &task, sender, &mut network);
     drop(network);
-    given
 }
 
 #[test]
-fn a_moment_comes_at_its_time(rt: HostRuntime) -> Result<(), Fail> {
-    let task = MockTask::new(&rt)?;
+fn a_moment_comes_at_its_time(rt: HostRuntime) {
+    let task = MockTask::new(&rt).expect(&rt, "a task");
     let mut clock = Watch {
         now: 5,
         changed: Source::new(),
@@ -111,5 +110,4 @@ fn a_moment_comes_at_its_time(rt: HostRuntime) -> Result<(), Fail> {
     equal(&rt, &left(&task, &mut clock, 5), &(0, true));
     equal(&rt, &left(&task, &mut clock, 8), &(3, false));
     drop(clock);
-    Ok(())
 }

@@ -5,7 +5,7 @@ use crate::asserts::{equal, equal_lists};
 use bytes::{BufMut, BytesMut};
 use resolver_base::base::Span;
 use std::alloc::AllocError;
-use std::test::Fail;
+use std::panic::Expect;
 
 /// A name of one byte.
 #[derive(Clone, Copy, Debug, PartialEq, Eq, PartialOrd, Ord, Hash)]
@@ -41,11 +41,10 @@ impl Span for Letter {
 }
 
 #[test]
-fn is_read_as_it_was_written(rt: HostRuntime) -> Result<(), Fail> {
+fn is_read_as_it_was_written(rt: HostRuntime) {
     let mut out = BytesMut::new(rt.alloc());
-    Letter(123).write(&mut out)?;
-    Letter(5).write(&mut out)?;
+    Letter(123).write(&mut out).expect(&rt, "memory");
+    Letter(5).write(&mut out).expect(&rt, "memory");
     equal_lists(&rt, out.as_slice(), &[123, 5]);
     equal(&rt, &Letter::read(&[123]), &Some(Letter(123)));
-    Ok(())
 }
