@@ -12,8 +12,9 @@ use resolver::{Fetch, Resolver, TargetedResolver, ingress};
 use std::alloc::Global;
 use std::fmt::Write;
 use std::marker::Brand;
+use std::panic::Expect;
+use std::process::Abort;
 use std::sync::Wait;
-use std::test::Fail;
 
 type Targets = Option<NonEmptyVec<Peer>>;
 
@@ -35,242 +36,237 @@ fn fetch(key: u8) -> Fetch<Key, u16> {
 }
 
 /// The same from one peer, whose number is the key's and a hundred.
-fn fetch_from(alloc: Global, key: u8) -> Result<(Fetch<Key, u16>, NonEmptyVec<Peer>), Fail> {
+fn fetch_from(rt: &impl Abort, alloc: Global, key: u8) -> (Fetch<Key, u16>, NonEmptyVec<Peer>) {
     let peer = Peer(key.wrapping_add(100));
-    Ok((fetch(key), NonEmptyVec::new(alloc, peer)?))
+    let peers = NonEmptyVec::new(alloc, peer).expect(rt, "memory");
+    (fetch(key), peers)
 }
 
-fn fetches(alloc: Global, keys: &[u8]) -> Result<Vec<Fetch<Key, u16>>, Fail> {
+fn fetches(rt: &impl Abort, alloc: Global, keys: &[u8]) -> Vec<Fetch<Key, u16>> {
     let mut fetches = Vec::new(alloc);
     for key in keys {
-        fetches.push(fetch(*key))?;
+        fetches.push(fetch(*key)).expect(rt, "memory");
     }
-    Ok(fetches)
+    fetches
 }
 
 fn fetches_from(
+    rt: &impl Abort,
     alloc: Global,
     keys: &[u8],
-) -> Result<Vec<(Fetch<Key, u16>, NonEmptyVec<Peer>)>, Fail> {
+) -> Vec<(Fetch<Key, u16>, NonEmptyVec<Peer>)> {
     let mut fetches = Vec::new(alloc);
     for key in keys {
-        fetches.push(fetch_from(alloc, *key)?)?;
+        fetches
+            .push(fetch_from(rt, alloc, *key))
+            .expect(rt, "memory");
     }
-    Ok(fetches)
+    fetches
 }
 
 /// Asks for none, for one and for three keys, and writes what each call answers.
-fn ask_lists<H>(text: &mut String, handle: &mut H) -> Result<(), Fail>
+fn ask_lists<H>(rt: &impl Abort, text: &mut String, handle: &mut H)
 where
     H: Resolver<Key = Key, Subscriber = u16, Predicate = All>,
 {
     for keys in [[].as_slice(), [2].as_slice(), [3, 4, 5].as_slice()] {
-        let fetches = fetches(*text.allocator(), keys)?;
-        write!(text, " {:?}", handle.fetch_all(fetches)?)?;
+        let fetches = fetches(rt, *text.allocator(), keys);
+        let feedback = handle.fetch_all(fetches).expect(rt, "an answer");
+        write!(text, " {feedback:?}").expect(rt, "memory");
     }
-    Ok(())
 }
 
 /// The same with targets.
-fn ask_targeted_lists<H>(text: &mut String, handle: &mut H) -> Result<(), Fail>
+fn ask_targeted_lists<H>(rt: &impl Abort, text: &mut String, handle: &mut H)
 where
     H: TargetedResolver<PublicKey = Peer> + Resolver<Key = Key, Subscriber = u16, Predicate = All>,
 {
     for keys in [[].as_slice(), [7].as_slice(), [8, 9, 10].as_slice()] {
-        let fetches = fetches_from(*text.allocator(), keys)?;
-        write!(text, " {:?}", handle.fetch_all_targeted(fetches)?)?;
+        let fetches = fetches_from(rt, *text.allocator(), keys);
+        let feedback = handle.fetch_all_targeted(fetches).expect(rt, "an answer");
+        write!(text, " {feedback:?}").expect(rt, "memory");
     }
-    Ok(())
 }
 
 /// Makes each call of the two traits, and writes what it answers.
-fn ask_each<H>(text: &mut String, handle: &mut H) -> Result<(), Fail>
+fn ask_each<H>(rt: &impl Abort, text: &mut String, handle: &mut H)
 where
     H: TargetedResolver<PublicKey = Peer> + Resolver<Key = Key, Subscriber = u16, Predicate = All>,
 {
-    write!(text, "{:?}", handle.fetch(fetch(1))?)?;
-    ask_lists(text, handle)?;
-    let (one, targets) = fetch_from(*text.allocator(), 6)?;
-    write!(text, " {:?}", handle.fetch_targeted(one, targets)?)?;
-    ask_targeted_lists(text, handle)?;
-    writeln!(text, " {:?}", handle.retain(All)?)?;
-    Ok(())
+    let feedback = handle.fetch(fetch(1)).expect(rt, "an answer");
+    write!(text, "{feedback:?}").expect(rt, "memory");
+    ask_lists(rt, text, handle);
+    let (one, targets) = fetch_from(rt, *text.allocator(), 6);
+    let feedback = handle.fetch_targeted(one, targets).expect(rt, "an answer");
+    write!(text, " {feedback:?}").expect(rt, "memory");
+    ask_targeted_lists(rt, text, handle);
+    let feedback = handle.retain(All).expect(rt, "an answer");
+    writeln!(text, " {feedback:?}").expect(rt, "memory");
 }
 
 /// Writes a message: each key with its subscribers, their marks, and its first target.
-fn spell(text: &mut String, message: &Message<Key, Peer, u16, All>) -> Result<(), Fail> {
+fn spell(rt: &impl Abort, text: &mut String, message: &Message<Key, Peer, u16, All>) {
     match message {
         ingress::Message::Fetch(items) => {
             for item in items {
-                write!(text, " {}=", item.key.0)?;
+                write!(text, " {}=", item.key.0).expect(rt, "memory");
                 for one in item.subscribers.as_slice() {
-                    write!(text, "{}:{}", one.0, one.1)?;
+                    write!(text, "{}:{}", one.0, one.1).expect(rt, "memory");
                 }
                 if let Some(targets) = &item.metadata {
-                    write!(text, " from {}", targets.first().0)?;
+                    write!(text, " from {}", targets.first().0).expect(rt, "memory");
                 }
             }
         }
-        ingress::Message::Retain(_) => write!(text, " retain")?,
+        ingress::Message::Retain(_) => write!(text, " retain").expect(rt, "memory"),
     }
-    writeln!(text)?;
-    Ok(())
+    writeln!(text).expect(rt, "memory");
 }
 
 /// Writes what a handle has put.
-fn spell_share<N: Naming, R>(text: &mut String, handle: &Handle<N, R>) -> Result<(), Fail> {
+fn spell_share<N: Naming, R>(rt: &impl Abort, text: &mut String, handle: &Handle<N, R>) {
     let Some(share) = handle.share() else {
-        writeln!(text, "none")?;
-        return Ok(());
+        writeln!(text, "none").expect(rt, "memory");
+        return;
     };
-    writeln!(text, "share {} {}", share.handle(), share.is_closed())?;
+    writeln!(text, "share {} {}", share.handle(), share.is_closed()).expect(rt, "memory");
     for message in share.puts() {
-        spell(text, message)?;
+        spell(rt, text, message);
     }
-    Ok(())
 }
 
 /// Writes what the receiver gives, up to the end or where it waits.
 fn spell_taken<N: Naming, R: Wait + Drop>(
+    rt: &impl Abort,
     text: &mut String,
     task: &MockTask,
     receiver: &mut Mail<N, R>,
-) -> Result<(), Fail> {
+) {
     for _ in 0..10_u64 {
         match task.enter(|cx| receiver.poll_next(cx)) {
-            Poll::Ready(Some(Ok(message))) => spell(text, &message)?,
-            Poll::Ready(Some(Err(fault))) => writeln!(text, "{}", fault.name())?,
+            Poll::Ready(Some(Ok(message))) => spell(rt, text, &message),
+            Poll::Ready(Some(Err(fault))) => {
+                writeln!(text, "{}", fault.name()).expect(rt, "memory");
+            }
             Poll::Ready(None) => {
-                writeln!(text, "end")?;
+                writeln!(text, "end").expect(rt, "memory");
                 break;
             }
             Poll::Pending => {
-                writeln!(text, "pending")?;
+                writeln!(text, "pending").expect(rt, "memory");
                 break;
             }
         }
     }
-    Ok(())
 }
 
 /// Closes the mailbox by a clone of a handle, and writes the share of that.
-fn close_by_clone<N, R>(text: &mut String, handle: &Handle<N, R>) -> Result<(), Fail>
+fn close_by_clone<N, R>(rt: &impl Abort, text: &mut String, handle: &Handle<N, R>)
 where
     N: Naming,
     R: Wait + Copy + Drop,
 {
-    match handle.clone() {
-        Ok(mut other) => {
-            let written = spell_share(text, &other);
-            other.close();
-            drop(other);
-            written
-        }
-        Err(error) => Err(error.into()),
-    }
+    let mut other = handle.clone().expect(rt, "memory");
+    spell_share(rt, text, &other);
+    other.close();
+    drop(other);
 }
 
 /// Asks, and once more after the mailbox was closed.
-fn ask_twice<N, R>(text: &mut String, handle: &mut Handle<N, R>) -> Result<(), Fail>
+fn ask_twice<N, R>(rt: &impl Abort, text: &mut String, handle: &mut Handle<N, R>)
 where
     N: Naming + Send + Sync + 'static,
     R: Wait + Copy + Drop + Send + 'static,
 {
-    ask_each(text, handle)?;
-    spell_share(text, handle)?;
-    close_by_clone(text, handle)?;
-    ask_each(text, handle)?;
-    spell_share(text, handle)
+    ask_each(rt, text, handle);
+    spell_share(rt, text, handle);
+    close_by_clone(rt, text, handle);
+    ask_each(rt, text, handle);
+    spell_share(rt, text, handle);
 }
 
 /// The same in a recorded mailbox.
-fn recorded_asked<N, R>(text: &mut String, rt: R, pages: Pages) -> Result<(), Fail>
+fn recorded_asked<N, R>(rt: R, text: &mut String, pages: Pages)
 where
     N: Naming + Send + Sync + 'static,
-    R: Wait + Copy + Drop + Send + 'static,
+    R: Abort + Wait + Copy + Drop + Send + 'static,
     requires recorded { N.is_recorded ≡ true }
     requires puts { pages.puts.name ≡ N.puts }
     requires takes { pages.takes.name ≡ N.takes }
 {
     let alloc = *text.allocator();
-    match recorded::<Key, u16, Targets, All, N, R>(rt, alloc, pages, 9) {
-        Ok((sender, receiver)) => {
-            let mut handle: Handle<N, R> = Mailbox::over(alloc, sender);
-            let written = ask_twice(text, &mut handle);
-            drop(handle);
-            drop(receiver);
-            written
-        }
-        Err(fault) => Err(fault.into()),
-    }
+    let made = recorded::<Key, u16, Targets, All, N, R>(rt, alloc, pages, 9);
+    let (sender, receiver) = made.expect(&rt, "a mailbox");
+    let mut handle: Handle<N, R> = Mailbox::over(alloc, sender);
+    ask_twice(&rt, text, &mut handle);
+    drop(handle);
+    drop(receiver);
 }
 
 #[test]
-fn what_is_asked_stands_in_the_share(rt: HostRuntime) -> Result<(), Fail> {
+fn what_is_asked_stands_in_the_share(rt: HostRuntime) {
     let alloc = rt.alloc();
     let mut text = String::new(alloc);
-    recorded_asked::<Brand, _>(&mut text, rt, Pages::new())?;
+    recorded_asked::<Brand, _>(rt, &mut text, Pages::new());
     let mut wanted = String::new(alloc);
     write!(
         wanted,
         "Ok Ok Ok Ok Ok Ok Ok Ok Ok\nshare 0 false\n{PUT}none\n"
-    )?;
+    )
+    .expect(&rt, "memory");
     write!(
         wanted,
         "Closed Closed Closed Closed Closed Closed Closed Closed Closed\nshare 0 true\n{PUT}"
-    )?;
+    )
+    .expect(&rt, "memory");
     assert_eq!(rt; text.as_str(), wanted.as_str());
-    Ok(())
 }
 
 /// Asks, and takes what was put, up to the end of the mailbox.
 fn ask_and_take<N, R>(
+    rt: &impl Abort,
     text: &mut String,
     task: &MockTask,
     handle: &mut Handle<N, R>,
     receiver: &mut Mail<N, R>,
-) -> Result<(), Fail>
+)
 where
     N: Naming + Send + Sync + 'static,
     R: Wait + Copy + Drop + Send + 'static,
 {
-    ask_each(text, handle)?;
-    spell_share(text, handle)?;
-    spell_taken(text, task, receiver)?;
+    ask_each(rt, text, handle);
+    spell_share(rt, text, handle);
+    spell_taken(rt, text, task, receiver);
     handle.close();
-    spell_taken(text, task, receiver)
+    spell_taken(rt, text, task, receiver);
 }
 
 /// The same in a mailbox that isn't recorded.
-fn unrecorded_asked<R: Wait + Copy + Drop + Send + 'static>(
-    text: &mut String,
+fn unrecorded_asked<R: Abort + Wait + Copy + Drop + Send + 'static>(
     rt: R,
+    text: &mut String,
     task: &MockTask,
-) -> Result<(), Fail> {
+) {
     let alloc = *text.allocator();
-    match new::<Key, u16, Targets, All, R>(rt, alloc, 9) {
-        Ok((sender, mut receiver)) => {
-            let mut handle: Handle<_, R> = Mailbox::over(alloc, sender);
-            let written = ask_and_take(text, task, &mut handle, &mut receiver);
-            drop(handle);
-            drop(receiver);
-            written
-        }
-        Err(fault) => Err(fault.into()),
-    }
+    let made = new::<Key, u16, Targets, All, R>(rt, alloc, 9);
+    let (sender, mut receiver) = made.expect(&rt, "a mailbox");
+    let mut handle: Handle<_, R> = Mailbox::over(alloc, sender);
+    ask_and_take(&rt, text, task, &mut handle, &mut receiver);
+    drop(handle);
+    drop(receiver);
 }
 
 #[test]
-fn what_is_asked_is_taken(rt: HostRuntime) -> Result<(), Fail> {
+fn what_is_asked_is_taken(rt: HostRuntime) {
     let alloc = rt.alloc();
-    let task = MockTask::new(&rt)?;
+    let task = MockTask::new(&rt).expect(&rt, "a task");
     let mut text = String::new(alloc);
-    unrecorded_asked(&mut text, rt, &task)?;
+    unrecorded_asked(rt, &mut text, &task);
     let mut wanted = String::new(alloc);
     write!(
         wanted,
         "Ok Ok Ok Ok Ok Ok Ok Ok Ok\nnone\n{PUT}pending\nend\n"
-    )?;
+    )
+    .expect(&rt, "memory");
     assert_eq!(rt; text.as_str(), wanted.as_str());
-    Ok(())
 }

@@ -10,8 +10,8 @@ use resolver::p2p::{Config, Engine, FetchKey};
 use std::alloc::Global;
 use std::fmt::Write;
 use std::num::NonZeroUsize;
+use std::panic::Expect;
 use std::process::Abort;
-use std::test::Fail;
 
 /// An engine that nobody talks to.
 type Silent<R> = Engine<
@@ -33,14 +33,12 @@ type Taken = Input<Key, Peer, u16, All>;
 type Answered = Result<Vec<Effect<Key, Peer, u16>>, Fault>;
 
 /// An engine that is called 9, with a timeout of 50 and a delay of 10.
-fn open<R: Copy>(rt: R, alloc: Global) -> Result<Silent<R>, Fault> {
-    let Some(mailbox_size) = NonZeroUsize::new(4) else {
-        return Err(Fault::OutOfRange);
-    };
+fn open<R: Abort + Copy>(rt: R, alloc: Global) -> Silent<R> {
+    let mailbox_size = NonZeroUsize::new(4).expect(&rt, "a size");
     let cfg = Config {
         peer_provider: Quiet::new(),
         blocker: Quiet::new(),
-        consumer: Consumer::dummy(alloc)?,
+        consumer: Consumer::dummy(alloc).expect(&rt, "memory"),
         producer: Producer::new(alloc),
         mailbox_size,
         me: Some(Peer(9)),
@@ -49,9 +47,9 @@ fn open<R: Copy>(rt: R, alloc: Global) -> Result<Silent<R>, Fault> {
         priority_requests: false,
         priority_responses: false,
     };
-    let (engine, mailbox) = Engine::new(rt, alloc, cfg)?;
+    let (engine, mailbox) = Engine::new(rt, alloc, cfg).expect(&rt, "an engine");
     drop(mailbox);
-    Ok(engine)
+    engine
 }
 
 fn happens(event: Event<Key, Peer, u16, All>) -> Taken {
@@ -59,139 +57,133 @@ fn happens(event: Event<Key, Peer, u16, All>) -> Taken {
 }
 
 /// The peers 3, 4 and 9, as the first set.
-fn peers(alloc: Global) -> Result<Taken, Fault> {
+fn peers(rt: &impl Abort, alloc: Global) -> Taken {
     let mut peers = Vec::new(alloc);
     for name in [3_u8, 4, 9] {
-        peers.push(Peer(name))?;
+        peers.push(Peer(name)).expect(rt, "memory");
     }
-    Ok(happens(Event::PeerSet { index: 1, peers }))
+    happens(Event::PeerSet { index: 1, peers })
 }
 
 /// Subscriber 10 wants key 1, with the trace mark 7.
-fn fetch(alloc: Global) -> Result<Taken, Fault> {
-    let mut items: Vec<FetchKey<Key, Peer, u16>> = Vec::new(alloc);
-    let Ok(subscribers) = NonEmptyVec::new(alloc, (10, 7)) else {
-        return Err(Fault::OutOfMemory);
-    };
-    items.push(FetchKey {
+fn fetch(rt: &impl Abort, alloc: Global) -> Taken {
+    let subscribers = NonEmptyVec::new(alloc, (10, 7)).expect(rt, "memory");
+    let item: FetchKey<Key, Peer, u16> = FetchKey {
         key: Key(1),
         subscribers,
         metadata: None,
-    })?;
-    Ok(happens(Event::Fetch(items)))
+    };
+    let mut items = Vec::new(alloc);
+    items.push(item).expect(rt, "memory");
+    happens(Event::Fetch(items))
 }
 
 fn drawn(number: u128) -> Taken {
     Input::Answers(Answer::Drawn(number))
 }
 
+fn push(rt: &impl Abort, inputs: &mut Vec<Taken>, input: Taken) {
+    inputs.push(input).expect(rt, "memory");
+}
+
 /// The inputs of a scan that sends its request, with answers and events that it refuses.
-fn push_inputs(alloc: Global, inputs: &mut Vec<Taken>) -> Result<(), Fault> {
-    inputs.push(peers(alloc)?)?;
-    inputs.push(fetch(alloc)?)?;
-    inputs.push(drawn(0))?;
-    inputs.push(drawn(2))?;
-    inputs.push(happens(Event::PendingDue))?;
-    inputs.push(Input::Answers(Answer::Sent(true)))?;
-    inputs.push(drawn(1))?;
-    inputs.push(Input::Answers(Answer::Checked(Check::Clear)))?;
-    inputs.push(drawn(1234))?;
-    inputs.push(Input::Answers(Answer::Sent(true)))?;
-    Ok(())
-}
-
-fn inputs(alloc: Global) -> Result<Vec<Taken>, Fault> {
+fn inputs(rt: &impl Abort, alloc: Global) -> Vec<Taken> {
     let mut inputs = Vec::new(alloc);
-    match push_inputs(alloc, &mut inputs) {
-        Ok(()) => Ok(inputs),
-        Err(fault) => {
-            drop(inputs);
-            Err(fault)
-        }
-    }
+    push(rt, &mut inputs, peers(rt, alloc));
+    push(rt, &mut inputs, fetch(rt, alloc));
+    push(rt, &mut inputs, drawn(0));
+    push(rt, &mut inputs, drawn(2));
+    push(rt, &mut inputs, happens(Event::PendingDue));
+    push(rt, &mut inputs, Input::Answers(Answer::Sent(true)));
+    push(rt, &mut inputs, drawn(1));
+    push(
+        rt,
+        &mut inputs,
+        Input::Answers(Answer::Checked(Check::Clear)),
+    );
+    push(rt, &mut inputs, drawn(1234));
+    push(rt, &mut inputs, Input::Answers(Answer::Sent(true)));
+    inputs
 }
 
-fn spell_effect(text: &mut String, effect: &Effect<Key, Peer, u16>) -> Result<(), Fail> {
-    match effect {
-        Effect::Ask(Ask::Draw(below)) => write!(text, " draw {below}")?,
-        Effect::Ask(Ask::Check(peer)) => write!(text, " check {}", peer.0)?,
+fn spell_effect(rt: &impl Abort, text: &mut String, effect: &Effect<Key, Peer, u16>) {
+    let written = match effect {
+        Effect::Ask(Ask::Draw(below)) => write!(text, " draw {below}"),
+        Effect::Ask(Ask::Check(peer)) => write!(text, " check {}", peer.0),
         Effect::Ask(Ask::Request { peer, id, key, .. }) => {
-            write!(text, " request {} {id} {}", peer.0, key.0)?
+            write!(text, " request {} {id} {}", peer.0, key.0)
         }
-        _ => write!(text, " other")?,
-    }
-    Ok(())
+        _ => write!(text, " other"),
+    };
+    written.expect(rt, "memory");
 }
 
 /// Writes an answer on its line.
-fn spell_answer(text: &mut String, answer: &Answered) -> Result<(), Fail> {
+fn spell_answer(rt: &impl Abort, text: &mut String, answer: &Answered) {
     match answer {
         Ok(effects) => {
             for effect in effects {
-                spell_effect(text, effect)?;
+                spell_effect(rt, text, effect);
             }
         }
-        Err(fault) => write!(text, " refused {} {}", fault.number(), fault.name())?,
+        Err(fault) => {
+            write!(text, " refused {} {}", fault.number(), fault.name()).expect(rt, "memory");
+        }
     }
-    writeln!(text)?;
-    Ok(())
+    writeln!(text).expect(rt, "memory");
 }
 
-fn spell_row(text: &mut String, row: &Row<Key, u16, Peer>) -> Result<(), Fail> {
+fn spell_row(rt: &impl Abort, text: &mut String, row: &Row<Key, u16, Peer>) {
     let (subscriber, mark) = row.subscribers.first();
     write!(
         text,
         "key {} subs {subscriber}:{mark} retries {}",
         row.key.0, row.retries
-    )?;
+    )
+    .expect(rt, "memory");
     match &row.phase {
         Phase::Asked { id, peer, deadline } => {
-            writeln!(text, " asked {id} {} {deadline}", peer.0)?
+            writeln!(text, " asked {id} {} {deadline}", peer.0).expect(rt, "memory");
         }
-        _ => writeln!(text, " idle")?,
+        _ => writeln!(text, " idle").expect(rt, "memory"),
     }
-    Ok(())
 }
 
 /// Writes answers, each on its line.
-fn spell_answers(text: &mut String, answers: &[Answered]) -> Result<(), Fail> {
+fn spell_answers(rt: &impl Abort, text: &mut String, answers: &[Answered]) {
     for answer in answers {
-        spell_answer(text, answer)?;
+        spell_answer(rt, text, answer);
     }
-    Ok(())
 }
 
-fn spell_rows(text: &mut String, rows: &[Row<Key, u16, Peer>]) -> Result<(), Fail> {
+fn spell_rows(rt: &impl Abort, text: &mut String, rows: &[Row<Key, u16, Peer>]) {
     for row in rows {
-        spell_row(text, row)?;
+        spell_row(rt, text, row);
     }
-    Ok(())
 }
 
-fn rows_of<R>(engine: &Silent<R>) -> Result<Vec<Row<Key, u16, Peer>>, Fault> {
-    engine.rows()
+fn rows_of<R>(rt: &impl Abort, engine: &Silent<R>) -> Vec<Row<Key, u16, Peer>> {
+    engine.rows().expect(rt, "memory")
 }
 
 /// Writes how many keys wait, how many requests have no answer, and how many were sent.
-fn spell_counts<R>(text: &mut String, engine: &Silent<R>) -> Result<(), Fail> {
+fn spell_counts<R>(rt: &impl Abort, text: &mut String, engine: &Silent<R>) {
     let counted = engine.metrics();
     let sent = counted.requests_sent.success;
     let waiting = counted.fetch_pending;
     let asked = counted.fetch_active;
-    writeln!(text, "waiting {waiting} asked {asked} sent {sent}")?;
-    Ok(())
+    writeln!(text, "waiting {waiting} asked {asked} sent {sent}").expect(rt, "memory");
 }
 
 /// Writes the rows, both deadlines and the counts.
-fn spell_state<R>(text: &mut String, engine: &Silent<R>) -> Result<(), Fail> {
-    let rows = rows_of(engine)?;
-    let written = spell_rows(text, rows.as_slice());
+fn spell_state<R>(rt: &impl Abort, text: &mut String, engine: &Silent<R>) {
+    let rows = rows_of(rt, engine);
+    spell_rows(rt, text, rows.as_slice());
     drop(rows);
-    written?;
     let wake = engine.get_pending_deadline();
     let timeout = engine.get_active_deadline();
-    writeln!(text, "wake {wake:?} timeout {timeout:?}")?;
-    spell_counts(text, engine)
+    writeln!(text, "wake {wake:?} timeout {timeout:?}").expect(rt, "memory");
+    spell_counts(rt, text, engine);
 }
 
 /// What the row `peer_refusals` of the worked rows prints, with an empty line for each input that
@@ -212,63 +204,54 @@ waiting 0 asked 1 sent 1
 ";
 
 /// Takes an input, and writes the answer.
-fn take<R>(text: &mut String, engine: &mut Silent<R>, input: Taken) -> Result<(), Fail> {
+fn take<R>(rt: &impl Abort, text: &mut String, engine: &mut Silent<R>, input: Taken) {
     let answer = engine.step(input);
-    let written = spell_answer(text, &answer);
+    spell_answer(rt, text, &answer);
     drop(answer);
-    written
 }
 
-fn take_all<R>(engine: &mut Silent<R>, inputs: Vec<Taken>) -> Result<Vec<Answered>, Fault> {
-    engine.run(inputs)
+fn take_all<R>(rt: &impl Abort, engine: &mut Silent<R>, inputs: Vec<Taken>) -> Vec<Answered> {
+    engine.run(inputs).expect(rt, "memory")
 }
 
 /// The inputs one by one.
-fn step_by_step<R>(text: &mut String, engine: &mut Silent<R>) -> Result<(), Fail> {
-    for input in inputs(*text.allocator())? {
-        take(text, engine, input)?;
+fn step_by_step<R>(rt: &impl Abort, text: &mut String, engine: &mut Silent<R>) {
+    for input in inputs(rt, *text.allocator()) {
+        take(rt, text, engine, input);
     }
-    spell_state(text, engine)
+    spell_state(rt, text, engine);
 }
 
 /// The inputs in one run.
-fn in_one_run<R>(text: &mut String, engine: &mut Silent<R>) -> Result<(), Fail> {
-    let inputs = inputs(*text.allocator())?;
-    let answers = take_all(engine, inputs)?;
-    let written = spell_answers(text, answers.as_slice());
+fn in_one_run<R>(rt: &impl Abort, text: &mut String, engine: &mut Silent<R>) {
+    let inputs = inputs(rt, *text.allocator());
+    let answers = take_all(rt, engine, inputs);
+    spell_answers(rt, text, answers.as_slice());
     drop(answers);
-    written?;
-    spell_state(text, engine)
+    spell_state(rt, text, engine);
 }
 
 /// What an engine writes of the inputs, which it takes in one run or one by one.
-fn printed<R: Copy + Drop>(rt: R, alloc: Global, is_one_run: bool) -> Result<String, Fail> {
-    match open(rt, alloc) {
-        Ok(mut engine) => {
-            let mut text = String::new(alloc);
-            let written = if is_one_run {
-                in_one_run(&mut text, &mut engine)
-            } else {
-                step_by_step(&mut text, &mut engine)
-            };
-            drop(engine);
-            written?;
-            Ok(text)
-        }
-        Err(fault) => Err(fault.into()),
+fn printed<R: Abort + Copy + Drop>(rt: R, alloc: Global, is_one_run: bool) -> String {
+    let mut engine = open(rt, alloc);
+    let mut text = String::new(alloc);
+    if is_one_run {
+        in_one_run(&rt, &mut text, &mut engine);
+    } else {
+        step_by_step(&rt, &mut text, &mut engine);
     }
+    drop(engine);
+    text
 }
 
 #[test]
-fn peer_refusals_step_by_step(rt: HostRuntime) -> Result<(), Fail> {
-    let text = printed(rt, rt.alloc(), false)?;
+fn peer_refusals_step_by_step(rt: HostRuntime) {
+    let text = printed(rt, rt.alloc(), false);
     assert_eq!(rt; text.as_str(), PRINTED);
-    Ok(())
 }
 
 #[test]
-fn peer_refusals_in_one_run(rt: HostRuntime) -> Result<(), Fail> {
-    let text = printed(rt, rt.alloc(), true)?;
+fn peer_refusals_in_one_run(rt: HostRuntime) {
+    let text = printed(rt, rt.alloc(), true);
     assert_eq!(rt; text.as_str(), PRINTED);
-    Ok(())
 }
