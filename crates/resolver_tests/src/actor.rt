@@ -6,8 +6,8 @@ use resolver::opaque::{Actor, Effect, Event, Input, Phase, Row};
 use resolver_base::base::{Fault, NonEmptyVec, Numbers};
 use resolver_base::root::{Outcome, Resolution};
 use std::alloc::Global;
+use std::panic::Expect;
 use std::process::Abort;
-use std::test::Fail;
 
 // A test is a table of what is done and what is seen of it, which is plain data. The actor is
 // made, used and dropped in few places, so that the tests are proved without what an actor is.
@@ -85,154 +85,112 @@ type PlainEffect = Effect<u8, u32, u16>;
 type PlainAnswer = Result<Vec<PlainEffect>, Fault>;
 
 /// That a new actor, which retries after 100, shows what the table says, one step after another.
-fn shows(rt: &impl Abort, alloc: Global, table: &[Step]) -> Result<(), Fail> {
-    assert_seen(
-        rt,
-        alloc,
-        table,
-        play(alloc, Actor::new(alloc, 100), table)?,
-    )
+fn shows(rt: &impl Abort, alloc: Global, table: &[Step]) {
+    let seen = play(rt, alloc, Actor::new(alloc, 100), table);
+    assert_seen(rt, alloc, table, seen);
 }
 
 /// That a new actor shows what the table says where it takes all inputs in one run. The table's
 /// only look is its last step.
-fn run_shows(rt: &impl Abort, alloc: Global, table: &[Step]) -> Result<(), Fail> {
-    assert_seen(rt, alloc, table, play_in_one_run(alloc, table)?)
+fn run_shows(rt: &impl Abort, alloc: Global, table: &[Step]) {
+    assert_seen(rt, alloc, table, play_in_one_run(rt, alloc, table));
 }
 
 /// That this was seen.
-fn assert_seen(
-    rt: &impl Abort,
-    alloc: Global,
-    table: &[Step],
-    seen: Vec<Seen>,
-) -> Result<(), Fail> {
-    let expected = expected_of(alloc, table)?;
+fn assert_seen(rt: &impl Abort, alloc: Global, table: &[Step], seen: Vec<Seen>) {
+    let expected = expected_of(rt, alloc, table);
     assert_eq!(rt; seen.as_slice(), expected.as_slice(), "of {table:?}");
-    Ok(())
 }
 
-fn expected_of(alloc: Global, table: &[Step]) -> Result<Vec<Seen>, Fault> {
+fn expected_of(rt: &impl Abort, alloc: Global, table: &[Step]) -> Vec<Seen> {
     let mut expected = Vec::new(alloc);
     for (_, what, answer) in table {
         if !matches!(what, Do::Look) {
-            expected.push(Seen::Taken)?;
+            expected.push(Seen::Taken).expect(rt, "memory");
         }
         for seen in *answer {
-            expected.push(*seen)?;
+            expected.push(*seen).expect(rt, "memory");
         }
     }
-    Ok(expected)
+    expected
 }
 
-fn play(alloc: Global, actor: Plain, table: &[Step]) -> Result<Vec<Seen>, Fault> {
+fn play(rt: &impl Abort, alloc: Global, actor: Plain, table: &[Step]) -> Vec<Seen> {
     let mut actor = actor;
     let mut seen = Vec::new(alloc);
-    let taken = take_each(alloc, &mut actor, table, &mut seen);
+    take_each(rt, alloc, &mut actor, table, &mut seen);
     drop(actor);
-    taken?;
-    Ok(seen)
+    seen
 }
 
 fn take_each(
+    rt: &impl Abort,
     alloc: Global,
     actor: &mut Plain,
     table: &[Step],
     seen: &mut Vec<Seen>,
-) -> Result<(), Fault> {
+) {
     for (now, what, _) in table {
-        match event_of(alloc, *what)? {
-            Some(event) => take_one(actor, at(*now, event), seen)?,
-            None => look(actor, seen)?,
+        match event_of(rt, alloc, *what) {
+            Some(event) => take_one(rt, actor, at(*now, event), seen),
+            None => look(rt, actor, seen),
         }
     }
-    Ok(())
 }
 
-fn take_one(actor: &mut Plain, input: PlainInput, seen: &mut Vec<Seen>) -> Result<(), Fault> {
+fn take_one(rt: &impl Abort, actor: &mut Plain, input: PlainInput, seen: &mut Vec<Seen>) {
     let answer = actor.step(input);
-    let noted = note_answer(&answer, seen);
+    note_answer(rt, &answer, seen);
     drop(answer);
-    noted
 }
 
-fn play_in_one_run(alloc: Global, table: &[Step]) -> Result<Vec<Seen>, Fault> {
+fn play_in_one_run(rt: &impl Abort, alloc: Global, table: &[Step]) -> Vec<Seen> {
     let mut actor: Plain = Actor::new(alloc, 100);
     let mut seen = Vec::new(alloc);
-    let run = run_all(alloc, &mut actor, table, &mut seen);
+    run_inputs(rt, &mut actor, inputs_of(rt, alloc, table), &mut seen);
+    look(rt, &actor, &mut seen);
     drop(actor);
-    run?;
-    Ok(seen)
+    seen
 }
 
-fn run_all(
-    alloc: Global,
-    actor: &mut Plain,
-    table: &[Step],
-    seen: &mut Vec<Seen>,
-) -> Result<(), Fault> {
-    let inputs = inputs_of(alloc, table)?;
-    run_inputs(actor, inputs, seen)?;
-    look(actor, seen)
+fn run_inputs(rt: &impl Abort, actor: &mut Plain, inputs: Vec<PlainInput>, seen: &mut Vec<Seen>) {
+    let answers = actor.run(inputs).expect(rt, "memory");
+    note_answers(rt, answers.as_slice(), seen);
+    drop(answers);
 }
 
-fn run_inputs(
-    actor: &mut Plain,
-    inputs: Vec<PlainInput>,
-    seen: &mut Vec<Seen>,
-) -> Result<(), Fault> {
-    match actor.run(inputs) {
-        Ok(answers) => {
-            let noted = note_answers(answers.as_slice(), seen);
-            drop(answers);
-            noted
-        }
-        Err(fault) => Err(fault),
-    }
-}
-
-fn inputs_of(alloc: Global, table: &[Step]) -> Result<Vec<PlainInput>, Fault> {
+fn inputs_of(rt: &impl Abort, alloc: Global, table: &[Step]) -> Vec<PlainInput> {
     let mut inputs = Vec::new(alloc);
-    match put_inputs(alloc, &mut inputs, table) {
-        Ok(()) => Ok(inputs),
-        Err(fault) => {
-            drop(inputs);
-            Err(fault)
-        }
-    }
-}
-
-fn put_inputs(alloc: Global, inputs: &mut Vec<PlainInput>, table: &[Step]) -> Result<(), Fault> {
     for (now, what, _) in table {
-        if let Some(event) = event_of(alloc, *what)? {
-            inputs.push(at(*now, event))?;
+        if let Some(event) = event_of(rt, alloc, *what) {
+            inputs.push(at(*now, event)).expect(rt, "memory");
         }
     }
-    Ok(())
+    inputs
 }
 
 /// The event of what is done, unless it is a look.
-fn event_of(alloc: Global, what: Do) -> Result<Option<PlainEvent>, Fault> {
-    Ok(match what {
-        Do::Fetch(key, subscriber) => Some(fetch(alloc, key, subscriber)?),
+fn event_of(rt: &impl Abort, alloc: Global, what: Do) -> Option<PlainEvent> {
+    match what {
+        Do::Fetch(key, subscriber) => Some(fetch(rt, alloc, key, subscriber)),
         Do::Fetched(attempt, value) => Some(Event::Fetched { attempt, value }),
         Do::Verdict(number, outcome) => Some(Event::Verdict { number, outcome }),
         Do::LetGo(key) => Some(Event::Retain(AllBut(key))),
         Do::RetriesDue => Some(Event::RetriesDue),
         Do::End => Some(Event::End),
         Do::Look => None,
-    })
+    }
 }
 
-fn fetch(alloc: Global, key: u8, subscriber: (u16, u64)) -> Result<PlainEvent, Fault> {
+fn fetch(rt: &impl Abort, alloc: Global, key: u8, subscriber: (u16, u64)) -> PlainEvent {
     let item = FetchKey {
         key,
-        subscribers: NonEmptyVec::new(alloc, subscriber)?,
+        subscribers: NonEmptyVec::new(alloc, subscriber).expect(rt, "memory"),
         metadata: (),
     };
     let mut items = Vec::new(alloc);
-    items.push(item)?;
-    Ok(Event::Fetch(items))
+    items.push(item).expect(rt, "memory");
+    Event::Fetch(items)
 }
 
 fn at(now: u64, event: PlainEvent) -> PlainInput {
@@ -243,28 +201,25 @@ fn at(now: u64, event: PlainEvent) -> PlainInput {
 }
 
 /// Notes what each input gave.
-fn note_answers(answers: &[PlainAnswer], seen: &mut Vec<Seen>) -> Result<(), Fault> {
+fn note_answers(rt: &impl Abort, answers: &[PlainAnswer], seen: &mut Vec<Seen>) {
     for answer in answers {
-        note_answer(answer, seen)?;
+        note_answer(rt, answer, seen);
     }
-    Ok(())
 }
 
-/// Notes what an input gave. Where memory is wanting, the test is given up.
-fn note_answer(answer: &PlainAnswer, seen: &mut Vec<Seen>) -> Result<(), Fault> {
-    seen.push(Seen::Taken)?;
+/// Notes what an input gave.
+fn note_answer(rt: &impl Abort, answer: &PlainAnswer, seen: &mut Vec<Seen>) {
+    seen.push(Seen::Taken).expect(rt, "memory");
     match answer {
-        Ok(effects) => note_effects(effects.as_slice(), seen),
-        Err(Fault::OutOfMemory) => Err(Fault::OutOfMemory),
-        Err(fault) => Ok(seen.push(Seen::Refused(*fault))?),
+        Ok(effects) => note_effects(rt, effects.as_slice(), seen),
+        Err(fault) => seen.push(Seen::Refused(*fault)).expect(rt, "memory"),
     }
 }
 
-fn note_effects(effects: &[PlainEffect], seen: &mut Vec<Seen>) -> Result<(), Fault> {
+fn note_effects(rt: &impl Abort, effects: &[PlainEffect], seen: &mut Vec<Seen>) {
     for effect in effects {
-        seen.push(seen_of(effect))?;
+        seen.push(seen_of(effect)).expect(rt, "memory");
     }
-    Ok(())
 }
 
 fn seen_of(effect: &PlainEffect) -> Seen {
@@ -287,28 +242,19 @@ fn seen_of(effect: &PlainEffect) -> Seen {
     }
 }
 
-fn look(actor: &Plain, seen: &mut Vec<Seen>) -> Result<(), Fault> {
-    look_at_rows(actor, seen)?;
-    seen.push(Seen::Due(actor.next_retry()))?;
-    Ok(())
+fn look(rt: &impl Abort, actor: &Plain, seen: &mut Vec<Seen>) {
+    let rows = actor.rows().expect(rt, "memory");
+    note_rows(rt, rows.as_slice(), seen);
+    drop(rows);
+    seen.push(Seen::Due(actor.next_retry()))
+        .expect(rt, "memory");
 }
 
-fn look_at_rows(actor: &Plain, seen: &mut Vec<Seen>) -> Result<(), Fault> {
-    match actor.rows() {
-        Ok(rows) => {
-            let noted = note_rows(rows.as_slice(), seen);
-            drop(rows);
-            noted
-        }
-        Err(fault) => Err(fault),
-    }
-}
-
-fn note_rows(rows: &[Row<u8, u16>], seen: &mut Vec<Seen>) -> Result<(), Fault> {
+fn note_rows(rt: &impl Abort, rows: &[Row<u8, u16>], seen: &mut Vec<Seen>) {
     for row in rows {
-        seen.push(Seen::Row(row.key, *row.subscribers.first(), row.phase))?;
+        let seen_row = Seen::Row(row.key, *row.subscribers.first(), row.phase);
+        seen.push(seen_row).expect(rt, "memory");
     }
-    Ok(())
 }
 
 const COMPLETE: Option<Outcome> = Some(Outcome::Resolved(Resolution::Complete));
@@ -333,7 +279,7 @@ const HANDED_OUT_AGAIN: Seen = Seen::Deliver {
 
 // The row opaque_first_run, one step after another.
 #[test]
-fn opaque_first_run(rt: HostRuntime) -> Result<(), Fail> {
+fn opaque_first_run(rt: HostRuntime) {
     const JUDGED: Seen = Seen::Row(1, (10, 7), Phase::Judged { number: 0 });
     const TABLE: &[Step] = &[
         (0, Do::Fetch(1, (10, 7)), &[Seen::Start(0, 1)]),
@@ -342,25 +288,25 @@ fn opaque_first_run(rt: HostRuntime) -> Result<(), Fail> {
         (0, Do::Verdict(0, COMPLETE), &[]),
         (0, Do::Look, &[Seen::Due(None)]),
     ];
-    shows(&rt, rt.alloc(), TABLE)
+    shows(&rt, rt.alloc(), TABLE);
 }
 
 // A list of inputs gets one answer each.
 #[test]
-fn a_run_waits_for_the_delay(rt: HostRuntime) -> Result<(), Fail> {
+fn a_run_waits_for_the_delay(rt: HostRuntime) {
     const WAITS: Seen = Seen::Row(1, (10, 7), Phase::Waiting { due: 105 });
     const TABLE: &[Step] = &[
         (0, Do::Fetch(1, (10, 7)), &[Seen::Start(0, 1)]),
         (5, Do::Fetched(0, None), &[]),
         (5, Do::Look, &[WAITS, Seen::Due(Some(105))]),
     ];
-    run_shows(&rt, rt.alloc(), TABLE)
+    run_shows(&rt, rt.alloc(), TABLE);
 }
 
 // The row ends: what was asked and what was judged are called off by key, and a later step is
 // refused.
 #[test]
-fn ends(rt: HostRuntime) -> Result<(), Fail> {
+fn ends(rt: HostRuntime) {
     const HANDED_OUT: Seen = Seen::Deliver {
         number: 0,
         response: 0,
@@ -376,13 +322,13 @@ fn ends(rt: HostRuntime) -> Result<(), Fail> {
         (0, Do::Look, &[Seen::Due(None)]),
         (0, Do::Fetch(3, (30, 0)), &[Seen::Refused(Fault::Ended)]),
     ];
-    shows(&rt, rt.alloc(), TABLE)
+    shows(&rt, rt.alloc(), TABLE);
 }
 
 // The row dropped_then_fetched_again: what was judged is called off, and its verdict is passed
 // over when the key is wanted again.
 #[test]
-fn dropped_then_fetched_again(rt: HostRuntime) -> Result<(), Fail> {
+fn dropped_then_fetched_again(rt: HostRuntime) {
     const ASKED: Seen = Seen::Row(1, (12, 9), Phase::Asked { attempt: 1 });
     const TABLE: &[Step] = &[
         (0, Do::Fetch(1, (10, 7)), &[Seen::Start(0, 1)]),
@@ -392,12 +338,12 @@ fn dropped_then_fetched_again(rt: HostRuntime) -> Result<(), Fail> {
         (0, Do::Verdict(0, COMPLETE), &[]),
         (0, Do::Look, &[ASKED, Seen::Due(None)]),
     ];
-    shows(&rt, rt.alloc(), TABLE)
+    shows(&rt, rt.alloc(), TABLE);
 }
 
 // The row opaque_retry, in one run and one step after another.
 #[test]
-fn opaque_retry(rt: HostRuntime) -> Result<(), Fail> {
+fn opaque_retry(rt: HostRuntime) {
     const ASKED: Seen = Seen::Row(1, (10, 7), Phase::Asked { attempt: 1 });
     const TABLE: &[Step] = &[
         (0, Do::Fetch(1, (10, 7)), &[Seen::Start(0, 1)]),
@@ -408,8 +354,8 @@ fn opaque_retry(rt: HostRuntime) -> Result<(), Fail> {
         (100, Do::Fetch(1, (10, 9)), &[]),
         (100, Do::Look, &[ASKED, Seen::Due(None)]),
     ];
-    run_shows(&rt, rt.alloc(), TABLE)?;
-    shows(&rt, rt.alloc(), TABLE)
+    run_shows(&rt, rt.alloc(), TABLE);
+    shows(&rt, rt.alloc(), TABLE);
 }
 
 /// What is left of key 1 where it is retired.
@@ -452,7 +398,7 @@ fn with_late_subscriber(outcome: Option<Outcome>, alone: &'static [Seen]) -> Ver
 
 // The table of verdicts, with no subscriber left and with one that came late.
 #[test]
-fn every_outcome(rt: HostRuntime) -> Result<(), Fail> {
+fn every_outcome(rt: HostRuntime) {
     for (outcome, left) in outcomes() {
         let table: [Step; 4] = [
             (0, Do::Fetch(1, (10, 7)), &[Seen::Start(0, 1)]),
@@ -460,7 +406,7 @@ fn every_outcome(rt: HostRuntime) -> Result<(), Fail> {
             (5, Do::Verdict(0, outcome), &[]),
             (5, Do::Look, left),
         ];
-        shows(&rt, rt.alloc(), &table)?;
+        shows(&rt, rt.alloc(), &table);
         let (answer, left) = with_late_subscriber(outcome, left);
         let table: [Step; 5] = [
             (0, Do::Fetch(1, (10, 7)), &[Seen::Start(0, 1)]),
@@ -469,14 +415,13 @@ fn every_outcome(rt: HostRuntime) -> Result<(), Fail> {
             (5, Do::Verdict(0, outcome), answer),
             (5, Do::Look, left),
         ];
-        shows(&rt, rt.alloc(), &table)?;
+        shows(&rt, rt.alloc(), &table);
     }
-    Ok(())
 }
 
 // A number whose key was dropped, or dropped and fetched again, is closed and changes nothing.
 #[test]
-fn every_outcome_canceled(rt: HostRuntime) -> Result<(), Fail> {
+fn every_outcome_canceled(rt: HostRuntime) {
     const ASKED: Seen = Seen::Row(1, (12, 9), Phase::Asked { attempt: 1 });
     for (outcome, _) in outcomes() {
         let table: [Step; 6] = [
@@ -487,7 +432,7 @@ fn every_outcome_canceled(rt: HostRuntime) -> Result<(), Fail> {
             (5, Do::Verdict(0, outcome), &[]),
             (5, Do::Look, &[Seen::Due(None)]),
         ];
-        shows(&rt, rt.alloc(), &table)?;
+        shows(&rt, rt.alloc(), &table);
         let table: [Step; 7] = [
             (0, Do::Fetch(1, (10, 7)), &[Seen::Start(0, 1)]),
             (0, Do::Fetched(0, Some(0x6869)), &[HANDED_OUT]),
@@ -497,14 +442,13 @@ fn every_outcome_canceled(rt: HostRuntime) -> Result<(), Fail> {
             (5, Do::Verdict(0, outcome), &[]),
             (5, Do::Look, &[ASKED, Seen::Due(None)]),
         ];
-        shows(&rt, rt.alloc(), &table)?;
+        shows(&rt, rt.alloc(), &table);
     }
-    Ok(())
 }
 
 // A response that was accepted retires its key where a later verdict says Invalid.
 #[test]
-fn a_conflict_retires(rt: HostRuntime) -> Result<(), Fail> {
+fn a_conflict_retires(rt: HostRuntime) {
     const TABLE: &[Step] = &[
         (0, Do::Fetch(1, (10, 7)), &[Seen::Start(0, 1)]),
         (0, Do::Fetched(0, Some(0x6869)), &[HANDED_OUT]),
@@ -513,12 +457,12 @@ fn a_conflict_retires(rt: HostRuntime) -> Result<(), Fail> {
         (0, Do::Verdict(1, Some(Outcome::Invalid)), &[]),
         (0, Do::Look, &[Seen::Due(None)]),
     ];
-    shows(&rt, rt.alloc(), TABLE)
+    shows(&rt, rt.alloc(), TABLE);
 }
 
 // An end in each phase: a key that waits has nothing to be called off.
 #[test]
-fn ends_in_each_phase(rt: HostRuntime) -> Result<(), Fail> {
+fn ends_in_each_phase(rt: HostRuntime) {
     const HANDED_OUT: Seen = Seen::Deliver {
         number: 0,
         response: 0,
@@ -536,13 +480,13 @@ fn ends_in_each_phase(rt: HostRuntime) -> Result<(), Fail> {
         (0, Do::Look, &[Seen::Due(None)]),
         (0, Do::End, &[Seen::Refused(Fault::Ended)]),
     ];
-    shows(&rt, rt.alloc(), TABLE)
+    shows(&rt, rt.alloc(), TABLE);
 }
 
 // Where no attempt is left, a new key is refused, and the actor has failed. A key that is there
 // still takes subscribers before that.
 #[test]
-fn the_last_attempt_is_given_once(rt: HostRuntime) -> Result<(), Fail> {
+fn the_last_attempt_is_given_once(rt: HostRuntime) {
     const TABLE: &[Step] = &[
         (0, Do::Fetch(1, (10, 7)), &[Seen::Start(u64::MAX, 1)]),
         (0, Do::Fetch(1, (11, 8)), &[]),
@@ -552,41 +496,32 @@ fn the_last_attempt_is_given_once(rt: HostRuntime) -> Result<(), Fail> {
     ];
     let alloc = rt.alloc();
     let actor = Actor::starting_at(alloc, 100, Numbers::starting_at(u64::MAX));
-    assert_seen(&rt, alloc, TABLE, play(alloc, actor, TABLE)?)
+    assert_seen(&rt, alloc, TABLE, play(&rt, alloc, actor, TABLE));
 }
 
 /// A fetch of these keys, each for the subscriber 10.
-fn fetch_of(alloc: Global, keys: &[u8]) -> Result<PlainEvent, Fault> {
+fn fetch_of(rt: &impl Abort, alloc: Global, keys: &[u8]) -> PlainEvent {
     let mut items = Vec::new(alloc);
     for key in keys {
-        items.push(FetchKey {
+        let item = FetchKey {
             key: *key,
-            subscribers: NonEmptyVec::new(alloc, (10, 7))?,
+            subscribers: NonEmptyVec::new(alloc, (10, 7)).expect(rt, "memory"),
             metadata: (),
-        })?;
+        };
+        items.push(item).expect(rt, "memory");
     }
-    Ok(Event::Fetch(items))
-}
-
-fn fetch_at_once(
-    alloc: Global,
-    actor: &mut Plain,
-    keys: &[u8],
-    seen: &mut Vec<Seen>,
-) -> Result<(), Fault> {
-    let event = fetch_of(alloc, keys)?;
-    take_one(actor, at(0, event), seen)?;
-    look(actor, seen)
+    Event::Fetch(items)
 }
 
 /// What is seen of a new actor where these keys are fetched at once.
-fn fetched_at_once(alloc: Global, keys: &[u8]) -> Result<Vec<Seen>, Fault> {
+fn fetched_at_once(rt: &impl Abort, alloc: Global, keys: &[u8]) -> Vec<Seen> {
     let mut actor: Plain = Actor::new(alloc, 100);
     let mut seen = Vec::new(alloc);
-    let fetched = fetch_at_once(alloc, &mut actor, keys, &mut seen);
+    let event = fetch_of(rt, alloc, keys);
+    take_one(rt, &mut actor, at(0, event), &mut seen);
+    look(rt, &actor, &mut seen);
     drop(actor);
-    fetched?;
-    Ok(seen)
+    seen
 }
 
 /// A key that is asked for, under this attempt.
@@ -597,7 +532,7 @@ macro_rules! asked {
 }
 
 #[test]
-fn fetches_of_each_length(rt: HostRuntime) -> Result<(), Fail> {
+fn fetches_of_each_length(rt: HostRuntime) {
     const NONE: &[Seen] = &[Seen::Taken, Seen::Due(None)];
     const ONE: &[Seen] = &[
         Seen::Taken,
@@ -620,22 +555,21 @@ fn fetches_of_each_length(rt: HostRuntime) -> Result<(), Fail> {
         ([1].as_slice(), ONE),
         ([3, 1, 2].as_slice(), THREE),
     ] {
-        let given = fetched_at_once(rt.alloc(), keys)?;
+        let given = fetched_at_once(&rt, rt.alloc(), keys);
         assert_eq!(rt; given.as_slice(), seen, "of {keys:?}");
     }
-    Ok(())
 }
 
 #[test]
-fn runs_of_no_input_and_of_one(rt: HostRuntime) -> Result<(), Fail> {
+fn runs_of_no_input_and_of_one(rt: HostRuntime) {
     const NONE: &[Step] = &[(0, Do::Look, &[Seen::Due(None)])];
-    run_shows(&rt, rt.alloc(), NONE)?;
+    run_shows(&rt, rt.alloc(), NONE);
     const ROW: Seen = Seen::Row(1, (10, 7), Phase::Asked { attempt: 0 });
     const ONE: &[Step] = &[
         (0, Do::Fetch(1, (10, 7)), &[Seen::Start(0, 1)]),
         (0, Do::Look, &[ROW, Seen::Due(None)]),
     ];
-    run_shows(&rt, rt.alloc(), ONE)
+    run_shows(&rt, rt.alloc(), ONE);
 }
 
 /// Keeps every subscriber.
@@ -663,105 +597,105 @@ struct Tally(Option<usize>, usize, Option<u128>);
 
 /// Fetches ten thousand keys and hands each out, judges the deliveries from the last on, has the
 /// keys that wait asked for again, and ends.
-fn play_crowd(alloc: Global) -> Result<Vec<Tally>, Fault> {
+fn play_crowd(rt: &impl Abort, alloc: Global) -> Vec<Tally> {
     let mut actor: Crowd = Actor::new(alloc, 100);
     let mut tallies = Vec::new(alloc);
-    let taken = take_crowd(alloc, &mut actor, &mut tallies);
+    take_crowd(rt, alloc, &mut actor, &mut tallies);
     drop(actor);
-    taken?;
-    Ok(tallies)
+    tallies
 }
 
-fn take_crowd(alloc: Global, actor: &mut Crowd, tallies: &mut Vec<Tally>) -> Result<(), Fault> {
-    let handed_out = hand_out_each(alloc, actor)?;
-    tallies.push(tally_of(actor, handed_out)?)?;
-    let judged = judge_each(actor)?;
-    tallies.push(tally_of(actor, judged)?)?;
-    take(actor, 99, Event::RetriesDue, tallies)?;
-    take(actor, 100, Event::RetriesDue, tallies)?;
-    take(actor, 100, Event::End, tallies)
+fn take_crowd(rt: &impl Abort, alloc: Global, actor: &mut Crowd, tallies: &mut Vec<Tally>) {
+    let handed_out = hand_out_each(rt, alloc, actor);
+    tallies
+        .push(tally_of(rt, actor, handed_out))
+        .expect(rt, "memory");
+    let judged = judge_each(rt, actor);
+    tallies
+        .push(tally_of(rt, actor, judged))
+        .expect(rt, "memory");
+    take(rt, actor, 99, Event::RetriesDue, tallies);
+    take(rt, actor, 100, Event::RetriesDue, tallies);
+    take(rt, actor, 100, Event::End, tallies);
 }
 
 /// Fetches each key and hands it out, and gives up at a value with another count of effects than 1.
-fn hand_out_each(alloc: Global, actor: &mut Crowd) -> Result<Option<usize>, Fault> {
+fn hand_out_each(rt: &impl Abort, alloc: Global, actor: &mut Crowd) -> Option<usize> {
     for key in 0..10_000 {
-        if hand_out_one(alloc, actor, key)? != 1 {
-            return Ok(None);
+        if hand_out_one(rt, alloc, actor, key) != 1 {
+            return None;
         }
     }
-    Ok(Some(1))
+    Some(1)
 }
 
 /// Fetches a key, and hands it out.
-fn hand_out_one(alloc: Global, actor: &mut Crowd, key: u64) -> Result<usize, Fault> {
+fn hand_out_one(rt: &impl Abort, alloc: Global, actor: &mut Crowd, key: u64) -> usize {
     let item = FetchKey {
         key,
-        subscribers: NonEmptyVec::new(alloc, (10, 7))?,
+        subscribers: NonEmptyVec::new(alloc, (10, 7)).expect(rt, "memory"),
         metadata: (),
     };
     let mut items = Vec::new(alloc);
-    items.push(item)?;
-    let _ = count(actor, 0, Event::Fetch(items))?;
+    items.push(item).expect(rt, "memory");
+    let _ = count(rt, actor, 0, Event::Fetch(items));
     let value = Event::Fetched {
         attempt: key,
         value: Some(1),
     };
-    count(actor, 0, value)
+    count(rt, actor, 0, value)
 }
 
 /// Judges each number from the last on, and gives up at one with an effect.
-fn judge_each(actor: &mut Crowd) -> Result<Option<usize>, Fault> {
+fn judge_each(rt: &impl Abort, actor: &mut Crowd) -> Option<usize> {
     for number in (0..10_000).rev() {
-        if judge_one(actor, number)? != 0 {
-            return Ok(None);
+        if judge_one(rt, actor, number) != 0 {
+            return None;
         }
     }
-    Ok(Some(0))
+    Some(0)
 }
 
 /// Judges a number: an even one is complete, and the key of an odd one waits.
-fn judge_one(actor: &mut Crowd, number: u64) -> Result<usize, Fault> {
+fn judge_one(rt: &impl Abort, actor: &mut Crowd, number: u64) -> usize {
     let outcome = if number % 2 == 0 {
         COMPLETE
     } else {
         Some(Outcome::Unresolved)
     };
-    count(actor, 0, Event::Verdict { number, outcome })
+    count(rt, actor, 0, Event::Verdict { number, outcome })
 }
 
 /// Takes an input, and tallies it.
-fn take(
-    actor: &mut Crowd,
-    now: u64,
-    event: CrowdEvent,
-    tallies: &mut Vec<Tally>,
-) -> Result<(), Fault> {
-    let effects = count(actor, now, event)?;
-    tallies.push(tally_of(actor, Some(effects))?)?;
-    Ok(())
+fn take(rt: &impl Abort, actor: &mut Crowd, now: u64, event: CrowdEvent, tallies: &mut Vec<Tally>) {
+    let effects = count(rt, actor, now, event);
+    tallies
+        .push(tally_of(rt, actor, Some(effects)))
+        .expect(rt, "memory");
 }
 
 /// How many effects an input has.
-fn count(actor: &mut Crowd, now: u64, event: CrowdEvent) -> Result<usize, Fault> {
-    let effects = actor.step(Input {
+fn count(rt: &impl Abort, actor: &mut Crowd, now: u64, event: CrowdEvent) -> usize {
+    let input = Input {
         now: u128::from(now),
         event,
-    })?;
+    };
+    let effects = actor.step(input).expect(rt, "an input that is taken");
     let count = effects.len();
     drop(effects);
-    Ok(count)
+    count
 }
 
-fn tally_of(actor: &Crowd, effects: Option<usize>) -> Result<Tally, Fault> {
-    let rows = actor.rows()?;
+fn tally_of(rt: &impl Abort, actor: &Crowd, effects: Option<usize>) -> Tally {
+    let rows = actor.rows().expect(rt, "memory");
     let demanded = rows.len();
     drop(rows);
-    Ok(Tally(effects, demanded, actor.next_retry()))
+    Tally(effects, demanded, actor.next_retry())
 }
 
 // Ten thousand deliveries are open at once, and closed from the last on.
 #[test]
-fn ten_thousand_deliveries(rt: HostRuntime) -> Result<(), Fail> {
+fn ten_thousand_deliveries(rt: HostRuntime) {
     const EXPECTED: &[Tally] = &[
         Tally(Some(1), 10_000, None),
         Tally(Some(0), 5_000, Some(100)),
@@ -769,7 +703,6 @@ fn ten_thousand_deliveries(rt: HostRuntime) -> Result<(), Fail> {
         Tally(Some(5_000), 5_000, None),
         Tally(Some(5_000), 0, None),
     ];
-    let tallies = play_crowd(rt.alloc())?;
+    let tallies = play_crowd(&rt, rt.alloc());
     assert_eq!(rt; tallies.as_slice(), EXPECTED);
-    Ok(())
 }

@@ -4,18 +4,16 @@ use resolver_peer::laws::{
     asked_once, asks_eligible, asks_well, earns_once, ids_are_new, keeps_demand, pays_once,
     pays_senders, run_laws, stays_awake, tries_once,
 };
-use std::test::Fail;
 
 #[test]
-fn at_numbers(_rt: HostRuntime) -> Result<(), Fail> {
+fn at_numbers(_rt: HostRuntime) {
     dead_verdicts_pass::<u8, u32, u16>();
     opaque_keeps_demand::<u8, u32, u16>();
     opaque_runs_join::<u8, u32, u16>();
-    Ok(())
 }
 
 #[test]
-fn of_the_peer_machine_at_numbers(_rt: HostRuntime) -> Result<(), Fail> {
+fn of_the_peer_machine_at_numbers(_rt: HostRuntime) {
     earns_once::<u8, u16, u32>();
     asks_eligible::<u8, u16, u32>();
     tries_once::<u8, u16, u32>();
@@ -27,11 +25,9 @@ fn of_the_peer_machine_at_numbers(_rt: HostRuntime) -> Result<(), Fail> {
     stays_awake::<u8, u16, u32>();
     asked_once::<u8, u16, u32>();
     run_laws::<u8, u16, u32>();
-    Ok(())
 }
 
 #[test]
-fn a_delivery_that_was_dropped_is_served(rt: HostRuntime) -> Result<(), Fail> {
+fn a_delivery_that_was_dropped_is_served(rt: HostRuntime) {
     assert_eq!(rt; rule_on(None, false), Ruling::Serve { accepted: false });
-    Ok(())
 }

@@ -3,7 +3,7 @@
 ghost use Rattle.std.proofs.Common.{rules};
 
 use bytes::Bytes;
-use resolver::base::{Check, Fault, NonEmptyVec};
+use resolver::base::{Check, NonEmptyVec};
 use resolver::ingress::{FetchKey, Predicate};
 use resolver::p2p::fetcher::{Answer, Config};
 use resolver::p2p::inputs::{Event, Happening, Input};
@@ -12,8 +12,8 @@ use resolver::p2p::{Core, Durations, Metrics, Tally};
 use resolver::{Outcome, Resolution};
 use std::alloc::Global;
 use std::fmt::Write;
+use std::panic::Expect;
 use std::process::Abort;
-use std::test::Fail;
 
 /// Keeps every subscriber, or none.
 #[derive(Drop)]
@@ -167,24 +167,22 @@ const COMPLETED: Metrics = Metrics {
     ..CREDITED
 };
 
-fn peers(alloc: Global, first: u8, second: u8) -> Result<PlainEvent, Fault> {
+fn peers(rt: &impl Abort, alloc: Global, first: u8, second: u8) -> PlainEvent {
     let mut peers = Vec::new(alloc);
-    peers.push(first)?;
-    peers.push(second)?;
-    Ok(Event::PeerSet { index: 1, peers })
+    peers.push(first).expect(rt, "memory");
+    peers.push(second).expect(rt, "memory");
+    Event::PeerSet { index: 1, peers }
 }
 
-fn fetch(alloc: Global, key: u8, subscriber: u16) -> Result<PlainEvent, Fault> {
-    let mut items = Vec::new(alloc);
-    let Ok(subscribers) = NonEmptyVec::new(alloc, (subscriber, 7)) else {
-        return Err(Fault::OutOfMemory);
-    };
-    items.push(FetchKey {
+fn fetch(rt: &impl Abort, alloc: Global, key: u8, subscriber: u16) -> PlainEvent {
+    let item = FetchKey {
         key: Key(key),
-        subscribers,
+        subscribers: NonEmptyVec::new(alloc, (subscriber, 7)).expect(rt, "memory"),
         metadata: None,
-    })?;
-    Ok(Event::Fetch(items))
+    };
+    let mut items = Vec::new(alloc);
+    items.push(item).expect(rt, "memory");
+    Event::Fetch(items)
 }
 
 fn served(serve: u64, is_answered: bool) -> PlainEvent {
@@ -197,60 +195,46 @@ fn served(serve: u64, is_answered: bool) -> PlainEvent {
 }
 
 /// The event that is given, or the answer.
-fn event_of(alloc: Global, given: Given) -> Result<Result<PlainEvent, Answer>, Fault> {
-    Ok(Ok(match given {
-        Given::Peers(first, second) => peers(alloc, first, second)?,
-        Given::Fetch(key, subscriber) => fetch(alloc, key, subscriber)?,
-        Given::Retain(all) => Event::Retain(Keeps { all }),
-        Given::Wake => Event::PendingDue,
-        Given::TimeOut => Event::ActiveDue,
-        Given::Verdict(number, outcome) => Event::Verdict { number, outcome },
-        Given::Served(serve, is_answered) => served(serve, is_answered),
-        Given::Net(peer, bytes) => Event::Net {
+fn event_of(rt: &impl Abort, alloc: Global, given: Given) -> Result<PlainEvent, Answer> {
+    match given {
+        Given::Peers(first, second) => Ok(peers(rt, alloc, first, second)),
+        Given::Fetch(key, subscriber) => Ok(fetch(rt, alloc, key, subscriber)),
+        Given::Retain(all) => Ok(Event::Retain(Keeps { all })),
+        Given::Wake => Ok(Event::PendingDue),
+        Given::TimeOut => Ok(Event::ActiveDue),
+        Given::Verdict(number, outcome) => Ok(Event::Verdict { number, outcome }),
+        Given::Served(serve, is_answered) => Ok(served(serve, is_answered)),
+        Given::Net(peer, bytes) => Ok(Event::Net {
             peer,
             bytes: Bytes::from_static(bytes),
-        },
-        Given::Drawn(number) => return Ok(Err(Answer::Drawn(number))),
-        Given::Clear => return Ok(Err(Answer::Checked(Check::Clear))),
-        Given::Sent(is_accepted) => return Ok(Err(Answer::Sent(is_accepted))),
-    }))
+        }),
+        Given::Drawn(number) => Err(Answer::Drawn(number)),
+        Given::Clear => Err(Answer::Checked(Check::Clear)),
+        Given::Sent(is_accepted) => Err(Answer::Sent(is_accepted)),
+    }
 }
 
 /// Gives this to the engine, which is not to refuse it.
-fn give(alloc: Global, engine: &mut Plain, now: u128, given: Given) -> Result<(), Fault> {
-    let input = match event_of(alloc, given)? {
-        Ok(event) if now < 1_000 => Input::Happens(Happening { now, event }),
+fn give(rt: &impl Abort, alloc: Global, engine: &mut Plain, now: u128, given: Given) {
+    let input = match event_of(rt, alloc, given) {
         Ok(event) => {
-            drop(event);
-            return Err(Fault::OutOfRange);
+            assert!(rt; now < 1_000);
+            Input::Happens(Happening { now, event })
         }
         Err(answer) => Input::Answers(answer),
     };
-    drop(engine.step(input)?);
-    Ok(())
+    drop(engine.step(input).expect(rt, "an input that is taken"));
 }
 
-fn give_all(alloc: Global, engine: &mut Plain, given: &[(u128, Given)]) -> Result<(), Fault> {
+fn give_all(rt: &impl Abort, alloc: Global, engine: &mut Plain, given: &[(u128, Given)]) {
     for (now, one) in given {
-        give(alloc, engine, *now, *one)?;
+        give(rt, alloc, engine, *now, *one);
     }
-    Ok(())
 }
 
-/// What the engine counts of these, one list after another.
-fn count_all(
-    alloc: Global,
-    engine: &mut Plain,
-    lists: &[&[(u128, Given)]],
-) -> Result<Metrics, Fault> {
-    for given in lists {
-        give_all(alloc, engine, given)?;
-    }
-    Ok(engine.metrics())
-}
-
-/// The same of a new engine, that is called 9, with a timeout of 50 and a delay of 10.
-fn counts(alloc: Global, lists: &[&[(u128, Given)]]) -> Result<Metrics, Fault> {
+/// What a new engine counts of these, one list after another. It is called 9, with a timeout of 50
+/// and a delay of 10.
+fn counts(rt: &impl Abort, alloc: Global, lists: &[&[(u128, Given)]]) -> Metrics {
     let config = Config {
         me: Some(9),
         fetch_timeout: 50,
@@ -258,52 +242,33 @@ fn counts(alloc: Global, lists: &[&[(u128, Given)]]) -> Result<Metrics, Fault> {
         priority_requests: false,
     };
     let mut engine: Plain = Core::new(alloc, config, false);
-    let counted = count_all(alloc, &mut engine, lists);
+    for given in lists {
+        give_all(rt, alloc, &mut engine, given);
+    }
+    let counted = engine.metrics();
     drop(engine);
     counted
 }
 
-fn assert_counts(
-    rt: &impl Abort,
-    alloc: Global,
-    lists: &[&[(u128, Given)]],
-    expected: Metrics,
-) -> Result<(), Fail> {
-    let counted = counts(alloc, lists)?;
-    assert_eq!(rt; counted, expected);
-    Ok(())
+fn assert_counts(rt: &impl Abort, alloc: Global, lists: &[&[(u128, Given)]], expected: Metrics) {
+    assert_eq!(rt; counts(rt, alloc, lists), expected);
 }
 
 /// The same, where `rest` follows once peer 4 was asked.
-fn assert_asked(
-    rt: &impl Abort,
-    alloc: Global,
-    rest: &[(u128, Given)],
-    expected: Metrics,
-) -> Result<(), Fail> {
-    assert_counts(rt, alloc, &[ASKED, rest], expected)
+fn assert_asked(rt: &impl Abort, alloc: Global, rest: &[(u128, Given)], expected: Metrics) {
+    assert_counts(rt, alloc, &[ASKED, rest], expected);
 }
 
 /// The same, where this is the verdict on its response.
-fn assert_judged(
-    rt: &impl Abort,
-    alloc: Global,
-    outcome: Option<Outcome>,
-    expected: Metrics,
-) -> Result<(), Fail> {
+fn assert_judged(rt: &impl Abort, alloc: Global, outcome: Option<Outcome>, expected: Metrics) {
     let verdict = [(20, Given::Verdict(0, outcome))];
-    assert_counts(rt, alloc, &[ASKED, JUDGED, &verdict], expected)
+    assert_counts(rt, alloc, &[ASKED, JUDGED, &verdict], expected);
 }
 
 /// The same, where the key was called off before.
-fn assert_called_off(
-    rt: &impl Abort,
-    alloc: Global,
-    outcome: Option<Outcome>,
-    expected: Metrics,
-) -> Result<(), Fail> {
+fn assert_called_off(rt: &impl Abort, alloc: Global, outcome: Option<Outcome>, expected: Metrics) {
     let rest = [(20, Given::Retain(false)), (20, Given::Verdict(0, outcome))];
-    assert_counts(rt, alloc, &[ASKED, JUDGED, &rest], expected)
+    assert_counts(rt, alloc, &[ASKED, JUDGED, &rest], expected);
 }
 
 /// The same, where the response is complete, and this is the verdict on its second delivery.
@@ -312,39 +277,39 @@ fn assert_judged_again(
     alloc: Global,
     outcome: Option<Outcome>,
     expected: Metrics,
-) -> Result<(), Fail> {
+) {
     let rest = [
         (20, Given::Verdict(0, COMPLETE)),
         (30, Given::Verdict(1, outcome)),
     ];
-    assert_counts(rt, alloc, &[ASKED, JOINED, &rest], expected)
+    assert_counts(rt, alloc, &[ASKED, JOINED, &rest], expected);
 }
 
 #[test]
-fn metrics_after_verdict(rt: HostRuntime) -> Result<(), Fail> {
-    assert_judged(&rt, rt.alloc(), COMPLETE, COMPLETED)
+fn metrics_after_verdict(rt: HostRuntime) {
+    assert_judged(&rt, rt.alloc(), COMPLETE, COMPLETED);
 }
 
 /// A called off delivery still earns its credit, but the key's time isn't counted.
 #[test]
-fn a_called_off_complete_counts_no_fetch(rt: HostRuntime) -> Result<(), Fail> {
+fn a_called_off_complete_counts_no_fetch(rt: HostRuntime) {
     const EXPECTED: Metrics = Metrics {
         cancel: ONE,
         ..CREDITED
     };
-    assert_called_off(&rt, rt.alloc(), COMPLETE, EXPECTED)
+    assert_called_off(&rt, rt.alloc(), COMPLETE, EXPECTED);
 }
 
 /// Keys wait, requests have no answer, and serves are open.
 #[test]
-fn what_there_is_now(rt: HostRuntime) -> Result<(), Fail> {
+fn what_there_is_now(rt: HostRuntime) {
     let alloc = rt.alloc();
     const WAITS: &[(u128, Given)] = &[(0, Given::Fetch(1, 10)), (0, Given::Fetch(2, 10))];
     const TWO: Metrics = Metrics {
         fetch_pending: 2,
         ..UNCOUNTED
     };
-    assert_counts(&rt, alloc, &[WAITS], TWO)?;
+    assert_counts(&rt, alloc, &[WAITS], TWO);
     assert_asked(
         &rt,
         alloc,
@@ -353,19 +318,19 @@ fn what_there_is_now(rt: HostRuntime) -> Result<(), Fail> {
             fetch_active: 1,
             ..SENT
         },
-    )?;
-    assert_asked(&rt, alloc, JUDGED, SENT)?;
+    );
+    assert_asked(&rt, alloc, JUDGED, SENT);
     const SERVES: &[(u128, Given)] = &[(5, Given::Net(3, REQUEST)), (6, Given::Net(3, REQUEST))];
     const OPEN: Metrics = Metrics {
         serve_processing: 2,
         ..UNCOUNTED
     };
-    assert_counts(&rt, alloc, &[SERVES], OPEN)
+    assert_counts(&rt, alloc, &[SERVES], OPEN);
 }
 
 /// `Unresolved` is ambiguous, unless the response was accepted before.
 #[test]
-fn ambiguous_fetches(rt: HostRuntime) -> Result<(), Fail> {
+fn ambiguous_fetches(rt: HostRuntime) {
     let alloc = rt.alloc();
     const ONCE: Metrics = Metrics {
         fetch: AMBIGUOUS,
@@ -379,7 +344,7 @@ fn ambiguous_fetches(rt: HostRuntime) -> Result<(), Fail> {
             fetch_pending: 1,
             ..ONCE
         },
-    )?;
+    );
     assert_called_off(
         &rt,
         alloc,
@@ -388,17 +353,17 @@ fn ambiguous_fetches(rt: HostRuntime) -> Result<(), Fail> {
             cancel: ONE,
             ..ONCE
         },
-    )?;
+    );
     const ACCEPTED: Metrics = Metrics {
         fetch_pending: 1,
         ..COMPLETED
     };
-    assert_judged_again(&rt, alloc, UNRESOLVED, ACCEPTED)
+    assert_judged_again(&rt, alloc, UNRESOLVED, ACCEPTED);
 }
 
 /// `Invalid` is a failure, also where it was called off or conflicts.
 #[test]
-fn invalid_fetches(rt: HostRuntime) -> Result<(), Fail> {
+fn invalid_fetches(rt: HostRuntime) {
     let alloc = rt.alloc();
     const ONCE: Metrics = Metrics {
         fetch: FAILED,
@@ -412,7 +377,7 @@ fn invalid_fetches(rt: HostRuntime) -> Result<(), Fail> {
             fetch_pending: 1,
             ..ONCE
         },
-    )?;
+    );
     assert_called_off(
         &rt,
         alloc,
@@ -421,7 +386,7 @@ fn invalid_fetches(rt: HostRuntime) -> Result<(), Fail> {
             cancel: ONE,
             ..ONCE
         },
-    )?;
+    );
     const BOTH: Tally = Tally { failure: 1, ..ONE };
     assert_judged_again(
         &rt,
@@ -431,12 +396,12 @@ fn invalid_fetches(rt: HostRuntime) -> Result<(), Fail> {
             fetch: BOTH,
             ..COMPLETED
         },
-    )
+    );
 }
 
 /// A request fails whose time is over, and one that its peer has no data for.
 #[test]
-fn failed_requests(rt: HostRuntime) -> Result<(), Fail> {
+fn failed_requests(rt: HostRuntime) {
     let alloc = rt.alloc();
     const ACTIVE: Metrics = Metrics {
         fetch_active: 1,
@@ -447,15 +412,15 @@ fn failed_requests(rt: HostRuntime) -> Result<(), Fail> {
         fetch_pending: 1,
         ..SENT
     };
-    assert_asked(&rt, alloc, &[(49, Given::TimeOut)], ACTIVE)?;
-    assert_asked(&rt, alloc, &[(50, Given::TimeOut)], UNANSWERED)?;
-    assert_asked(&rt, alloc, &[(20, Given::Net(3, MISSING))], ACTIVE)?;
-    assert_asked(&rt, alloc, &[(20, Given::Net(4, MISSING))], UNANSWERED)
+    assert_asked(&rt, alloc, &[(49, Given::TimeOut)], ACTIVE);
+    assert_asked(&rt, alloc, &[(50, Given::TimeOut)], UNANSWERED);
+    assert_asked(&rt, alloc, &[(20, Given::Net(3, MISSING))], ACTIVE);
+    assert_asked(&rt, alloc, &[(20, Given::Net(4, MISSING))], UNANSWERED);
 }
 
 /// `Ignored` is dropped, accepted or not, unless it was called off.
 #[test]
-fn ignored_fetches(rt: HostRuntime) -> Result<(), Fail> {
+fn ignored_fetches(rt: HostRuntime) {
     let alloc = rt.alloc();
     assert_judged(
         &rt,
@@ -465,7 +430,7 @@ fn ignored_fetches(rt: HostRuntime) -> Result<(), Fail> {
             fetch: DROPPED,
             ..SENT
         },
-    )?;
+    );
     assert_called_off(
         &rt,
         alloc,
@@ -474,7 +439,7 @@ fn ignored_fetches(rt: HostRuntime) -> Result<(), Fail> {
             cancel: ONE,
             ..SENT
         },
-    )?;
+    );
     const BOTH: Tally = Tally { dropped: 1, ..ONE };
     assert_judged_again(
         &rt,
@@ -484,18 +449,18 @@ fn ignored_fetches(rt: HostRuntime) -> Result<(), Fail> {
             fetch: BOTH,
             ..COMPLETED
         },
-    )
+    );
 }
 
 /// A key is dropped that a dropped verdict retires, unless its response was accepted.
 #[test]
-fn dropped_verdicts(rt: HostRuntime) -> Result<(), Fail> {
+fn dropped_verdicts(rt: HostRuntime) {
     let alloc = rt.alloc();
     const LOST: Metrics = Metrics {
         fetch: DROPPED,
         ..SENT
     };
-    assert_judged(&rt, alloc, None, LOST)?;
+    assert_judged(&rt, alloc, None, LOST);
     assert_called_off(
         &rt,
         alloc,
@@ -504,19 +469,19 @@ fn dropped_verdicts(rt: HostRuntime) -> Result<(), Fail> {
             cancel: ONE,
             ..SENT
         },
-    )?;
-    assert_judged_again(&rt, alloc, None, COMPLETED)?;
+    );
+    assert_judged_again(&rt, alloc, None, COMPLETED);
     const FIRST: &[(u128, Given)] = &[(20, Given::Verdict(0, None))];
-    assert_counts(&rt, alloc, &[ASKED, JOINED, FIRST], SENT)?;
+    assert_counts(&rt, alloc, &[ASKED, JOINED, FIRST], SENT);
     const SECOND: &[(u128, Given)] = &[(30, Given::Verdict(1, None))];
-    assert_counts(&rt, alloc, &[ASKED, JOINED, FIRST, SECOND], LOST)
+    assert_counts(&rt, alloc, &[ASKED, JOINED, FIRST, SECOND], LOST);
 }
 
 /// A key's time is counted at its first complete response, and at no other.
 #[test]
-fn the_time_of_a_fetch(rt: HostRuntime) -> Result<(), Fail> {
+fn the_time_of_a_fetch(rt: HostRuntime) {
     let alloc = rt.alloc();
-    assert_judged_again(&rt, alloc, COMPLETE, COMPLETED)?;
+    assert_judged_again(&rt, alloc, COMPLETE, COMPLETED);
     const TWICE: Metrics = Metrics {
         fetch: Tally { success: 2, ..NONE },
         requests_sent: Tally { success: 2, ..NONE },
@@ -535,7 +500,7 @@ fn the_time_of_a_fetch(rt: HostRuntime) -> Result<(), Fail> {
         },
         ..TWICE
     };
-    assert_counts(&rt, alloc, &[ASKED, JUDGED, FIRST, AGAIN, LAST], EXPECTED)?;
+    assert_counts(&rt, alloc, &[ASKED, JUDGED, FIRST, AGAIN, LAST], EXPECTED);
     const BOTH: &[(u128, Given)] = &[
         (20, Given::Verdict(0, COMPLETE)),
         (20, Given::Verdict(1, PARTIAL)),
@@ -545,12 +510,12 @@ fn the_time_of_a_fetch(rt: HostRuntime) -> Result<(), Fail> {
         fetch_duration: TWENTY,
         ..TWICE
     };
-    assert_counts(&rt, alloc, &[ASKED, JOINED, BOTH, AGAIN, THIRD], SOONER)
+    assert_counts(&rt, alloc, &[ASKED, JOINED, BOTH, AGAIN, THIRD], SOONER);
 }
 
 /// A retain counts each key that it calls off, or itself where there is none.
 #[test]
-fn retains(rt: HostRuntime) -> Result<(), Fail> {
+fn retains(rt: HostRuntime) {
     let alloc = rt.alloc();
     const KEYS: &[(u128, Given)] = &[
         (0, Given::Fetch(1, 10)),
@@ -562,7 +527,7 @@ fn retains(rt: HostRuntime) -> Result<(), Fail> {
         cancel: DROPPED,
         ..UNCOUNTED
     };
-    assert_counts(&rt, alloc, &[KEYS], KEPT)?;
+    assert_counts(&rt, alloc, &[KEYS], KEPT);
     const CALLED_OFF: &[(u128, Given)] = &[(0, Given::Retain(false))];
     const BOTH: Tally = Tally {
         success: 2,
@@ -577,12 +542,12 @@ fn retains(rt: HostRuntime) -> Result<(), Fail> {
             cancel: BOTH,
             ..UNCOUNTED
         },
-    )
+    );
 }
 
 /// An answered serve has its time counted, a dropped one has not, and a closed one counts nothing.
 #[test]
-fn serves(rt: HostRuntime) -> Result<(), Fail> {
+fn serves(rt: HostRuntime) {
     let alloc = rt.alloc();
     const OPEN: &[(u128, Given)] = &[(5, Given::Net(3, REQUEST)), (6, Given::Net(3, REQUEST))];
     const CLOSED: &[(u128, Given)] = &[
@@ -602,12 +567,12 @@ fn serves(rt: HostRuntime) -> Result<(), Fail> {
         },
         ..UNCOUNTED
     };
-    assert_counts(&rt, alloc, &[OPEN, CLOSED], EXPECTED)
+    assert_counts(&rt, alloc, &[OPEN, CLOSED], EXPECTED);
 }
 
 /// Both peers are asked, and neither request is accepted to be sent.
 #[test]
-fn refused_requests(rt: HostRuntime) -> Result<(), Fail> {
+fn refused_requests(rt: HostRuntime) {
     const GIVEN: &[(u128, Given)] = &[
         (0, Given::Peers(3, 4)),
         (0, Given::Fetch(1, 10)),
@@ -626,7 +591,7 @@ fn refused_requests(rt: HostRuntime) -> Result<(), Fail> {
         requests_sent: Tally { dropped: 2, ..NONE },
         ..UNCOUNTED
     };
-    assert_counts(&rt, rt.alloc(), &[GIVEN], EXPECTED)
+    assert_counts(&rt, rt.alloc(), &[GIVEN], EXPECTED);
 }
 
 /// Numbers that all differ.
@@ -711,15 +676,14 @@ resolves_seconds_count 15
 ";
 
 /// What is counted, as text.
-fn spelled(alloc: Global, metrics: &Metrics) -> Result<String, Fail> {
+fn spelled(rt: &impl Abort, alloc: Global, metrics: &Metrics) -> String {
     let mut text = String::new(alloc);
-    write!(text, "{metrics}")?;
-    Ok(text)
+    write!(text, "{metrics}").expect(rt, "memory");
+    text
 }
 
 #[test]
-fn a_scraper_gets_a_line_for_each_number(rt: HostRuntime) -> Result<(), Fail> {
-    let text = spelled(rt.alloc(), &COUNTED)?;
+fn a_scraper_gets_a_line_for_each_number(rt: HostRuntime) {
+    let text = spelled(&rt, rt.alloc(), &COUNTED);
     assert_eq!(rt; text.as_str(), SCRAPED);
-    Ok(())
 }

@@ -9,20 +9,20 @@ use resolver::mailbox::{Entry, Exact, Naming, Pages, Receiver, Sender, recorded}
 use resolver::p2p::mocks::Key;
 use std::alloc::Global;
 use std::marker::Brand;
+use std::panic::Expect;
+use std::process::Abort;
 use std::sync::Wait;
-use std::test::Fail;
 
 #[test]
-fn a_key_is_read_again(rt: HostRuntime) -> Result<(), Fail> {
+fn a_key_is_read_again(rt: HostRuntime) {
     let mut bytes = BytesMut::new(rt.alloc());
-    Key(123).write(&mut bytes)?;
+    Key(123).write(&mut bytes).expect(&rt, "memory");
     assert_eq!(rt; bytes.as_slice(), [123].as_slice());
     assert_eq!(rt; Key::read(&[123]), Some(Key(123)));
     assert_eq!(rt; Key::default(), Key(0));
     assert!(rt; Key(1) < Key(2));
-    let shown = Key(123).to_string(rt.alloc())?;
+    let shown = Key(123).to_string(rt.alloc()).expect(&rt, "memory");
     assert_eq!(rt; shown.as_str(), "Key(123)");
-    Ok(())
 }
 
 /// Keeps every subscriber.
@@ -51,14 +51,15 @@ impl Exact for All {
 
 /// Puts a fetch of a key.
 fn put<N: Naming, R: Wait>(
+    rt: &impl Abort,
     alloc: Global,
     handle: &mut Sender<Key, u16, (), All, N, R>,
     key: Key,
-) -> Result<(), Fail> {
+) {
+    let item = FetchKey::from_fetch(alloc, Fetch::from(key)).expect(rt, "memory");
     let mut items = Vec::new(alloc);
-    items.push(FetchKey::from_fetch(alloc, Fetch::from(key))?)?;
-    handle.enqueue(Message::Fetch(items))?;
-    Ok(())
+    items.push(item).expect(rt, "memory");
+    handle.enqueue(Message::Fetch(items)).expect(rt, "memory");
 }
 
 /// The key of the fetch that a call of a book put.
@@ -74,53 +75,38 @@ fn key_in(entry: Option<&Entry<Key, u16, (), All>>) -> Option<Key> {
 
 /// The key of the first put in the book for a handle's share.
 fn key_of<N: Naming, R: Wait>(
+    rt: &impl Abort,
     alloc: Global,
     handle: &Sender<Key, u16, (), All, N, R>,
     receiver: &Receiver<Key, u16, (), All, N, R>,
-) -> Result<Option<Key>, Fail> {
-    let Some(share) = handle.share() else {
-        return Ok(None);
-    };
-    let book = receiver.book(alloc, &[share])?;
+) -> Option<Key> {
+    let share = handle.share()?;
+    let book = receiver.book(alloc, &[share]).expect(rt, "a book");
     let key = key_in(book.first());
     drop(book);
-    Ok(key)
-}
-
-/// Puts a fetch of a key, and gives the key that the book has.
-fn put_and_read<N: Naming, R: Wait>(
-    alloc: Global,
-    handle: &mut Sender<Key, u16, (), All, N, R>,
-    receiver: &Receiver<Key, u16, (), All, N, R>,
-    key: Key,
-) -> Result<Option<Key>, Fail> {
-    put(alloc, handle, key)?;
-    key_of(alloc, handle, receiver)
+    key
 }
 
 /// Puts a fetch of a key into a recorded mailbox, and gives the key that its book has.
-fn booked<N, R>(rt: R, alloc: Global, pages: Pages, key: Key) -> Result<Option<Key>, Fail>
+fn booked<N, R>(rt: R, alloc: Global, pages: Pages, key: Key) -> Option<Key>
 where
     N: Naming,
-    R: Wait + Copy + Drop,
+    R: Wait + Abort + Copy + Drop,
     requires recorded { N.is_recorded ≡ true }
     requires puts { pages.puts.name ≡ N.puts }
     requires takes { pages.takes.name ≡ N.takes }
 {
-    match recorded::<Key, u16, (), All, N, R>(rt, alloc, pages, 1) {
-        Ok((mut handle, receiver)) => {
-            let read = put_and_read(alloc, &mut handle, &receiver, key);
-            drop(receiver);
-            drop(handle);
-            read
-        }
-        Err(error) => Err(error.into()),
-    }
+    let ends = recorded::<Key, u16, (), All, N, R>(rt, alloc, pages, 1);
+    let (mut handle, receiver) = ends.expect(&rt, "memory");
+    put(&rt, alloc, &mut handle, key);
+    let read = key_of(&rt, alloc, &handle, &receiver);
+    drop(receiver);
+    drop(handle);
+    read
 }
 
 #[test]
-fn a_key_is_booked(rt: HostRuntime) -> Result<(), Fail> {
-    let key = booked::<Brand, _>(rt, rt.alloc(), Pages::new(), Key(123))?;
+fn a_key_is_booked(rt: HostRuntime) {
+    let key = booked::<Brand, _>(rt, rt.alloc(), Pages::new(), Key(123));
     assert_eq!(rt; key, Some(Key(123)));
-    Ok(())
 }

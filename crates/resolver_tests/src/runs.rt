@@ -12,8 +12,8 @@ use resolver::p2p::inputs::{Event, Happening, Input};
 use resolver::p2p::mocks::Key;
 use resolver::p2p::rows::{Phase, Row};
 use std::alloc::Global;
+use std::panic::Expect;
 use std::process::Abort;
-use std::test::Fail;
 
 /// What a test gives.
 #[derive(Clone, Copy, Debug)]
@@ -84,47 +84,45 @@ fn happens(event: Event<Key, u8, u16, All>) -> PlainInput {
     Input::Happens(Happening { now: 0, event })
 }
 
-fn input_of(alloc: Global, given: Given) -> Result<PlainInput, Fault> {
-    Ok(match given {
+fn input_of(rt: &impl Abort, alloc: Global, given: Given) -> PlainInput {
+    match given {
         Given::Peers => happens(Event::PeerSet {
             index: 1,
-            peers: peers(alloc)?,
+            peers: peers(rt, alloc),
         }),
-        Given::Fetch => happens(Event::Fetch(items(alloc)?)),
+        Given::Fetch => happens(Event::Fetch(items(rt, alloc))),
         Given::Wake => happens(Event::PendingDue),
         Given::Drawn(number) => Input::Answers(Answer::Drawn(number)),
         Given::Clear => Input::Answers(Answer::Checked(Check::Clear)),
         Given::Accepted => Input::Answers(Answer::Sent(true)),
-    })
+    }
 }
 
-fn peers(alloc: Global) -> Result<Vec<u8>, Fault> {
+fn peers(rt: &impl Abort, alloc: Global) -> Vec<u8> {
     let mut peers = Vec::new(alloc);
     for peer in [3_u8, 4, 9] {
-        peers.push(peer)?;
+        peers.push(peer).expect(rt, "memory");
     }
-    Ok(peers)
+    peers
 }
 
-fn items(alloc: Global) -> Result<Vec<FetchKey<Key, u16, Option<NonEmptyVec<u8>>>>, Fault> {
-    let mut items = Vec::new(alloc);
-    let Ok(subscribers) = NonEmptyVec::new(alloc, (10, 7)) else {
-        return Err(Fault::OutOfMemory);
-    };
-    items.push(FetchKey {
+fn items(rt: &impl Abort, alloc: Global) -> Vec<FetchKey<Key, u16, Option<NonEmptyVec<u8>>>> {
+    let item = FetchKey {
         key: Key(1),
-        subscribers,
+        subscribers: NonEmptyVec::new(alloc, (10, 7)).expect(rt, "memory"),
         metadata: None,
-    })?;
-    Ok(items)
+    };
+    let mut items = Vec::new(alloc);
+    items.push(item).expect(rt, "memory");
+    items
 }
 
-fn inputs_of(alloc: Global, given: &[Given]) -> Result<Vec<PlainInput>, Fault> {
+fn inputs_of(rt: &impl Abort, alloc: Global, given: &[Given]) -> Vec<PlainInput> {
     let mut inputs = Vec::new(alloc);
     for one in given {
-        inputs.push(input_of(alloc, *one)?)?;
+        inputs.push(input_of(rt, alloc, *one)).expect(rt, "memory");
     }
-    Ok(inputs)
+    inputs
 }
 
 fn seen_of(effect: &Effect<Key, u8, u16>) -> Seen {
@@ -140,24 +138,22 @@ fn seen_of(effect: &Effect<Key, u8, u16>) -> Seen {
     }
 }
 
-fn note_answer(answer: &Answered, seen: &mut Vec<Seen>) -> Result<(), Fault> {
+fn note_answer(rt: &impl Abort, answer: &Answered, seen: &mut Vec<Seen>) {
     match answer {
         Ok(effects) => {
-            seen.push(Seen::Taken)?;
+            seen.push(Seen::Taken).expect(rt, "memory");
             for effect in effects {
-                seen.push(seen_of(effect))?;
+                seen.push(seen_of(effect)).expect(rt, "memory");
             }
         }
-        Err(fault) => seen.push(Seen::Refused(*fault))?,
+        Err(fault) => seen.push(Seen::Refused(*fault)).expect(rt, "memory"),
     }
-    Ok(())
 }
 
-fn note_answers(answers: &[Answered], seen: &mut Vec<Seen>) -> Result<(), Fault> {
+fn note_answers(rt: &impl Abort, answers: &[Answered], seen: &mut Vec<Seen>) {
     for answer in answers {
-        note_answer(answer, seen)?;
+        note_answer(rt, answer, seen);
     }
-    Ok(())
 }
 
 fn row_of(row: &Row<Key, u16, u8>) -> Seen {
@@ -174,38 +170,36 @@ fn row_of(row: &Row<Key, u16, u8>) -> Seen {
     }
 }
 
-fn note_rows(rows: &[Row<Key, u16, u8>], seen: &mut Vec<Seen>) -> Result<(), Fault> {
+fn note_rows(rt: &impl Abort, rows: &[Row<Key, u16, u8>], seen: &mut Vec<Seen>) {
     for row in rows {
-        seen.push(row_of(row))?;
+        seen.push(row_of(row)).expect(rt, "memory");
     }
-    Ok(())
 }
 
-fn look(engine: &Plain, seen: &mut Vec<Seen>) -> Result<(), Fault> {
-    let rows = engine.rows()?;
-    let noted = note_rows(rows.as_slice(), seen);
+fn look(rt: &impl Abort, engine: &Plain, seen: &mut Vec<Seen>) {
+    let rows = engine.rows().expect(rt, "memory");
+    note_rows(rt, rows.as_slice(), seen);
     drop(rows);
-    noted?;
-    seen.push(Seen::Wake(engine.get_pending_deadline()))?;
-    Ok(())
+    seen.push(Seen::Wake(engine.get_pending_deadline()))
+        .expect(rt, "memory");
 }
 
-/// What an engine shows of these in one run, and of its rows after it.
+/// Gives these to an engine in one run, and notes what it shows of each.
 fn run_on(
+    rt: &impl Abort,
     engine: &mut Plain,
     alloc: Global,
     given: &[Given],
     seen: &mut Vec<Seen>,
-) -> Result<(), Fault> {
-    let answers = engine.run(inputs_of(alloc, given)?)?;
-    let noted = note_answers(answers.as_slice(), seen);
+) {
+    let answers = engine.run(inputs_of(rt, alloc, given)).expect(rt, "memory");
+    note_answers(rt, answers.as_slice(), seen);
     drop(answers);
-    noted?;
-    look(engine, seen)
 }
 
-/// The same of a new engine, that is called 9, with a timeout of 50 and a delay of 10.
-fn run_all(alloc: Global, given: &[Given], seen: &mut Vec<Seen>) -> Result<(), Fault> {
+/// What a new engine shows of these in one run, and of its rows after it. It is called 9, with a
+/// timeout of 50 and a delay of 10.
+fn run_all(rt: &impl Abort, alloc: Global, given: &[Given]) -> Vec<Seen> {
     let config = Config {
         me: Some(9),
         fetch_timeout: 50,
@@ -213,26 +207,20 @@ fn run_all(alloc: Global, given: &[Given], seen: &mut Vec<Seen>) -> Result<(), F
         priority_requests: false,
     };
     let mut engine: Plain = Core::new(alloc, config, false);
-    let ended = run_on(&mut engine, alloc, given, seen);
+    let mut seen = Vec::new(alloc);
+    run_on(rt, &mut engine, alloc, given, &mut seen);
+    look(rt, &engine, &mut seen);
     drop(engine);
-    ended
+    seen
 }
 
-fn assert_run(
-    rt: &impl Abort,
-    alloc: Global,
-    given: &[Given],
-    expected: &[Seen],
-) -> Result<(), Fail> {
-    let mut seen = Vec::new(alloc);
-    run_all(alloc, given, &mut seen)?;
-    assert_eq!(rt; seen.as_slice(), expected);
-    Ok(())
+fn assert_run(rt: &impl Abort, alloc: Global, given: &[Given], expected: &[Seen]) {
+    assert_eq!(rt; run_all(rt, alloc, given).as_slice(), expected);
 }
 
 /// A scan's questions in one run, with answers that it refuses.
 #[test]
-fn peer_refusals(rt: HostRuntime) -> Result<(), Fail> {
+fn peer_refusals(rt: HostRuntime) {
     const GIVEN: &[Given] = &[
         Given::Peers,
         Given::Fetch,
@@ -275,5 +263,5 @@ fn peer_refusals(rt: HostRuntime) -> Result<(), Fail> {
         },
         Seen::Wake(None),
     ];
-    assert_run(&rt, rt.alloc(), GIVEN, EXPECTED)
+    assert_run(&rt, rt.alloc(), GIVEN, EXPECTED);
 }
