@@ -30,12 +30,13 @@ use std::marker::Model;
 /// A value is handed out for a key that is tracked and has no delivery in progress:
 ///
 /// ```rust
-/// fn deliver(entries: &mut Tracked, alloc: Global, key: u16, context: u64) -> Result<u64, Fail> {
-///     let delivery = delivery(alloc, key)?;
-///     if !entries.contains(&delivery.key) || entries.number(&delivery.key).is_some() {
-///         return Err(Fail::from("a key that isn't free"));
-///     }
-///     Ok(entries.deliver(delivery, context, 5)?)
+/// fn deliver(rt: &impl Abort, alloc: Global, entries: &mut Tracked, key: u16, context: u64) -> u64 {
+///     let delivery = delivery(rt, alloc, key);
+///     assert!(rt; entries.contains(&delivery.key));
+///     assert!(rt; entries.number(&delivery.key).is_none());
+///     entries
+///         .deliver(delivery, context, 5)
+///         .expect(rt, "a delivery")
 /// }
 /// ```
 #[derive(Debug)]
