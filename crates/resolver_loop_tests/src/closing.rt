@@ -1,10 +1,10 @@
 //! Sources that close, and parts that fail: what becomes of the engine's loop.
 
+use crate::asserts::answered;
 use resolver::{Outcome, Resolution};
 use resolver_fakes::acts::{Act, play};
 use resolver_fakes::seen::Wrong;
 use resolver_fakes::world::Setting;
-use std::test::Fail;
 
 /// There is peer 3.
 const PEERS: Act = Act::Peers(1, &[3]);
@@ -13,9 +13,9 @@ const PEERS: Act = Act::Peers(1, &[3]);
 const FETCH: Act = Act::Fetch(&[(1, 10)]);
 
 #[test]
-fn the_peer_set_source_closes(rt: HostRuntime) -> Result<(), Fail> {
+fn the_peer_set_source_closes(rt: HostRuntime) {
     const ACTS: &[Act] = &[PEERS, FETCH, Act::ClosePeers];
-    let text = play(rt, Setting::with(Wrong::Nothing), ACTS)?;
+    let text = answered(&rt, play(rt, Setting::with(Wrong::Nothing), ACTS));
     assert_eq!(rt;
         text.as_str(),
         "-
@@ -29,12 +29,11 @@ complete
 Closed
 "
     );
-    Ok(())
 }
 
 /// The last blocked set stays, and the loop goes on.
 #[test]
-fn the_blocked_source_closes(rt: HostRuntime) -> Result<(), Fail> {
+fn the_blocked_source_closes(rt: HostRuntime) {
     const ACTS: &[Act] = &[
         Act::Peers(1, &[3, 4]),
         Act::Block(&[3]),
@@ -42,7 +41,7 @@ fn the_blocked_source_closes(rt: HostRuntime) -> Result<(), Fail> {
         Act::Fetch(&[(1, 10)]),
         Act::Net(4, b"\0\0\0\0\0\0\0\0\x01\x02hi"),
     ];
-    let text = play(rt, Setting::with(Wrong::Nothing), ACTS)?;
+    let text = answered(&rt, play(rt, Setting::with(Wrong::Nothing), ACTS));
     assert_eq!(rt;
         text.as_str(),
         "-
@@ -59,13 +58,12 @@ deliver 1 to 10 x6869
 Ok
 "
     );
-    Ok(())
 }
 
 #[test]
-fn the_receiver_closes(rt: HostRuntime) -> Result<(), Fail> {
+fn the_receiver_closes(rt: HostRuntime) {
     const ACTS: &[Act] = &[PEERS, FETCH, Act::CloseNetwork];
-    let text = play(rt, Setting::with(Wrong::Nothing), ACTS)?;
+    let text = answered(&rt, play(rt, Setting::with(Wrong::Nothing), ACTS));
     assert_eq!(rt;
         text.as_str(),
         "-
@@ -79,14 +77,13 @@ complete
 Closed
 "
     );
-    Ok(())
 }
 
 /// What was put before the close is still taken, and asked for.
 #[test]
-fn the_mailbox_is_closed_and_nothing_waits(rt: HostRuntime) -> Result<(), Fail> {
+fn the_mailbox_is_closed_and_nothing_waits(rt: HostRuntime) {
     const ACTS: &[Act] = &[Act::Peers(1, &[3]), Act::LastFetch(&[(1, 10)])];
-    let text = play(rt, Setting::with(Wrong::Nothing), ACTS)?;
+    let text = answered(&rt, play(rt, Setting::with(Wrong::Nothing), ACTS));
     assert_eq!(rt;
         text.as_str(),
         "-
@@ -99,17 +96,19 @@ complete
 Closed
 "
     );
-    Ok(())
 }
 
 #[test]
-fn the_consumer_answers_1(rt: HostRuntime) -> Result<(), Fail> {
+fn the_consumer_answers_1(rt: HostRuntime) {
     let response = Act::Net(3, b"\0\0\0\0\0\0\0\0\x01\x02hi");
-    let text = play(
-        rt,
-        Setting::with(Wrong::Consumer),
-        &[PEERS, FETCH, response],
-    )?;
+    let text = answered(
+        &rt,
+        play(
+            rt,
+            Setting::with(Wrong::Consumer),
+            &[PEERS, FETCH, response],
+        ),
+    );
     assert_eq!(rt;
         text.as_str(),
         "-
@@ -123,13 +122,15 @@ OutOfMemory
 Closed
 "
     );
-    Ok(())
 }
 
 #[test]
-fn the_producer_answers_1(rt: HostRuntime) -> Result<(), Fail> {
+fn the_producer_answers_1(rt: HostRuntime) {
     const REQUEST: Act = Act::Net(3, b"\0\0\0\0\0\0\0\x07\0\x05");
-    let text = play(rt, Setting::with(Wrong::Producer), &[PEERS, REQUEST])?;
+    let text = answered(
+        &rt,
+        play(rt, Setting::with(Wrong::Producer), &[PEERS, REQUEST]),
+    );
     assert_eq!(rt;
         text.as_str(),
         "-
@@ -137,12 +138,11 @@ OutOfMemory
 Closed
 "
     );
-    Ok(())
 }
 
 /// It isn't sent again; the next request under the same id has a reply of its own, and the loop goes on.
 #[test]
-fn the_send_of_a_reply_is_refused(rt: HostRuntime) -> Result<(), Fail> {
+fn the_send_of_a_reply_is_refused(rt: HostRuntime) {
     const REQUEST: Act = Act::Net(3, b"\0\0\0\0\0\0\0\x07\0\x05");
     const ACTS: &[Act] = &[
         PEERS,
@@ -156,7 +156,7 @@ fn the_send_of_a_reply_is_refused(rt: HostRuntime) -> Result<(), Fail> {
         Act::Judge(Outcome::Resolved(Resolution::Complete)),
     ];
     let refused = Wrong::Sends { first: 1, count: 1 };
-    let text = play(rt, Setting::with(refused), ACTS)?;
+    let text = answered(&rt, play(rt, Setting::with(refused), ACTS));
     assert_eq!(rt;
         text.as_str(),
         "-
@@ -181,5 +181,4 @@ deliver 1 to 10 x6869
 Ok
 "
     );
-    Ok(())
 }

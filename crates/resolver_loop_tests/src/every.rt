@@ -1,10 +1,10 @@
 //! Each input and each effect of the peer machine, once.
 
+use crate::asserts::answered;
 use resolver::{Outcome, Resolution};
 use resolver_fakes::acts::{Act, play};
 use resolver_fakes::seen::Wrong;
 use resolver_fakes::world::Setting;
-use std::test::Fail;
 
 const COMPLETE: Act<'static> = Act::Judge(Outcome::Resolved(Resolution::Complete));
 
@@ -71,15 +71,14 @@ Closed
 ";
 
 #[test]
-fn every_input_every_effect(rt: HostRuntime) -> Result<(), Fail> {
-    let text = play(rt, Setting::with(Wrong::Nothing), &EVERY)?;
+fn every_input_every_effect(rt: HostRuntime) {
+    let text = answered(&rt, play(rt, Setting::with(Wrong::Nothing), &EVERY));
     assert_eq!(rt; text.as_str(), SEEN);
-    Ok(())
 }
 
 /// A subscriber joins while a response is being judged.
 #[test]
-fn a_late_subscriber_gets_the_same_response(rt: HostRuntime) -> Result<(), Fail> {
+fn a_late_subscriber_gets_the_same_response(rt: HostRuntime) {
     const ACTS: &[Act] = &[
         Act::Peers(1, &[3, 4, 9]),
         Act::Fetch(&[(1, 10)]),
@@ -88,7 +87,7 @@ fn a_late_subscriber_gets_the_same_response(rt: HostRuntime) -> Result<(), Fail>
         COMPLETE,
         COMPLETE,
     ];
-    let text = play(rt, Setting::with(Wrong::Nothing), ACTS)?;
+    let text = answered(&rt, play(rt, Setting::with(Wrong::Nothing), ACTS));
     assert_eq!(rt;
         text.as_str(),
         "-
@@ -107,5 +106,4 @@ deliver 1 to 11 x6869
 Ok
 "
     );
-    Ok(())
 }

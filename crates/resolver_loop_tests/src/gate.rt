@@ -3,6 +3,7 @@
 ghost use Rattle.std.specs.Prelude.{◌≡◌, IfErr};
 ghost use Rattle.resolver_base.specs.declared.base.fault.Fault.TheVariants.{OutOfMemory};
 
+use crate::asserts::answered;
 use bytes::Bytes;
 use futures::channel::{mpsc, oneshot};
 use futures::spin::lock;
@@ -19,10 +20,12 @@ use resolver_fakes::watch::{Standing, Watch};
 use resolver_fakes::world::{make_sources, peers};
 use std::alloc::{AllocGlobal, Global};
 use std::fmt::Write;
+use std::io::Eprint;
 use std::num::NonZeroUsize;
+use std::panic::Expect;
+use std::process::Abort;
 use std::random::RandomSource;
 use std::sync::{Arc, Mutex, Wait};
-use std::test::Fail;
 use std::thread;
 use std::thread::Threads;
 use std::time::{Clock, Duration};
@@ -232,51 +235,50 @@ struct Lent {
 }
 
 fn make_hands(
+    rt: &impl Abort,
     alloc: Global,
     told: &Told,
-) -> Result<(mpsc::UnboundedReceiver<(Key, Bytes)>, Arc<Door>, Hands), Fault> {
-    let told = told.clone()?;
-    let door = Arc::new(alloc, Door::new())?;
+) -> (mpsc::UnboundedReceiver<(Key, Bytes)>, Arc<Door>, Hands) {
+    let told = told.clone().expect(rt, "memory");
+    let door = Arc::new(alloc, Door::new()).expect(rt, "memory");
     let producer = Gated {
         alloc,
         told,
-        door: Arc::try_clone(&door)?,
+        door: Arc::try_clone(&door).expect(rt, "memory"),
     };
-    let (consumer, taken) = Consumer::new(alloc)?;
-    Ok((taken, door, (consumer, producer)))
+    let (consumer, taken) = Consumer::new(alloc).expect(rt, "memory");
+    (taken, door, (consumer, producer))
 }
 
 fn make_network(
+    rt: &impl Abort,
     alloc: Global,
     told: &Told,
-) -> Result<
-    (
-        mpsc::UnboundedSender<(Peer, Bytes)>,
-        (Network, Given<(Peer, Bytes)>),
-    ),
-    Fault,
-> {
-    let (network, given) = mpsc::unbounded(alloc)?;
+) -> (
+    mpsc::UnboundedSender<(Peer, Bytes)>,
+    (Network, Given<(Peer, Bytes)>),
+) {
+    let (network, given) = mpsc::unbounded(alloc).expect(rt, "memory");
     let sender = Network {
-        wire: Wire::new(told.clone()?, Wrong::Nothing),
-        answers: network.clone()?,
+        wire: Wire::new(told.clone().expect(rt, "memory"), Wrong::Nothing),
+        answers: network.clone().expect(rt, "memory"),
     };
-    let told = told.clone()?;
-    Ok((network, (sender, Given { told, given })))
+    let told = told.clone().expect(rt, "memory");
+    (network, (sender, Given { told, given }))
 }
 
 /// A clock that stands at 0.
-fn make_clock(alloc: Global) -> Result<Standing, Fault> {
-    let watch = Arc::new(alloc, Watch::new())?;
-    Ok(Standing { watch })
+fn make_clock(rt: &impl Abort, alloc: Global) -> Standing {
+    let watch = Arc::new(alloc, Watch::new()).expect(rt, "memory");
+    Standing { watch }
 }
 
-fn lend(alloc: Global) -> Result<(Ends, Lent), Fault> {
-    let clock = make_clock(alloc)?;
-    let (told, seen) = mpsc::unbounded(alloc)?;
-    let sources = make_sources(alloc, &told)?;
-    let (taken, door, hands) = make_hands(alloc, &told)?;
-    let (network, lent) = make_network(alloc, &told)?;
+fn lend(rt: &impl Abort, alloc: Global) -> (Ends, Lent) {
+    let clock = make_clock(rt, alloc);
+    let (told, seen) = mpsc::unbounded(alloc).expect(rt, "memory");
+    let sources = make_sources(alloc, &told).expect(rt, "memory");
+    let (taken, door, hands) = make_hands(rt, alloc, &told);
+    let (network, lent) = make_network(rt, alloc, &told);
     let ends = Ends {
         sets: sources.sets,
         network,
@@ -291,15 +293,15 @@ fn lend(alloc: Global) -> Result<(Ends, Lent), Fault> {
         clock,
         draws: Dice { told, seeded: None },
     };
-    Ok((ends, lent))
+    (ends, lent)
 }
 
-fn made<R: Copy>(
+fn made<R: Abort + Copy>(
     rt: R,
     alloc: Global,
     peers: (Given<(u64, Vec<Peer>)>, Given<Vec<Peer>>),
     hands: Hands,
-) -> Result<(Made<R>, Asked<R>), Fault> {
+) -> (Made<R>, Asked<R>) {
     let cfg = Config {
         peer_provider: peers.0,
         blocker: peers.1,
@@ -312,13 +314,13 @@ fn made<R: Copy>(
         priority_requests: false,
         priority_responses: false,
     };
-    Engine::new(rt, alloc, cfg)
+    Engine::new(rt, alloc, cfg).expect(&rt, "an engine")
 }
 
 /// The engine in a thread.
-fn start<R>(rt: R, alloc: Global, lent: Lent) -> Result<(Asked<R>, Handle), Fault>
+fn start<R>(rt: R, alloc: Global, lent: Lent) -> (Asked<R>, Handle)
 where
-    R: Threads + Wait + RandomSource + AllocGlobal + Copy + Drop + Send + 'static,
+    R: Abort + Threads + Wait + RandomSource + AllocGlobal + Copy + Drop + Send + 'static,
 {
     let Lent {
         peers,
@@ -327,8 +329,9 @@ where
         clock,
         draws,
     } = lent;
-    let (engine, mailbox) = made(rt, alloc, peers, hands)?;
-    Ok((mailbox, engine.start(network, clock, draws)?))
+    let (engine, mailbox) = made(rt, alloc, peers, hands);
+    let handle = engine.start(network, clock, draws);
+    (mailbox, handle.expect(&rt, "a thread"))
 }
 
 /// Looks at most 10,000 times, with a pause of a millisecond, whether something has come.
@@ -343,101 +346,99 @@ fn look<R: Clock, T: Drop>(rt: &R, given: &mut mpsc::UnboundedReceiver<T>) -> Op
 }
 
 /// Writes what the fakes are asked next.
-fn wait<R: Clock>(rt: &R, text: &mut String, ends: &mut Ends) -> Result<(), Fail> {
+fn wait<R: Abort + Clock>(rt: &R, text: &mut String, ends: &mut Ends) {
     if let Some(seen) = look(rt, &mut ends.told) {
-        writeln!(text, "{seen}")?;
+        writeln!(text, "{seen}").expect(rt, "memory");
     }
-    Ok(())
 }
 
-fn fetch<R: Wait + Copy + Send + 'static>(mailbox: &mut Asked<R>) -> Result<(), Fault> {
-    mailbox.fetch(wanted(1, 10))?;
-    Ok(())
+fn fetch<R: Wait + Copy + Send + 'static>(rt: &impl Abort, mailbox: &mut Asked<R>) {
+    mailbox.fetch(wanted(1, 10)).expect(rt, "an answer");
 }
 
 /// Peer 3 asks for key 5.
-fn ask(alloc: Global, ends: &Ends) -> Result<(), Fault> {
-    let _ = ends.sets.unbounded_send((1, peers(alloc, &[3])?));
+fn ask(rt: &impl Abort, alloc: Global, ends: &Ends) {
+    let peers = peers(alloc, &[3]).expect(rt, "memory");
+    let _ = ends.sets.unbounded_send((1, peers));
     let request = Bytes::from_static(b"\0\0\0\0\0\0\0\x07\0\x05");
     let _ = ends.network.unbounded_send((Peer(3), request));
-    Ok(())
 }
 
 /// Writes what the consumer took, and what the fakes were asked up to then. Says whether anything was taken.
-fn take<R: Clock>(rt: &R, text: &mut String, ends: &mut Ends) -> Result<bool, Fail> {
+fn take<R: Abort + Clock + Eprint>(rt: &R, text: &mut String, ends: &mut Ends) -> bool {
     let taken = look(rt, &mut ends.taken);
-    spell(text, &mut ends.told)?;
+    answered(rt, spell(text, &mut ends.told));
     let Some((key, value)) = taken else {
-        writeln!(text, "nothing is taken")?;
-        return Ok(false);
+        writeln!(text, "nothing is taken").expect(rt, "memory");
+        return false;
     };
-    writeln!(text, "take {} {}", key.0, Hex(value.as_slice()))?;
-    Ok(true)
+    writeln!(text, "take {} {}", key.0, Hex(value.as_slice())).expect(rt, "memory");
+    true
 }
 
 /// A key is fetched while a serve is held back. Only then the gate is opened, and the reply is waited for.
-fn exchange<R>(
-    rt: &R,
-    text: &mut String,
-    ends: &mut Ends,
-    mailbox: &mut Asked<R>,
-) -> Result<(), Fail>
+fn exchange<R>(rt: &R, text: &mut String, ends: &mut Ends, mailbox: &mut Asked<R>)
 where
-    R: Clock + Wait + Copy + Send + 'static,
+    R: Abort + Clock + Eprint + Wait + Copy + Send + 'static,
 {
-    ask(*text.allocator(), ends)?;
-    wait(rt, text, ends)?;
-    fetch(mailbox)?;
-    let is_taken = take(rt, text, ends)?;
-    writeln!(text, "open {}", ends.door.is_open())?;
+    ask(rt, *text.allocator(), ends);
+    wait(rt, text, ends);
+    fetch(rt, mailbox);
+    let is_taken = take(rt, text, ends);
+    writeln!(text, "open {}", ends.door.is_open()).expect(rt, "memory");
     ends.door.open();
     if is_taken {
-        wait(rt, text, ends)?;
+        wait(rt, text, ends);
     }
     mailbox.close();
-    Ok(())
 }
 
 /// The same with an engine in a thread, and how that ended.
-fn exchange_in_thread<R>(
-    rt: R,
-    text: &mut String,
-    ends: &mut Ends,
-    lent: Lent,
-) -> Result<Result<(), Fault>, Fail>
+fn exchange_in_thread<R>(rt: R, text: &mut String, ends: &mut Ends, lent: Lent) -> Result<(), Fault>
 where
-    R: Clock + Threads + Wait + RandomSource + AllocGlobal + Copy + Drop + Send + 'static,
+    R: Abort
+        + Clock
+        + Eprint
+        + Threads
+        + Wait
+        + RandomSource
+        + AllocGlobal
+        + Copy
+        + Drop
+        + Send
+        + 'static,
 {
-    match start(rt, *text.allocator(), lent) {
-        Ok((mut mailbox, handle)) => {
-            let exchanged = exchange(&rt, text, ends, &mut mailbox);
-            drop(mailbox);
-            exchanged?;
-            Ok(handle.join(&rt))
-        }
-        Err(fault) => Err(fault.into()),
-    }
+    let (mut mailbox, handle) = start(rt, *text.allocator(), lent);
+    exchange(&rt, text, ends, &mut mailbox);
+    drop(mailbox);
+    handle.join(&rt)
 }
 
 /// The same with all that the engine is lent.
-fn exchange_all<R>(rt: R, text: &mut String) -> Result<Result<(), Fault>, Fail>
+fn exchange_all<R>(rt: R, text: &mut String) -> Result<(), Fault>
 where
-    R: Clock + Threads + Wait + RandomSource + AllocGlobal + Copy + Drop + Send + 'static,
+    R: Abort
+        + Clock
+        + Eprint
+        + Threads
+        + Wait
+        + RandomSource
+        + AllocGlobal
+        + Copy
+        + Drop
+        + Send
+        + 'static,
 {
-    match lend(*text.allocator()) {
-        Ok((mut ends, lent)) => {
-            let ended = exchange_in_thread(rt, text, &mut ends, lent);
-            drop(ends);
-            ended
-        }
-        Err(fault) => Err(fault.into()),
-    }
+    let (mut ends, lent) = lend(&rt, *text.allocator());
+    let ended = exchange_in_thread(rt, text, &mut ends, lent);
+    drop(ends);
+    ended
 }
 
 #[test]
-fn serve_waits_for_fetch(rt: HostRuntime) -> Result<(), Fail> {
+fn serve_waits_for_fetch(rt: HostRuntime) {
     let mut text = String::new(rt.alloc());
-    assert_eq!(rt; exchange_all(rt, &mut text)?, Ok(()));
+    assert_eq!(rt; exchange_all(rt, &mut text), Ok(()));
     assert_eq!(rt;
         text.as_str(),
         "produce 5
@@ -451,5 +452,4 @@ open false
 send 3 x000000000000000701026f6b
 "
     );
-    Ok(())
 }

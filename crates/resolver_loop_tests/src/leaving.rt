@@ -1,14 +1,14 @@
 //! Consumers that drop what they were handed, and peers that leave before they are answered.
 
+use crate::asserts::answered;
 use resolver_fakes::acts::{Act, play};
 use resolver_fakes::seen::Wrong;
 use resolver_fakes::world::Setting;
-use std::test::Fail;
 
 /// Each delivery's verdict is that it was dropped: its subscribers are retired, and the key with them, so a later
 /// subscriber has it asked for anew.
 #[test]
-fn a_consumer_drops_every_one_shot(rt: HostRuntime) -> Result<(), Fail> {
+fn a_consumer_drops_every_one_shot(rt: HostRuntime) {
     const ACTS: &[Act] = &[
         Act::Peers(1, &[3]),
         Act::Fetch(&[(1, 10), (1, 11)]),
@@ -16,7 +16,7 @@ fn a_consumer_drops_every_one_shot(rt: HostRuntime) -> Result<(), Fail> {
         Act::Fetch(&[(1, 12)]),
         Act::Net(3, b"\0\0\0\0\0\0\0\x01\x01\x02ok"),
     ];
-    let text = play(rt, Setting::with(Wrong::Drops), ACTS)?;
+    let text = answered(&rt, play(rt, Setting::with(Wrong::Drops), ACTS));
     assert_eq!(rt;
         text.as_str(),
         "-
@@ -38,13 +38,12 @@ deliver 1 to 12 x6f6b
 Ok
 "
     );
-    Ok(())
 }
 
 /// Only the subscribers that the delivery named are retired: who came meanwhile gets the response again, and once
 /// that is dropped too nobody is left.
 #[test]
-fn a_late_subscriber_outlives_a_dropped_delivery(rt: HostRuntime) -> Result<(), Fail> {
+fn a_late_subscriber_outlives_a_dropped_delivery(rt: HostRuntime) {
     const ACTS: &[Act] = &[
         Act::Peers(1, &[3]),
         Act::Fetch(&[(1, 10)]),
@@ -54,7 +53,7 @@ fn a_late_subscriber_outlives_a_dropped_delivery(rt: HostRuntime) -> Result<(), 
         Act::Drop,
         Act::Fetch(&[(1, 10)]),
     ];
-    let text = play(rt, Setting::with(Wrong::Nothing), ACTS)?;
+    let text = answered(&rt, play(rt, Setting::with(Wrong::Nothing), ACTS));
     assert_eq!(rt;
         text.as_str(),
         "-
@@ -78,19 +77,18 @@ send 3 x00000000000000010001
 Ok
 "
     );
-    Ok(())
 }
 
 /// The reply is sent all the same.
 #[test]
-fn a_producer_answers_after_its_peer_left_the_set(rt: HostRuntime) -> Result<(), Fail> {
+fn a_producer_answers_after_its_peer_left_the_set(rt: HostRuntime) {
     const ACTS: &[Act] = &[
         Act::Peers(1, &[3, 4]),
         Act::Net(3, b"\0\0\0\0\0\0\0\x07\0\x05"),
         Act::Peers(2, &[4]),
         Act::Serve(b"ok"),
     ];
-    let text = play(rt, Setting::with(Wrong::Nothing), ACTS)?;
+    let text = answered(&rt, play(rt, Setting::with(Wrong::Nothing), ACTS));
     assert_eq!(rt;
         text.as_str(),
         "-
@@ -102,5 +100,4 @@ send 3 x000000000000000701026f6b
 Ok
 "
     );
-    Ok(())
 }

@@ -1,3 +1,4 @@
+use crate::asserts::answered;
 use bytes::Bytes;
 use futures::channel::oneshot;
 use futures::task::Poll;
@@ -9,9 +10,11 @@ use resolver_fakes::seen::Wrong;
 use resolver_fakes::world::spell_polled;
 use std::alloc::AllocGlobal;
 use std::fmt::Write;
+use std::io::Eprint;
+use std::panic::Expect;
+use std::process::Abort;
 use std::random::RandomSource;
 use std::sync::Wait;
-use std::test::Fail;
 
 /// Polls the loop, and once more where it was woken in that poll: what is new in a set of futures wakes
 /// the task that polls it.
@@ -25,63 +28,63 @@ fn settle<R: Wait + Copy + Drop>(task: &MockTask, looped: &mut Looped<R>) -> Pol
 
 /// Polls the loop, and writes what the consumer was asked, and whether the loop waits, is busy or over.
 fn turn<R: Wait + Copy + Drop>(
+    rt: &(impl Abort + Eprint),
     text: &mut String,
     task: &MockTask,
     looped: &mut Looped<R>,
     held: &mut Held,
-) -> Result<(), Fail> {
+) {
     let polled = settle(task, looped);
-    held.spell(text)?;
-    spell_polled(text, polled, task.is_woken())
+    answered(rt, held.spell(text));
+    answered(rt, spell_polled(text, polled, task.is_woken()));
 }
 
 /// The source has nothing at first, and a value after the retry delay.
 fn retried<R: Wait + Copy + Drop + Send + 'static>(
+    rt: &(impl Abort + Eprint),
     text: &mut String,
     task: &MockTask,
     looped: &mut Looped<R>,
     ends: &mut Ends<R>,
-) -> Result<(), Fail> {
-    ends.fetch(10)?;
-    turn(text, task, looped, &mut ends.held)?;
-    ends.held.answer(text, None)?;
-    turn(text, task, looped, &mut ends.held)?;
+) {
+    ends.fetch(10).expect(rt, "memory");
+    turn(rt, text, task, looped, &mut ends.held);
+    answered(rt, ends.held.answer(text, None));
+    turn(rt, text, task, looped, &mut ends.held);
     ends.held.watch.put(99);
-    turn(text, task, looped, &mut ends.held)?;
+    turn(rt, text, task, looped, &mut ends.held);
     ends.held.watch.put(100);
-    turn(text, task, looped, &mut ends.held)?;
-    ends.held.answer(text, Some(Bytes::from_static(b"hi")))?;
-    turn(text, task, looped, &mut ends.held)?;
+    turn(rt, text, task, looped, &mut ends.held);
+    answered(rt, ends.held.answer(text, Some(Bytes::from_static(b"hi"))));
+    turn(rt, text, task, looped, &mut ends.held);
     ends.held.complete();
-    turn(text, task, looped, &mut ends.held)
+    turn(rt, text, task, looped, &mut ends.held);
 }
 
 /// Two keys are let go: one that is asked, and one that is judged. Then the mailbox is closed.
 fn let_go<R: Wait + Copy + Drop + Send + 'static>(
+    rt: &(impl Abort + Eprint),
     text: &mut String,
     task: &MockTask,
     looped: &mut Looped<R>,
     ends: &mut Ends<R>,
-) -> Result<(), Fail> {
-    ends.fetch(11)?;
-    turn(text, task, looped, &mut ends.held)?;
-    let look = ends.held.look(text)?;
-    ends.retain_below(11)?;
-    turn(text, task, looped, &mut ends.held)?;
-    writeln!(text, "given up {}", is_given_up(look))?;
-    ends.fetch(12)?;
-    turn(text, task, looped, &mut ends.held)?;
-    ends.held.answer(text, Some(Bytes::from_static(b"ok")))?;
-    turn(text, task, looped, &mut ends.held)?;
-    ends.retain_below(11)?;
-    turn(text, task, looped, &mut ends.held)?;
-    writeln!(
-        text,
-        "canceled {}",
-        is_given_up(ends.held.verdicts.try_recv().ok())
-    )?;
+) {
+    ends.fetch(11).expect(rt, "memory");
+    turn(rt, text, task, looped, &mut ends.held);
+    let look = answered(rt, ends.held.look(text));
+    ends.retain_below(11).expect(rt, "memory");
+    turn(rt, text, task, looped, &mut ends.held);
+    writeln!(text, "given up {}", is_given_up(look)).expect(rt, "memory");
+    ends.fetch(12).expect(rt, "memory");
+    turn(rt, text, task, looped, &mut ends.held);
+    answered(rt, ends.held.answer(text, Some(Bytes::from_static(b"ok"))));
+    turn(rt, text, task, looped, &mut ends.held);
+    ends.retain_below(11).expect(rt, "memory");
+    turn(rt, text, task, looped, &mut ends.held);
+    let verdict = ends.held.verdicts.try_recv().ok();
+    writeln!(text, "canceled {}", is_given_up(verdict)).expect(rt, "memory");
     ends.resolver.close();
-    turn(text, task, looped, &mut ends.held)
+    turn(rt, text, task, looped, &mut ends.held);
 }
 
 /// Whether nobody waits for this answer any more.
@@ -126,80 +129,75 @@ enum Course {
 }
 
 fn go<R: Wait + Copy + Drop + Send + 'static>(
+    rt: &(impl Abort + Eprint),
     text: &mut String,
     task: &MockTask,
     looped: &mut Looped<R>,
     ends: &mut Ends<R>,
     course: Course,
-) -> Result<(), Fail> {
+) {
     match course {
         Course::Every => {
-            retried(text, task, looped, ends)?;
-            let_go(text, task, looped, ends)
+            retried(rt, text, task, looped, ends);
+            let_go(rt, text, task, looped, ends);
         }
-        Course::Looked(closes) => looked(text, task, looped, ends, closes),
+        Course::Looked(closes) => looked(rt, text, task, looped, ends, closes),
     }
 }
 
 /// Does this in an actor of its own, and gives what was written.
-fn play<R>(rt: R, wrong: Wrong, course: Course) -> Result<String, Fail>
+fn play<R>(rt: R, wrong: Wrong, course: Course) -> String
 where
-    R: Wait + RandomSource + AllocGlobal + Copy + Drop + Send + 'static,
+    R: Abort + Eprint + Wait + RandomSource + AllocGlobal + Copy + Drop + Send + 'static,
 {
-    let task = MockTask::new(&rt)?;
+    let task = MockTask::new(&rt).expect(&rt, "a task");
     let mut text = String::new(rt.alloc());
-    match opened(rt, rt.alloc(), wrong) {
-        Ok((mut ends, mut looped)) => {
-            let gone = go(&mut text, &task, &mut looped, &mut ends, course);
-            drop(looped);
-            drop(ends);
-            gone?;
-            Ok(text)
-        }
-        Err(fault) => Err(fault.into()),
-    }
+    let opened = opened(rt, rt.alloc(), wrong);
+    let (mut ends, mut looped) = opened.expect(&rt, "an actor");
+    go(&rt, &mut text, &task, &mut looped, &mut ends, course);
+    drop(looped);
+    drop(ends);
+    text
 }
 
 #[test]
-fn every_input_every_effect_of_the_actor(rt: HostRuntime) -> Result<(), Fail> {
-    let text = play(rt, Wrong::Nothing, Course::Every)?;
+fn every_input_every_effect_of_the_actor(rt: HostRuntime) {
+    let text = play(rt, Wrong::Nothing, Course::Every);
     assert_eq!(rt; text.as_str(), SEEN);
-    Ok(())
 }
 
 /// A key is asked for, and its mailbox closed if it is to be. The source has a value. Writes what becomes
 /// of that, and what one more fetch is answered.
 fn looked<R: Wait + Copy + Drop + Send + 'static>(
+    rt: &(impl Abort + Eprint),
     text: &mut String,
     task: &MockTask,
     looped: &mut Looped<R>,
     ends: &mut Ends<R>,
     closes: bool,
-) -> Result<(), Fail> {
-    ends.fetch(10)?;
+) {
+    ends.fetch(10).expect(rt, "memory");
     if closes {
         ends.resolver.close();
     }
-    turn(text, task, looped, &mut ends.held)?;
-    ends.held.answer(text, Some(Bytes::from_static(b"hi")))?;
+    turn(rt, text, task, looped, &mut ends.held);
+    answered(rt, ends.held.answer(text, Some(Bytes::from_static(b"hi"))));
     if !closes {
-        turn(text, task, looped, &mut ends.held)?;
+        turn(rt, text, task, looped, &mut ends.held);
     }
-    writeln!(text, "{:?}", ends.resolver.fetch(wanted(1, 10))?)?;
-    Ok(())
+    let feedback = ends.resolver.fetch(wanted(1, 10)).expect(rt, "an answer");
+    writeln!(text, "{feedback:?}").expect(rt, "memory");
 }
 
 /// What was put before the close is still taken, and looked for.
 #[test]
-fn the_mailbox_is_closed_and_nothing_waits(rt: HostRuntime) -> Result<(), Fail> {
-    let text = play(rt, Wrong::Consumer, Course::Looked(true))?;
+fn the_mailbox_is_closed_and_nothing_waits(rt: HostRuntime) {
+    let text = play(rt, Wrong::Consumer, Course::Looked(true));
     assert_eq!(rt; text.as_str(), "complete\nlook 1\nClosed\n");
-    Ok(())
 }
 
 #[test]
-fn the_consumer_answers_1(rt: HostRuntime) -> Result<(), Fail> {
-    let text = play(rt, Wrong::Consumer, Course::Looked(false))?;
+fn the_consumer_answers_1(rt: HostRuntime) {
+    let text = play(rt, Wrong::Consumer, Course::Looked(false));
     assert_eq!(rt; text.as_str(), "-\nlook 1\nOutOfMemory\nClosed\n");
-    Ok(())
 }
