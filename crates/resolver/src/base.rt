@@ -5,7 +5,8 @@ mod moment;
 
 pub use moment::Moment;
 pub use resolver_base::base::{
-    Check, Draws, Faithful, Fault, Feedback, NonEmptyVec, Numbers, Predicate, PrioritySet,
-    PublicKey, Seeded, Sender, Span, Unreliable,
+    Check, Draws, Faithful, Fault, Feedback, Numbers, PublicKey, Seeded, Sender, Span, Unreliable,
 };
+pub use resolver_priorities::PrioritySet;
+pub use resolver_root::{NonEmptyVec, Predicate};
 pub use resolver_surface::{Blocker, Clock, Provider, Receiver};

@@ -7,10 +7,10 @@
 #![tactic(auto)]
 
 pub use resolver_actor::laws;
-pub use resolver_base::root::{Delivery, Fetch, Outcome, Resolution};
 pub use resolver_demand::subscribers;
 pub use resolver_ingress::ingress;
 pub use resolver_mailbox::mailbox;
+pub use resolver_root::{Delivery, Fetch, Outcome, Resolution};
 pub use resolver_surface::{Consumer, Resolver, TargetedResolver};
 pub use resolver_worker::{Ending, Handle};
 

@@ -11,8 +11,8 @@ use Rattle.std.specs.BTreeMap.{insert_entry, is_at}
 use Rattle.std.specs.Cmp.{IsEquivalence}
 use Rattle.std.proofs.lemmas.Map.{keys-set_value}
 use Rattle.std.proofs.lemmas.Map.Keys.{IsDistinct-head, IsDistinct-tail, IsDistinct-cons}
-use Rattle.resolver_base.specs.Names.{Names, same_key}
-use Rattle.resolver_base.specs.Table as tables
+use Rattle.resolver_root.specs.Names.{Names, same_key}
+use Rattle.resolver_root.specs.Table as tables
 use Rattle.resolver_demand.specs.Entries.{changed_at}
 use Rattle.resolver_actor.specs.Opaque.{Row, kept, unkept, called_off, all_called_off}
 use Rattle.resolver_actor.specs.OpaqueActor.{Kept, phase_of, rows_of, has_cached, AreCached, Agree}

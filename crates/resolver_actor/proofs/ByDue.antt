@@ -5,7 +5,7 @@ use Rattle.std.proofs.lemmas.Map.Keys.{IsDistinct-head, IsDistinct-tail}
 use Rattle.std.specs.Map.{lookup, set_value, keys_of}
 use Rattle.std.specs.List.{AllByRecursion, IsDistinct}
 use Rattle.std.specs.Cmp.{IsEquivalence}
-use Rattle.resolver_base.specs.Names.{Names, same_key}
+use Rattle.resolver_root.specs.Names.{Names, same_key}
 use Rattle.resolver_actor.specs.Opaque.{Machine, Row, Phase, Waiting, Asked, Judged, Done, and_then, row_of, start_again, start_all, placed, placed_if_due, waiting_by_due, least_due, next_retry}
 use Rattle.resolver_actor.specs.OpaqueActor.{Kept, phase_of, rows_of, row_of as code_row_of}
 use Rattle.resolver_actor.specs.OpaqueFound.{IsIdle, IsIdlePhase, first_due}

@@ -11,18 +11,18 @@ use Rattle.std.proofs.lemmas.Map.Made.{lookup-map_values}
 use Rattle.std.proofs.lemmas.Map.{keys-set_value}
 use Rattle.std.proofs.lemmas.Bool.{lt-ltb}
 use Rattle.std.proofs.lemmas.Bool.Decides.{nat_tests}
-use Rattle.resolver_base.specs.Names.{Names, same_key}
-use Rattle.resolver_base.specs.Subscribers.{without}
-use Rattle.resolver_base.specs.Table as tables
+use Rattle.resolver_root.specs.Names.{Names, same_key}
+use Rattle.resolver_root.specs.Subscribers.{without}
+use Rattle.resolver_root.specs.Table as tables
 use Rattle.resolver_base.specs.declared.base.fault.Fault.{Fault}
 use Rattle.resolver_base.specs.declared.base.fault.Fault.TheVariants as faults
-use Rattle.resolver_base.specs.declared.root.Outcome.{Outcome}
-use Rattle.resolver_base.specs.declared.root.Outcome.TheVariants.{Invalid, Resolved, Unresolved, Ignored}
-use Rattle.resolver_base.specs.declared.root.Resolution.TheVariants.{Complete, Partial}
+use Rattle.resolver_root.specs.declared.root.Outcome.{Outcome}
+use Rattle.resolver_root.specs.declared.root.Outcome.TheVariants.{Invalid, Resolved, Unresolved, Ignored}
+use Rattle.resolver_root.specs.declared.root.Resolution.TheVariants.{Complete, Partial}
 use Rattle.resolver_demand.specs.Entries.{changed, changed_at, state_of, with_response, ended, numbered, accepted, removed, completed, completed_from, completion, completion_of, is_live, is_number, number_of, response_of, is_accepted, redelivered, begun_again, response_changed}
 use Rattle.resolver_demand.specs.declared.delivery.entry.Response.{Response}
 use Rattle.resolver_demand.specs.declared.delivery.entry.Open.{Open}
-use Rattle.resolver_base.specs.declared.root.Delivery.{Delivery}
+use Rattle.resolver_root.specs.declared.root.Delivery.{Delivery}
 use Rattle.std.specs.declared.cmp.Ordering.{Ordering}
 use Rattle.resolver_demand.specs.declared.delivery.completion.Completion.{Completion}
 use Rattle.resolver_demand.specs.declared.delivery.completion.Aborted.{Aborted}

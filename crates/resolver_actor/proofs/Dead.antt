@@ -3,8 +3,8 @@ use Rattle.std.proofs.Common.{◌≡◌, refl, ap, sym, ◌∙◌, ℕ, false, c
 use Rattle.std.specs.Map.{lookup}
 use Rattle.std.specs.BTreeMap.{is_at}
 use Rattle.std.specs.Ordering.{nat_cmp}
-use Rattle.resolver_base.specs.Names.{Names}
-use Rattle.resolver_base.specs.declared.root.Outcome.{Outcome}
+use Rattle.resolver_root.specs.Names.{Names}
+use Rattle.resolver_root.specs.declared.root.Outcome.{Outcome}
 use Rattle.resolver_machine.specs.Account.{Handed}
 use Rattle.resolver_machine.specs.Verdicts.{ruling}
 use Rattle.resolver_actor.specs.Opaque.{Machine, Row, Phase, Waiting, Asked, Judged, Verdict, step_in, step_done, quiet, closed, ruled, row_of, verdict, verdict_on, verdict_at, verdict_in}

@@ -10,8 +10,8 @@ use Rattle.std.specs.Map.{keys_of}
 use Rattle.std.specs.Ordering.{is_eq, is_lt, nat_cmp, ordering_reverse, ordering_then}
 use Rattle.std.specs.declared.cmp.Ordering.{Ordering}
 use Rattle.std.specs.declared.cmp.Ordering.TheVariants.{Less}
-use Rattle.resolver_base.specs.Priorities.{is_of, pair_order}
-use Rattle.resolver_base.proofs.Priorities.{pair_order-total}
+use Rattle.resolver_priorities.specs.Priorities.{is_of, pair_order}
+use Rattle.resolver_priorities.proofs.Priorities.{pair_order-total}
 use Rattle.resolver_demand.specs.declared.delivery.entry.Response.{Response}
 use Rattle.resolver_actor.specs.declared.opaque.rows.Stage.{Stage}
 use Rattle.resolver_actor.specs.declared.opaque.rows.Stage.TheVariants as stages

@@ -9,11 +9,11 @@ use Rattle.std.specs.BTreeMap.{insert_entry, is_at}
 use Rattle.std.specs.BTreeSet.{insert_key}
 use Rattle.std.specs.Ordering.{is_eq, nat_cmp}
 use Rattle.std.specs.declared.cmp.Ordering.{Ordering}
-use Rattle.resolver_base.specs.Priorities.{is_of, pair_order, put, without}
-use Rattle.resolver_base.proofs.Priorities.{is_of-same, is_of-other, then-equal, without-none, first_of-none}
+use Rattle.resolver_priorities.specs.Priorities.{is_of, pair_order, put, without}
+use Rattle.resolver_priorities.proofs.Priorities.{is_of-same, is_of-other, then-equal, without-none, first_of-none}
 use Rattle.resolver_base.specs.declared.base.fault.Fault.{Fault}
-use Rattle.resolver_base.specs.declared.root.Delivery.{Delivery}
-use Rattle.resolver_base.specs.declared.root.Outcome.{Outcome}
+use Rattle.resolver_root.specs.declared.root.Delivery.{Delivery}
+use Rattle.resolver_root.specs.declared.root.Outcome.{Outcome}
 use Rattle.std.specs.Prelude.{Result, Ok, Err, option_and_then, IfOk, ◌==◌}
 use Rattle.std.specs.Result.{OnOk, OnErr}
 use Rattle.resolver_demand.specs.Entries.{Numbered, accepted, begun_again, changed, changed_at, completed, completed_from, completion_of, delivered, ended, fresh as fresh_entry, is_live, is_number, number_of, numbered, redelivered, response_changed, response_of, state_of, with_response, with_state}

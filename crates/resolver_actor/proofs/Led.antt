@@ -12,8 +12,8 @@ use Rattle.std.specs.Ordering.{is_eq, match_ordering, nat_cmp, ordering_reverse}
 use Rattle.std.specs.declared.cmp.Ordering.{Ordering}
 use Rattle.std.specs.declared.cmp.Ordering.TheVariants.{Less, Equal, Greater}
 use Rattle.resolver_base.specs.declared.base.fault.Fault.{Fault}
-use Rattle.resolver_base.specs.declared.root.Delivery.{Delivery}
-use Rattle.resolver_base.specs.declared.root.Outcome.{Outcome}
+use Rattle.resolver_root.specs.declared.root.Delivery.{Delivery}
+use Rattle.resolver_root.specs.declared.root.Outcome.{Outcome}
 use Rattle.std.specs.Prelude.{Result, Ok, Err}
 use Rattle.std.specs.Result.{OnOk, OnErr}
 use Rattle.resolver_demand.specs.Entries.{Numbered, accepted, begun_again, changed_at, completed, completed_from, delivered, ended, fresh as fresh_entry, is_live, numbered, redelivered, response_changed, response_of, with_response, with_state}

@@ -8,9 +8,9 @@ use Rattle.std.specs.BTreeMap.{insert_entry, is_at}
 use Rattle.std.specs.Ordering.{nat_cmp}
 use Rattle.std.specs.Cmp.{IsEquivalence}
 use Rattle.std.proofs.lemmas.Map.Made.{lookup-map_values}
-use Rattle.resolver_base.specs.Names.{Names, same_key}
-use Rattle.resolver_base.specs.Subscribers.{attached_all, without}
-use Rattle.resolver_base.specs.declared.root.Outcome.{Outcome}
+use Rattle.resolver_root.specs.Names.{Names, same_key}
+use Rattle.resolver_root.specs.Subscribers.{attached_all, without}
+use Rattle.resolver_root.specs.declared.root.Outcome.{Outcome}
 use Rattle.resolver_machine.specs.declared.ruling.Ruling.{Ruling}
 use Rattle.resolver_machine.specs.declared.ruling.Ruling.TheVariants.{Serve, Retry, Retire}
 use Rattle.resolver_actor.specs.declared.opaque.actor.Effect.{Effect}

@@ -1,8 +1,8 @@
 -- In each run of the opaque machine that did not fail, the rows have the demand of the run.
 use Rattle.std.proofs.Common.{sym, subst, ℕ, ◌<◌, Bool, length, List, [], ◌∷◌, map, Result, Ok, Err}
 use Rattle.std.specs.Cmp.{IsEquivalence, IsTotalOrder}
-use Rattle.resolver_base.specs.Names.{Names, same_key, same_subscriber}
-use Rattle.resolver_base.specs.Demand.{all_pairs_of, IsSameDemand}
+use Rattle.resolver_root.specs.Names.{Names, same_key, same_subscriber}
+use Rattle.resolver_root.specs.Demand.{all_pairs_of, IsSameDemand}
 use Rattle.resolver_base.specs.declared.base.fault.Fault.{Fault}
 use Rattle.resolver_ingress.specs.declared.ingress.FetchKey.{FetchKey}
 use Rattle.resolver_actor.specs.declared.opaque.actor.Effect.{Effect}

@@ -6,14 +6,14 @@ use Rattle.std.specs.Ordering.{nat_cmp}
 use Rattle.std.specs.BTreeMap.{insert_entry, is_at}
 use Rattle.resolver_base.specs.declared.base.fault.Fault.{Fault}
 use Rattle.resolver_base.specs.declared.base.fault.Fault.TheVariants as faults
-use Rattle.resolver_base.specs.declared.root.Outcome.{Outcome}
+use Rattle.resolver_root.specs.declared.root.Outcome.{Outcome}
 use Rattle.resolver_machine.specs.declared.ruling.Ruling.{Ruling}
 use Rattle.resolver_machine.specs.declared.ruling.Ruling.TheVariants.{Serve, Retry, Retire}
 use Rattle.resolver_machine.specs.Verdicts.{ruling}
 use Rattle.resolver_actor.specs.declared.opaque.actor.Effect.{Effect}
 use Rattle.resolver_actor.specs.declared.opaque.actor.Effect.TheVariants.{Start, Abort, Deliver, Cancel}
-use Rattle.resolver_base.specs.Names.{Names, same_key}
-use Rattle.resolver_base.specs.Subscribers.{attached_all, without}
+use Rattle.resolver_root.specs.Names.{Names, same_key}
+use Rattle.resolver_root.specs.Subscribers.{attached_all, without}
 use Rattle.resolver_machine.specs.Account.{Handed}
 
 -- a response at its consumer, under the number of the delivery in progress. `accepted`: it was judged Complete before

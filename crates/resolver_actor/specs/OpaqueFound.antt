@@ -5,7 +5,7 @@ use Rattle.std.specs.BTreeMap.{is_at}
 use Rattle.std.specs.declared.cmp.Ordering.{Ordering}
 use Rattle.resolver_base.specs.declared.base.fault.Fault.{Fault}
 use Rattle.resolver_base.specs.declared.base.fault.Fault.TheVariants as faults
-use Rattle.resolver_base.specs.declared.root.Delivery.{Delivery}
+use Rattle.resolver_root.specs.declared.root.Delivery.{Delivery}
 use Rattle.resolver_demand.specs.Entries.{Numbered, accepted, redelivered, response_changed}
 use Rattle.resolver_actor.specs.declared.opaque.rows.Stage.{Stage}
 use Rattle.resolver_actor.specs.declared.opaque.actor.Effect.{Effect}

@@ -5,7 +5,7 @@ use Rattle.std.specs.Map.{keys_of, lookup}
 use Rattle.std.specs.BTreeMap.{is_at}
 use Rattle.std.specs.Ordering.{is_eq, nat_cmp}
 use Rattle.std.specs.declared.cmp.Ordering.{Ordering}
-use Rattle.resolver_base.specs.Priorities.{is_of}
+use Rattle.resolver_priorities.specs.Priorities.{is_of}
 use Rattle.resolver_demand.specs.Entries.{Numbered, fresh}
 use Rattle.resolver_actor.specs.declared.opaque.rows.Stage.{Stage}
 use Rattle.resolver_actor.specs.declared.opaque.rows.Stage.TheVariants as stages

@@ -1,7 +1,7 @@
 //! Worked runs of the opaque machine's definition, and laws of all its runs. Each function says one of
 //! them, and does nothing.
 
-ghost use Rattle.resolver_base.specs.Names.{names};
+ghost use Rattle.resolver_root.specs.Names.{names};
 ghost use Rattle.resolver_actor.specs.OpaqueLaws.{DeadVerdictsPass, RunsKeepDemand};
 ghost use Rattle.resolver_actor.specs.OpaqueSteps.{RunsJoin};
 ghost use Rattle.resolver_actor.specs.OpaqueRows.{OpaqueFirstRun, OpaqueWaits, OpaqueRetry, LateSubscriber, DroppedThenFetchedAgain, PrunedThenFetchedAgain, Outcomes, Ends};

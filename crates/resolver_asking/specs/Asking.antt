@@ -5,7 +5,7 @@ use Rattle.resolver_base.specs.declared.base.fault.Fault.{Fault}
 use Rattle.resolver_base.specs.declared.base.fault.Fault.TheVariants.{Exhausted, OutOfMemory}
 use Rattle.resolver_base.specs.declared.base.feedback.Feedback.{Feedback}
 use Rattle.resolver_base.specs.declared.base.feedback.Feedback.TheVariants.{Closed}
-use Rattle.resolver_base.specs.declared.root.Fetch.{Fetch}
+use Rattle.resolver_root.specs.declared.root.Fetch.{Fetch}
 use Rattle.resolver_ingress.specs.Backlog.{Item, Told}
 use Rattle.resolver_mailbox.specs.Shares.{IsAdded, Share, marked}
 

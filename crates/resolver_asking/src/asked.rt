@@ -4,9 +4,8 @@ ghost use Rattle.std.specs.Prelude.{◌≡◌, IfOk, None, Some};
 ghost use Rattle.resolver_asking.specs.Asking.{asked};
 ghost use Rattle.resolver_ingress.specs.Backlog.{Item, item_of};
 
-use resolver_base::base::NonEmptyVec;
-use resolver_base::root::Fetch;
 use resolver_ingress::ingress::FetchKey;
+use resolver_root::{Fetch, NonEmptyVec};
 use std::alloc::{AllocError, Global};
 
 /// What can be asked for: a fetch, by itself or with its targets.

@@ -6,10 +6,10 @@ ghost use Rattle.resolver_asking.specs.Asking.{PutsOne, asked};
 ghost use Rattle.resolver_ingress.specs.Backlog.{Fetches, Retains};
 
 use crate::putting as asking;
-use resolver_base::base::{Faithful, Fault, Feedback, NonEmptyVec, Predicate, PublicKey, Span};
-use resolver_base::root::Fetch;
+use resolver_base::base::{Faithful, Fault, Feedback, PublicKey, Span};
 use resolver_ingress::ingress;
 use resolver_mailbox::mailbox::{Naming, Sender, Share};
+use resolver_root::{Fetch, NonEmptyVec, Predicate};
 use resolver_surface::{Resolver, TargetedResolver};
 use std::alloc::{AllocError, Global};
 use std::hash::Hash;

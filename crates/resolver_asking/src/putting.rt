@@ -5,9 +5,10 @@ ghost use Rattle.resolver_asking.specs.Asking.{PutsOne, is_marked};
 ghost use Rattle.resolver_ingress.specs.Backlog.{Fetches, Item, Retains, item_of};
 
 use crate::asked::Asked;
-use resolver_base::base::{Faithful, Fault, Feedback, Predicate};
+use resolver_base::base::{Faithful, Fault, Feedback};
 use resolver_ingress::ingress::{FetchKey, Message, Metadata};
 use resolver_mailbox::mailbox::{Naming, Sender};
+use resolver_root::Predicate;
 use std::alloc::{AllocError, Global};
 use std::hash::Hash;
 use std::sync::Wait;

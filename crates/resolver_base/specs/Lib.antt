@@ -1,13 +1,4 @@
-pub mod Names
-pub mod Demand
-pub mod Subscribers
 pub mod Faults
-pub mod Mapped
-pub mod Table
-pub mod Outcomes
 pub mod Sending
 pub mod Drawn
-pub mod Priorities
 pub mod Answering
-pub mod Joined
-pub mod Targets

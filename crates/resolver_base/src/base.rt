@@ -1,17 +1,12 @@
-//! Names, refusals, tests of subscribers, lists that are never empty, sets ordered by priority,
-//! numbers that are given once, and what the caller lends to a machine: a way to the peers, and
-//! numbers that are drawn.
+//! Names, refusals, numbers that are given once, and what the caller lends to a machine: a way to
+//! the peers, and numbers that are drawn.
 
 pub mod check;
 pub mod draws;
 pub mod faithful;
 pub mod fault;
 pub mod feedback;
-mod joining;
-pub mod non_empty_vec;
 pub mod numbers;
-pub mod predicate;
-pub mod priority_set;
 pub mod public_key;
 pub mod seeded;
 pub mod sender;
@@ -23,10 +18,7 @@ pub use draws::Draws;
 pub use faithful::Faithful;
 pub use fault::Fault;
 pub use feedback::Feedback;
-pub use non_empty_vec::NonEmptyVec;
 pub use numbers::Numbers;
-pub use predicate::Predicate;
-pub use priority_set::PrioritySet;
 pub use public_key::PublicKey;
 pub use seeded::Seeded;
 pub use sender::Sender;

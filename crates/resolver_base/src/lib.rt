@@ -1,9 +1,7 @@
-//! What every part of the resolver stands on: names of keys and peers, refusals, lists that are
-//! never empty, numbers that are given once (`base`), and what is asked of a resolver and what it
-//! hands out (`root`).
+//! What every part of the resolver stands on: names of keys and peers, refusals, numbers that are
+//! given once, and what the caller lends to a machine.
 //!
-//! `base::Fault` is why a call was refused, and `root::Fetch` is a demand for one key.
+//! `base::Fault` is why a call was refused.
 #![tactic(auto)]
 
 pub mod base;
-pub mod root;

@@ -2,7 +2,7 @@ ghost use Rattle.std.specs.Prelude.{nat_le};
 ghost use Rattle.std.proofs.Common.{rules};
 
 use crate::asserts::{equal, equal_lists, holds};
-use resolver_base::base::{NonEmptyVec, Predicate};
+use resolver_root::{NonEmptyVec, Predicate};
 use std::alloc::Global;
 use std::panic::Expect;
 use std::process::Abort;

@@ -2,7 +2,7 @@ ghost use Rattle.std.specs.Prelude.{◌==◌, ◌%◌};
 ghost use Rattle.std.proofs.Common.{rules};
 
 use crate::asserts::holds;
-use resolver_base::base::Predicate;
+use resolver_root::Predicate;
 
 /// Keeps the even subscribers of every key.
 struct Even;

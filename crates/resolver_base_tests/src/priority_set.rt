@@ -1,6 +1,6 @@
 use crate::asserts::{equal, equal_lists, holds};
-use resolver_base::base::PrioritySet;
-use resolver_base::root::Fetch;
+use resolver_priorities::PrioritySet;
+use resolver_root::Fetch;
 use std::alloc::Global;
 use std::panic::Expect;
 use std::process::Abort;

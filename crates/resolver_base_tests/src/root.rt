@@ -1,6 +1,6 @@
 use crate::asserts::{equal, equal_lists, holds};
-use resolver_base::base::NonEmptyVec;
-use resolver_base::root::{Delivery, Fetch, Outcome, Resolution, laws};
+use resolver_root::root::laws;
+use resolver_root::{Delivery, Fetch, NonEmptyVec, Outcome, Resolution};
 use std::alloc::Global;
 use std::cmp::Ordering;
 use std::panic::Expect;

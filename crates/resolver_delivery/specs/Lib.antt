@@ -1,3 +1,3 @@
-pub use Rattle.resolver_base.specs.Names
+pub use Rattle.resolver_root.specs.Names
 pub use Rattle.resolver_demand.specs.Entries
 pub mod Polled

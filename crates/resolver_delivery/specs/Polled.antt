@@ -4,7 +4,7 @@ use Rattle.std.specs.BTreeMap.{is_at}
 use Rattle.std.specs.Map.{lookup}
 use Rattle.std.specs.Ordering.{nat_cmp}
 use Rattle.std.specs.declared.cmp.Ordering.{Ordering}
-use Rattle.resolver_base.specs.declared.root.Outcome.{Outcome}
+use Rattle.resolver_root.specs.declared.root.Outcome.{Outcome}
 use Rattle.resolver_demand.specs.declared.delivery.completion.Aborted.{Aborted}
 use Rattle.resolver_demand.specs.declared.delivery.completion.Completion.{Completion}
 use Rattle.resolver_demand.specs.Entries.{Numbered, completed}

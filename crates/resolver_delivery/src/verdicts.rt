@@ -12,8 +12,8 @@ use futures::Future;
 use futures::channel::oneshot;
 use futures::task::{Context, Poll};
 use resolver_base::base::Fault;
-use resolver_base::root::Outcome;
 use resolver_demand::delivery::Entries;
+use resolver_root::Outcome;
 use std::alloc::Global;
 use std::collections::BTreeMap;
 

@@ -1,7 +1,6 @@
 use crate::asserts::{equal, holds};
-use resolver_base::base::NonEmptyVec;
-use resolver_base::root::{Delivery, Outcome, Resolution};
 use resolver_demand::delivery::{Aborted, Completion};
+use resolver_root::{Delivery, NonEmptyVec, Outcome, Resolution};
 use std::alloc::Global;
 use std::panic::Expect;
 use std::process::Abort;

@@ -4,9 +4,8 @@
 //! in few places, so that the tests are proved without what they are.
 
 use crate::asserts::{equal, equal_texts};
-use resolver_base::base::NonEmptyVec;
-use resolver_base::root::{Delivery, Outcome, Resolution};
 use resolver_demand::delivery::{Aborted, Completion, Entries};
+use resolver_root::{Delivery, NonEmptyVec, Outcome, Resolution};
 use std::alloc::Global;
 use std::fmt::{Debug, Write};
 use std::panic::Expect;

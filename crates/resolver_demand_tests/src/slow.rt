@@ -8,7 +8,7 @@ use bytes::Bytes;
 use futures::channel::mpsc::SendError;
 use futures::channel::{mpsc, oneshot};
 use resolver_base::base::Fault;
-use resolver_base::root::{Delivery, Outcome};
+use resolver_root::{Delivery, Outcome};
 use resolver_surface::Consumer;
 use std::alloc::Global;
 

@@ -8,9 +8,9 @@ ghost use Rattle.std.proofs.Common.{rules};
 
 use crate::asserts::{equal, equal_texts, holds};
 use crate::counting::{Counting, Tally};
-use resolver_base::base::NonEmptyVec;
 use resolver_demand::subscribers::{Subscribers, Tracker};
 use resolver_ingress::ingress::Predicate;
+use resolver_root::NonEmptyVec;
 use std::alloc::Global;
 use std::cell::Cell;
 use std::fmt::Write;

@@ -7,8 +7,8 @@ ghost use Rattle.std.specs.Prelude.{true};
 ghost use Rattle.std.proofs.Common.{rules};
 
 use crate::asserts::{equal, equal_texts};
-use resolver_base::base::NonEmptyVec;
 use resolver_ingress::ingress::{FetchKey, Message, Metadata, Pending, Predicate};
+use resolver_root::NonEmptyVec;
 use std::alloc::Global;
 use std::fmt::Write;
 use std::panic::Expect;

@@ -3,8 +3,8 @@ use Rattle.std.proofs.Common.{◌≡◌, ℕ, ◌+◌, ◌≤◌, Bool, true, fa
 use Rattle.std.specs.Prelude.{◌&&◌}
 use Rattle.std.proofs.lemmas.List.{append-nil}
 use Rattle.std.proofs.lemmas.Bool.{eqb-true}
-use Rattle.resolver_base.specs.Names.{Names, same_key, same_subscriber}
-use Rattle.resolver_base.specs.Demand.{IsSameDemand, Pair, acts, added_all, mark_of}
+use Rattle.resolver_root.specs.Names.{Names, same_key, same_subscriber}
+use Rattle.resolver_root.specs.Demand.{IsSameDemand, Pair, acts, added_all, mark_of}
 use Rattle.resolver_ingress.specs.Backlog.{Backlog, Fetches, IsRight, Retains, Told, act_of, asked_by, handled, waiting}
 use Rattle.resolver_desk.specs.declared.entry.Entry.{Entry}
 use Rattle.resolver_desk.specs.Book.{Call, Close, IsLegal, Put, Take, all_ok, below, call_of, closes, late, places_of, puts, puts_of, takes}

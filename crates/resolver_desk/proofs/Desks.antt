@@ -2,7 +2,7 @@
 use Rattle.std.proofs.Common.{◌≡◌, ◌≤◌, ◌<◌, ℕ, ◌+◌, Bool, true, false, nat_lt, cond, List, [], ◌∷◌, ◌++◌, Option, None, Some, length, map, take, slice_index_or, subst, refl, sym, ◌∙◌, ap, arith, length-append}
 use Rattle.std.specs.Option.{ForSome, option_map}
 use Rattle.std.proofs.lemmas.List.{length-map}
-use Rattle.resolver_base.specs.Names.{Names, same_key, same_subscriber}
+use Rattle.resolver_root.specs.Names.{Names, same_key, same_subscriber}
 use Rattle.resolver_ingress.specs.declared.ingress.Message.{Message}
 use Rattle.resolver_desk.specs.declared.book.Book.{Book as Raw}
 use Rattle.resolver_ingress.specs.Backlog.{Backlog, IsRight, Item, Told, behind_first, handled, no_backlog, told_of, waiting}

@@ -3,7 +3,7 @@ use Rattle.std.specs.Prelude.{◌≡◌, ◌≤◌, ◌<◌, ℕ, ◌+◌, Bool,
 use Rattle.std.specs.Option.{ForSome, option_map, option_map_or}
 use Rattle.resolver_base.specs.declared.base.feedback.Feedback.{Feedback}
 use Rattle.resolver_base.specs.declared.base.feedback.Feedback.TheVariants as feedbacks
-use Rattle.resolver_base.specs.Names.{Names}
+use Rattle.resolver_root.specs.Names.{Names}
 use Rattle.resolver_ingress.specs.declared.ingress.Message.{Message}
 use Rattle.resolver_desk.specs.declared.book.Book.{Book as Kept}
 use Rattle.resolver_ingress.specs.Backlog.{Backlog, Told, behind_first, handled, no_backlog, told_of, waiting}

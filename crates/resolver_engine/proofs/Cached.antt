@@ -6,7 +6,7 @@ use Rattle.std.specs.Map.{lookup, set_value}
 use Rattle.std.specs.BTreeMap.{insert_entry, is_at}
 use Rattle.std.specs.Ordering.{nat_cmp}
 use Rattle.std.specs.declared.cmp.Ordering.{Ordering}
-use Rattle.resolver_base.specs.declared.root.Delivery.{Delivery}
+use Rattle.resolver_root.specs.declared.root.Delivery.{Delivery}
 use Rattle.resolver_demand.specs.declared.delivery.entry.Entry.{Entry}
 use Rattle.resolver_demand.specs.declared.delivery.entry.Response.{Response}
 use Rattle.resolver_demand.specs.Entries.{Numbered, accepted, begun_again, changed_at, entry_of, number_of, numbered, redelivered, response_changed, response_of, with_response}

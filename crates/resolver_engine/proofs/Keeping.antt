@@ -7,7 +7,7 @@ use Rattle.std.specs.BTreeSet.{insert_key}
 use Rattle.std.specs.Ordering.{is_eq, match_ordering, ordering_reverse}
 use Rattle.std.specs.declared.cmp.Ordering.{Ordering}
 use Rattle.std.specs.declared.cmp.Ordering.TheVariants.{Less, Equal, Greater}
-use Rattle.resolver_base.proofs.Ordered.{above-less, insert_key-front}
+use Rattle.resolver_priorities.proofs.Ordered.{above-less, insert_key-front}
 
 module _ {X : Type 0} where
   -- what holds of every item holds of those of a list

@@ -4,9 +4,9 @@ use Rattle.std.specs.Option.{option_and_then, option_map}
 use Rattle.std.specs.Prelude.{nat_lt, ◌==◌, ⊤}
 use Rattle.std.specs.Map.{lookup}
 use Rattle.resolver_base.specs.declared.base.fault.Fault.{Fault}
-use Rattle.resolver_base.specs.declared.root.Outcome.{Outcome}
-use Rattle.resolver_base.specs.declared.root.Outcome.TheVariants.{Invalid, Resolved, Unresolved, Ignored}
-use Rattle.resolver_base.specs.Subscribers.{without}
+use Rattle.resolver_root.specs.declared.root.Outcome.{Outcome}
+use Rattle.resolver_root.specs.declared.root.Outcome.TheVariants.{Invalid, Resolved, Unresolved, Ignored}
+use Rattle.resolver_root.specs.Subscribers.{without}
 use Rattle.resolver_request.specs.declared.requests.request.Request.{Request}
 use Rattle.resolver_request.specs.declared.wire.Payload.{Payload}
 use Rattle.resolver_request.specs.declared.wire.Payload.TheVariants as payloads

@@ -9,7 +9,7 @@ use Rattle.std.specs.BTreeMap.{is_at}
 use Rattle.std.specs.Ordering.{is_eq}
 use Rattle.std.specs.declared.cmp.Ordering.{Ordering}
 use Rattle.std.specs.declared.cmp.Ordering.TheVariants.{Less, Greater}
-use Rattle.resolver_base.specs.Priorities.{has_item}
+use Rattle.resolver_priorities.specs.Priorities.{has_item}
 use Rattle.resolver_request.specs.declared.requests.request.Request.{Request}
 use Rattle.resolver_request.specs.Requests.{by_id, is_asked, is_for}
 use Rattle.resolver_fetch.specs.declared.fetcher.place.Place.{Place}

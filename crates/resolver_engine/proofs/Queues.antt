@@ -11,8 +11,8 @@ use Rattle.std.specs.BTreeSet.{insert_key}
 use Rattle.std.specs.Ordering.{is_eq, match_ordering, nat_cmp}
 use Rattle.std.specs.declared.cmp.Ordering.{Ordering}
 use Rattle.std.specs.declared.cmp.Ordering.TheVariants.{Less, Equal, Greater}
-use Rattle.resolver_base.specs.Priorities.{has_item, pair_order, priorities_of, put, without}
-use Rattle.resolver_base.proofs.Priorities.{first_of-none, pair_order-total, then-equal, without-none}
+use Rattle.resolver_priorities.specs.Priorities.{has_item, pair_order, priorities_of, put, without}
+use Rattle.resolver_priorities.proofs.Priorities.{first_of-none, pair_order-total, then-equal, without-none}
 use Rattle.resolver_request.specs.declared.requests.request.Request.{Request}
 use Rattle.resolver_request.specs.Requests.{by_id, is_asked, is_for, without_request}
 use Rattle.resolver_fetch.specs.declared.fetcher.place.Place.{Place}

@@ -14,11 +14,11 @@ use Rattle.std.specs.Option.{option_and_then, option_map}
 use Rattle.std.specs.Ordering.{is_eq, match_ordering, nat_cmp, ordering_then}
 use Rattle.std.specs.declared.cmp.Ordering.{Ordering}
 use Rattle.std.specs.declared.cmp.Ordering.TheVariants.{Less, Equal, Greater}
-use Rattle.resolver_base.specs.Names.{same_key}
-use Rattle.resolver_base.specs.Priorities.{pair_order, retained}
-use Rattle.resolver_base.specs.Table as tables
-use Rattle.resolver_base.specs.Table.{emptied, is_asked, kept}
-use Rattle.resolver_base.proofs.Priorities.{pair_order-total}
+use Rattle.resolver_root.specs.Names.{same_key}
+use Rattle.resolver_priorities.specs.Priorities.{pair_order, retained}
+use Rattle.resolver_root.specs.Table as tables
+use Rattle.resolver_root.specs.Table.{emptied, is_asked, kept}
+use Rattle.resolver_priorities.proofs.Priorities.{pair_order-total}
 use Rattle.resolver_demand.specs.declared.delivery.entry.Entry.{Entry}
 use Rattle.resolver_demand.specs.Entries.{Numbered, number_of}
 use Rattle.resolver_demand.specs.Entries.{retained as keeping}

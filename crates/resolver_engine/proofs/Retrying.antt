@@ -7,7 +7,7 @@ use Rattle.std.specs.List.{IsDistinct, cons_option, filter_map}
 use Rattle.std.specs.List.Sorted.{IsStrictlySortedBy}
 use Rattle.std.specs.Map.{keys_of, lookup}
 use Rattle.std.specs.BTreeMap.{insert_entry, is_at}
-use Rattle.resolver_base.specs.Priorities.{put}
+use Rattle.resolver_priorities.specs.Priorities.{put}
 use Rattle.resolver_request.specs.declared.requests.request.Request.{Request}
 use Rattle.resolver_request.specs.Requests.{by_id, without_request}
 use Rattle.resolver_fetch.specs.declared.fetcher.place.Place.{Place}

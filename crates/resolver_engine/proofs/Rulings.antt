@@ -12,14 +12,14 @@ use Rattle.std.specs.BTreeMap.{insert_entry, is_at}
 use Rattle.std.specs.Ordering.{nat_cmp}
 use Rattle.resolver_base.specs.declared.base.fault.Fault.{Fault}
 use Rattle.resolver_base.specs.declared.base.fault.Fault.TheVariants.{OutOfMemory}
-use Rattle.resolver_base.specs.declared.root.Delivery.{Delivery}
-use Rattle.resolver_base.specs.declared.root.Outcome.{Outcome}
-use Rattle.resolver_base.specs.declared.root.Outcome.TheVariants.{Invalid, Resolved, Unresolved, Ignored}
-use Rattle.resolver_base.specs.declared.root.Resolution.TheVariants.{Complete, Partial}
-use Rattle.resolver_base.specs.Priorities.{has_item}
-use Rattle.resolver_base.specs.Subscribers.{without}
-use Rattle.resolver_base.specs.Table.{rest_of, some_of, subscribers_of, without_key, without_named}
-use Rattle.resolver_base.specs.Table as tables
+use Rattle.resolver_root.specs.declared.root.Delivery.{Delivery}
+use Rattle.resolver_root.specs.declared.root.Outcome.{Outcome}
+use Rattle.resolver_root.specs.declared.root.Outcome.TheVariants.{Invalid, Resolved, Unresolved, Ignored}
+use Rattle.resolver_root.specs.declared.root.Resolution.TheVariants.{Complete, Partial}
+use Rattle.resolver_priorities.specs.Priorities.{has_item}
+use Rattle.resolver_root.specs.Subscribers.{without}
+use Rattle.resolver_root.specs.Table.{rest_of, some_of, subscribers_of, without_key, without_named}
+use Rattle.resolver_root.specs.Table as tables
 use Rattle.resolver_demand.specs.declared.delivery.entry.Entry.{Entry}
 use Rattle.resolver_demand.specs.declared.delivery.entry.Response.{Response}
 use Rattle.resolver_demand.specs.Entries.{Numbered, accepted, begun_again, changed, changed_at, entry_of, number_of, numbered, redelivered, removed, response_of, with_response}

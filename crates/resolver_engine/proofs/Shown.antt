@@ -13,9 +13,9 @@ use Rattle.std.specs.Option.{option_and_then, option_map}
 use Rattle.std.specs.Ordering.{is_eq}
 use Rattle.std.specs.declared.cmp.Ordering.{Ordering}
 use Rattle.std.specs.declared.cmp.Ordering.TheVariants.{Less, Equal, Greater}
-use Rattle.resolver_base.specs.Names.{same_key}
-use Rattle.resolver_base.specs.Priorities.{is_of}
-use Rattle.resolver_base.specs.Table.{is_asked}
+use Rattle.resolver_root.specs.Names.{same_key}
+use Rattle.resolver_priorities.specs.Priorities.{is_of}
+use Rattle.resolver_root.specs.Table.{is_asked}
 use Rattle.resolver_demand.specs.Entries.{Numbered, number_of}
 use Rattle.resolver_request.specs.declared.requests.request.Request.{Request}
 use Rattle.resolver_request.specs.Requests.{is_for, request_for}

@@ -13,7 +13,7 @@ use Rattle.std.specs.BTreeMap.{insert_entry, is_at}
 use Rattle.std.specs.Ordering.{is_eq, ordering_reverse}
 use Rattle.std.specs.declared.cmp.Ordering.{Ordering}
 use Rattle.std.specs.declared.cmp.Ordering.TheVariants.{Less, Equal, Greater}
-use Rattle.resolver_base.proofs.Ordered.{above-less}
+use Rattle.resolver_priorities.proofs.Ordered.{above-less}
 use Rattle.resolver_peer.specs.PeerRows.{change_entry}
 
 -- what stands under a key, between the entries before and after it

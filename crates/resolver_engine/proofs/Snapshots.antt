@@ -12,7 +12,7 @@ use Rattle.std.specs.BTreeSet.{insert_key}
 use Rattle.std.specs.Ordering.{match_ordering}
 use Rattle.std.specs.declared.cmp.Ordering.{Ordering}
 use Rattle.std.specs.declared.cmp.Ordering.TheVariants.{Less, Equal, Greater}
-use Rattle.resolver_base.specs.Priorities.{pair_order}
+use Rattle.resolver_priorities.specs.Priorities.{pair_order}
 use Rattle.resolver_fetch.specs.declared.fetcher.place.Place.{Place}
 use Rattle.resolver_fetch.specs.Fetcher as fetchers
 use Rattle.resolver_fetch.specs.Fetcher.{Fetcher}

@@ -15,8 +15,8 @@ use Rattle.std.specs.Ordering.{is_eq, nat_cmp}
 use Rattle.std.specs.declared.cmp.Ordering.TheVariants.{Equal}
 use Rattle.resolver_base.specs.declared.base.fault.Fault.{Fault}
 use Rattle.resolver_base.specs.declared.base.fault.Fault.TheVariants as faults
-use Rattle.resolver_base.specs.declared.root.Outcome.{Outcome}
-use Rattle.resolver_base.specs.declared.root.Outcome.TheVariants.{Invalid, Resolved, Unresolved, Ignored}
+use Rattle.resolver_root.specs.declared.root.Outcome.{Outcome}
+use Rattle.resolver_root.specs.declared.root.Outcome.TheVariants.{Invalid, Resolved, Unresolved, Ignored}
 use Rattle.resolver_demand.specs.declared.delivery.completion.Aborted.{Aborted}
 use Rattle.resolver_demand.specs.declared.delivery.completion.Completion.{Completion}
 use Rattle.resolver_demand.specs.declared.delivery.entry.Entry.{Entry}

@@ -9,10 +9,10 @@ use Rattle.std.specs.List.Sorted.{IsStrictlySortedBy}
 use Rattle.std.specs.Map.{keys_of, lookup, remove_entry, set_value}
 use Rattle.std.specs.BTreeMap.{insert_entry, is_at}
 use Rattle.std.specs.declared.cmp.Ordering.TheVariants.{Equal}
-use Rattle.resolver_base.specs.Subscribers.{attached_all}
-use Rattle.resolver_base.specs.Priorities.{has_item, put}
-use Rattle.resolver_base.specs.Table.{asked_one}
-use Rattle.resolver_base.specs.Table as tables
+use Rattle.resolver_root.specs.Subscribers.{attached_all}
+use Rattle.resolver_priorities.specs.Priorities.{has_item, put}
+use Rattle.resolver_root.specs.Table.{asked_one}
+use Rattle.resolver_root.specs.Table as tables
 use Rattle.resolver_demand.specs.Entries.{fresh, inserted}
 use Rattle.resolver_request.specs.Requests.{by_id, is_asked}
 use Rattle.resolver_fetch.specs.Fetcher as fetchers

@@ -1,7 +1,7 @@
 -- Counters, each of which stops at the last number of its type.
 use Rattle.std.specs.Prelude.{ℕ, ◌+◌, ◌-◌, ◌^◌, Bool, true, false, not, Option, None, Some, min, if◌then◌else◌, ◌==◌}
-use Rattle.resolver_base.specs.declared.root.Outcome.{Outcome}
-use Rattle.resolver_base.specs.declared.root.Outcome.TheVariants.{Invalid, Resolved, Unresolved, Ignored}
+use Rattle.resolver_root.specs.declared.root.Outcome.{Outcome}
+use Rattle.resolver_root.specs.declared.root.Outcome.TheVariants.{Invalid, Resolved, Unresolved, Ignored}
 use Rattle.resolver_engine.specs.declared.metrics.Durations.{Durations}
 use Rattle.resolver_engine.specs.declared.metrics.Metrics.{Metrics}
 use Rattle.resolver_engine.specs.declared.metrics.Tally.{Tally}

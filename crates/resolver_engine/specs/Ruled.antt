@@ -4,9 +4,9 @@ use Rattle.std.specs.List.{AllByRecursion, IsDistinct, filter_map}
 use Rattle.std.specs.List.Sorted.{IsStrictlySortedBy}
 use Rattle.std.specs.Map.{keys_of}
 use Rattle.std.specs.declared.cmp.Ordering.{Ordering}
-use Rattle.resolver_base.specs.declared.root.Delivery.{Delivery}
-use Rattle.resolver_base.specs.declared.root.Outcome.{Outcome}
-use Rattle.resolver_base.specs.declared.root.Outcome.TheVariants.{Invalid, Resolved}
+use Rattle.resolver_root.specs.declared.root.Delivery.{Delivery}
+use Rattle.resolver_root.specs.declared.root.Outcome.{Outcome}
+use Rattle.resolver_root.specs.declared.root.Outcome.TheVariants.{Invalid, Resolved}
 use Rattle.resolver_demand.specs.Entries.{Numbered, accepted, redelivered, response_changed}
 use Rattle.resolver_fetch.specs.Fetcher.{Fetcher, record_response}
 use Rattle.resolver_fetch.specs.Orders.{Orders}

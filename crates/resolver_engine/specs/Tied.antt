@@ -6,7 +6,7 @@ use Rattle.std.specs.Map.{keys_of, lookup}
 use Rattle.std.specs.BTreeMap.{is_at}
 use Rattle.std.specs.BTreeSet.{insert_key}
 use Rattle.std.specs.Ordering.{is_eq, nat_cmp}
-use Rattle.resolver_base.specs.Priorities.{pair_order}
+use Rattle.resolver_priorities.specs.Priorities.{pair_order}
 use Rattle.resolver_demand.specs.declared.delivery.entry.Entry.{Entry}
 use Rattle.resolver_demand.specs.declared.delivery.entry.Open.{Open as Begun}
 use Rattle.resolver_demand.specs.declared.delivery.entry.Response.{Response}

@@ -13,7 +13,8 @@ ghost use Rattle.resolver_engine.specs.Tied.{Agrees};
 use crate::effects::Effect;
 use crate::inputs::{Event, Input};
 use crate::parts::Parts;
-use resolver_base::base::{Fault, Predicate, Span};
+use resolver_base::base::{Fault, Span};
+use resolver_root::Predicate;
 
 impl<K: Span + Drop, P: Ord + Clone + Drop, S: Ord + Clone + Drop> Parts<K, P, S> {
     /// Takes an input, unless it is refused. Where an event is over, a scan begins if the wake-up

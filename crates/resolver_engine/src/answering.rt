@@ -16,9 +16,9 @@ use crate::inflight::Inflight;
 use crate::parts::Parts;
 use bytes::Bytes;
 use resolver_base::base::Fault;
-use resolver_base::root::Delivery;
 use resolver_fetch::fetcher::{Request, elapsed_since};
 use resolver_peer::named::Source;
+use resolver_root::Delivery;
 
 impl<K: Ord + Clone + Drop, P: Ord + Clone + Drop, S: Ord + Clone + Drop> Parts<K, P, S> {
     /// A peer's response: where it answers a request, its value is handed out.

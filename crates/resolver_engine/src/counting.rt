@@ -17,9 +17,9 @@ use crate::inputs::{Event, Input};
 use crate::metrics::{Metrics, Tally, raise};
 use crate::parts::Parts;
 use bytes::Bytes;
-use resolver_base::base::{Fault, Predicate, Span};
-use resolver_base::root::{Outcome, Resolution};
+use resolver_base::base::{Fault, Span};
 use resolver_fetch::fetcher::Answer;
+use resolver_root::{Outcome, Predicate, Resolution};
 
 /// A verdict on an open delivery, as it is before the verdict.
 #[derive(Clone, Copy)]

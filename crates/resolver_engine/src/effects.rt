@@ -1,9 +1,9 @@
 //! What the engine wants done.
 
 use bytes::Bytes;
-use resolver_base::root::Delivery;
 use resolver_fetch::fetcher::Ask;
 use resolver_peer::named::Source;
+use resolver_root::Delivery;
 
 /// What the engine wants done. A response goes by the number of the first delivery that carried it.
 #[derive(Debug, Drop)]

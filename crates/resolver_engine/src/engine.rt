@@ -23,8 +23,9 @@ use crate::inputs::{Event, Input};
 use crate::metrics::Metrics;
 use crate::parts::Parts;
 use crate::rows::Row;
-use resolver_base::base::{Fault, Predicate, Span};
+use resolver_base::base::{Fault, Span};
 use resolver_fetch::fetcher::Config;
+use resolver_root::Predicate;
 use std::alloc::Global;
 use std::marker::{Model, PhantomData};
 

@@ -1,7 +1,7 @@
 //! What a fetch does to the parts.
 
 ghost use Rattle.std.specs.Prelude.{◌≡◌, ◌<◌, ◌^◌, false, is_some, map, IfErr, OnOk};
-ghost use Rattle.resolver_base.specs.Priorities.{has_item};
+ghost use Rattle.resolver_priorities.specs.Priorities.{has_item};
 ghost use Rattle.resolver_base.specs.declared.base.fault.Fault.TheVariants.{OutOfMemory};
 ghost use Rattle.resolver_request.specs.Requests.{is_asked};
 ghost use Rattle.resolver_fetch.specs.Orders.{orders};
@@ -14,9 +14,10 @@ ghost use Rattle.resolver_engine.specs.Tied.{Agrees};
 
 use crate::inflight::Start;
 use crate::parts::Parts;
-use resolver_base::base::{Fault, NonEmptyVec};
+use resolver_base::base::Fault;
 use resolver_fetch::fetcher::Fetcher;
 use resolver_ingress::ingress::FetchKey;
+use resolver_root::NonEmptyVec;
 
 /// A key to fetch, who wants it, and the peers that may be asked, if not any.
 pub(crate) type Item<K, P, S> = FetchKey<K, S, Option<NonEmptyVec<P>>>;

@@ -3,10 +3,9 @@
 ghost use Rattle.std.specs.Prelude.{◌<◌, ◌^◌};
 
 use bytes::Bytes;
-use resolver_base::base::NonEmptyVec;
-use resolver_base::root::Outcome;
 use resolver_fetch::fetcher::Answer;
 use resolver_ingress::ingress::FetchKey;
+use resolver_root::{NonEmptyVec, Outcome};
 
 /// What happens around the engine.
 #[derive(Debug, Drop)]

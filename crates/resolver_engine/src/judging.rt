@@ -2,7 +2,7 @@
 
 ghost use Rattle.std.specs.Prelude.{◌≡◌, ◌<◌, ◌^◌, ◌++◌, ◌∷◌, ◌==◌, [], Err, None, false, is_none, is_some, IfErr, IfSome, IsSome, OnOk};
 ghost use Rattle.std.specs.Map.{lookup};
-ghost use Rattle.resolver_base.specs.Priorities.{has_item};
+ghost use Rattle.resolver_priorities.specs.Priorities.{has_item};
 ghost use Rattle.resolver_base.specs.declared.base.fault.Fault.TheVariants.{OutOfMemory};
 ghost use Rattle.resolver_request.specs.Requests.{is_asked};
 ghost use Rattle.resolver_demand.specs.Entries.{number_of, removed, response_of};
@@ -23,11 +23,11 @@ use crate::effects::Effect;
 use crate::inflight::Inflight;
 use crate::parts::Parts;
 use resolver_base::base::Fault;
-use resolver_base::root::{Delivery, Outcome};
 use resolver_demand::delivery::Completion;
 use resolver_fetch::fetcher::Fetcher;
 use resolver_machine::ruling::{Ruling, rule_on};
 use resolver_peer::named::Source;
+use resolver_root::{Delivery, Outcome};
 
 impl<K: Ord + Clone + Drop, P: Ord + Clone + Drop, S: Ord + Clone + Drop> Parts<K, P, S> {
     /// Takes the consumer's outcome for a delivery, or none where it dropped the delivery.

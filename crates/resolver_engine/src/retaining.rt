@@ -1,8 +1,8 @@
 //! What is no longer wanted: subscribers that a predicate doesn't keep, or all of them.
 
 ghost use Rattle.std.specs.Prelude.{◌≡◌, ◌++◌, Some, false, is_some, IfErr, OnOk};
-ghost use Rattle.resolver_base.specs.Names.{names};
-ghost use Rattle.resolver_base.specs.Table.{is_asked};
+ghost use Rattle.resolver_root.specs.Names.{names};
+ghost use Rattle.resolver_root.specs.Table.{is_asked};
 ghost use Rattle.resolver_base.specs.declared.base.fault.Fault.TheVariants.{OutOfMemory};
 ghost use Rattle.resolver_demand.specs.Entries.{retained};
 ghost use Rattle.resolver_fetch.specs.Fetcher as calls;
@@ -17,9 +17,10 @@ ghost use Rattle.resolver_engine.specs.Tied.{Agrees};
 use crate::effects::Effect;
 use crate::inflight::Inflight;
 use crate::parts::Parts;
-use resolver_base::base::{Fault, Predicate, Span};
+use resolver_base::base::{Fault, Span};
 use resolver_demand::subscribers::Tracker;
 use resolver_fetch::fetcher::Fetcher;
+use resolver_root::Predicate;
 
 impl<K: Span + Drop, P: Ord + Drop, S: Ord + Drop> Parts<K, P, S> {
     /// Removes the subscribers that aren't kept, and calls off what is done for the keys that have

@@ -4,8 +4,8 @@ ghost use Rattle.std.specs.Prelude.{◌≡◌, ◌<◌, true, length, map, IfErr
 ghost use Rattle.std.specs.List.{IsDistinct};
 ghost use Rattle.std.specs.List.Sorted.{IsStrictlySortedBy};
 ghost use Rattle.std.specs.Ordering.{is_eq};
-ghost use Rattle.resolver_base.specs.Names.{names};
-ghost use Rattle.resolver_base.specs.Table.{is_asked};
+ghost use Rattle.resolver_root.specs.Names.{names};
+ghost use Rattle.resolver_root.specs.Table.{is_asked};
 ghost use Rattle.resolver_base.specs.declared.base.fault.Fault.TheVariants.{OutOfMemory};
 ghost use Rattle.resolver_peer.specs.Parties.{parties};
 ghost use Rattle.resolver_peer.specs.Peer.{Machine, row_of};
@@ -14,8 +14,9 @@ ghost use Rattle.resolver_engine.specs.Listed.{listed, listed_phase};
 ghost use Rattle.resolver_engine.specs.Tied.{Agrees};
 
 use crate::parts::Parts;
-use resolver_base::base::{Fault, NonEmptyVec};
+use resolver_base::base::Fault;
 use resolver_demand::subscribers::Subscribers;
+use resolver_root::NonEmptyVec;
 use std::marker::Model;
 
 /// What is being done for a demanded key.

@@ -13,7 +13,7 @@ use Rattle.std.specs.Ordering.{is_gt, is_lt, nat_cmp, ordering_reverse, ordering
 use Rattle.std.specs.Prelude.{nat_le}
 use Rattle.std.specs.declared.cmp.Ordering.{Ordering}
 use Rattle.std.specs.declared.cmp.Ordering.TheVariants.{Less, Equal, Greater}
-use Rattle.resolver_base.specs.Priorities.{first_of, pair_order, put, without}
+use Rattle.resolver_priorities.specs.Priorities.{first_of, pair_order, put, without}
 use Rattle.resolver_fetch.specs.declared.fetcher.place.Place.{Place}
 use Rattle.resolver_fetch.specs.Pending.{IsBound, due_behind, later_due, raised}
 use Rattle.resolver_fetch.specs.Queues.{IsQueued, fresh_queue, placed, retry_queue}

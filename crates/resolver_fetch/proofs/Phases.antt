@@ -8,8 +8,8 @@ use Rattle.std.specs.BTreeMap.{insert_entry}
 use Rattle.std.specs.Ordering.{is_eq, nat_cmp}
 use Rattle.std.specs.declared.cmp.Ordering.{Ordering}
 use Rattle.std.specs.declared.cmp.Ordering.TheVariants.{Equal}
-use Rattle.resolver_base.specs.Priorities.{has_item, is_of, listed, priorities_of, put, retained, without}
-use Rattle.resolver_base.proofs.Priorities.{priorities-put, priorities-without}
+use Rattle.resolver_priorities.specs.Priorities.{has_item, is_of, listed, priorities_of, put, retained, without}
+use Rattle.resolver_priorities.proofs.Priorities.{priorities-put, priorities-without}
 use Rattle.resolver_request.specs.declared.requests.request.Request.{Request}
 use Rattle.resolver_request.specs.Ids.{is_held}
 use Rattle.resolver_request.specs.Requests.{ids_of, is_asked, is_for, request_of, without_request}

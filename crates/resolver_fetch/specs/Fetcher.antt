@@ -6,7 +6,7 @@ use Rattle.std.specs.Ordering.{nat_cmp}
 use Rattle.std.specs.declared.cmp.Ordering.{Ordering}
 use Rattle.resolver_base.specs.declared.base.fault.Fault.{Fault}
 use Rattle.resolver_base.specs.declared.base.fault.Fault.TheVariants.{Unasked}
-use Rattle.resolver_base.specs.Priorities.{has_item, is_of, priorities_of, put, retained, without}
+use Rattle.resolver_priorities.specs.Priorities.{has_item, is_of, priorities_of, put, retained, without}
 use Rattle.resolver_request.specs.declared.score.Averages.{Averages}
 use Rattle.resolver_fetch.specs.declared.fetcher.config.Config.{Config}
 use Rattle.resolver_fetch.specs.declared.fetcher.place.Place.{Place}

@@ -5,7 +5,7 @@ use Rattle.std.specs.BTreeMap.{insert_entry, is_at}
 use Rattle.std.specs.BTreeSet.{insert_key}
 use Rattle.std.specs.Ordering.{is_eq}
 use Rattle.std.specs.declared.cmp.Ordering.{Ordering}
-use Rattle.resolver_base.specs.Joined.{joined}
+use Rattle.resolver_root.specs.Joined.{joined}
 use Rattle.resolver_request.specs.declared.score.Averages.{Averages}
 use Rattle.resolver_request.specs.declared.score.Averages.TheVariants.{Unobserved}
 use Rattle.resolver_request.specs.Scores.{Observation, averaged}

@@ -3,7 +3,7 @@ use Rattle.std.specs.Prelude.{◌≡◌, ℕ, Bool, false, nat_le, min, List, []
 use Rattle.std.specs.List.{All, slice_get}
 use Rattle.std.specs.Ordering.{is_gt, nat_cmp}
 use Rattle.std.specs.declared.cmp.Ordering.{Ordering}
-use Rattle.resolver_base.specs.Priorities.{after, put, retained, without}
+use Rattle.resolver_priorities.specs.Priorities.{after, put, retained, without}
 use Rattle.resolver_fetch.specs.declared.fetcher.pending.Waiter.{Waiter}
 use Rattle.resolver_fetch.specs.declared.fetcher.pending.Waiter.TheVariants.{Clear, Later}
 use Rattle.resolver_fetch.specs.declared.fetcher.place.Place.{Place}

@@ -1,7 +1,7 @@
 -- The keys that wait, in two queues: the fresh ones, and those that are tried again.
 use Rattle.std.specs.Prelude.{◌≡◌, ℕ, ◌+◌, ◌≤◌, Bool, true, false, not, List, [], ◌∷◌, ◌++◌, Option, None, Some, filter, length, map}
 use Rattle.std.specs.declared.cmp.Ordering.{Ordering}
-use Rattle.resolver_base.specs.Priorities.{priorities_of}
+use Rattle.resolver_priorities.specs.Priorities.{priorities_of}
 use Rattle.resolver_fetch.specs.declared.fetcher.place.Place.{Place}
 
 module _ {K : Type 0} where

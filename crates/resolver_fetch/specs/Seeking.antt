@@ -1,6 +1,6 @@
 -- How a fetcher finds what a scan tries next, and when a scan in vain may be begun again.
 use Rattle.std.specs.Prelude.{ℕ, false, not, nat_le, nat_lt, List, length, map, Option, None, Some, option_map, filter, find}
-use Rattle.resolver_base.specs.Priorities.{after}
+use Rattle.resolver_priorities.specs.Priorities.{after}
 use Rattle.resolver_fetch.specs.declared.fetcher.place.Place.{Place}
 use Rattle.resolver_fetch.specs.declared.fetcher.trail.Try.{Try}
 use Rattle.resolver_fetch.specs.declared.fetcher.trying.Next.{Next}

@@ -6,9 +6,11 @@
 ghost use Rattle.std.specs.Prelude.{◌<◌, ◌^◌};
 ghost use Rattle.resolver_fetch.specs.Fetcher.{IsTimely};
 
-use resolver_base::base::{Check, Fault, NonEmptyVec, PrioritySet};
+use resolver_base::base::{Check, Fault};
 use resolver_fetch::fetcher::Answer::{self, Checked, Drawn, Sent};
 use resolver_fetch::fetcher::{Ask, Config, Fetcher, ID};
+use resolver_priorities::PrioritySet;
+use resolver_root::NonEmptyVec;
 use std::alloc::Global;
 use std::panic::Expect;
 use std::process::Abort;

@@ -8,8 +8,9 @@ ghost use Rattle.resolver_fetch.specs.Fetcher.{IsTimely};
 
 use crate::keys::Key;
 use bytes::Bytes;
-use resolver_base::base::{Check, Draws, Feedback, NonEmptyVec, PublicKey, Sender, Unreliable};
+use resolver_base::base::{Check, Draws, Feedback, PublicKey, Sender, Unreliable};
 use resolver_fetch::fetcher::{Config, Fetcher, ID};
+use resolver_root::NonEmptyVec;
 use std::alloc::Global;
 use std::panic::Expect;
 use std::process::Abort;

@@ -2,7 +2,7 @@
 use Rattle.std.proofs.Common.{◌≡◌, ◌∙◌, sym, ap, refl, ℕ, List, [], ◌∷◌, ◌++◌, Option, None, Some, map, append_assoc, length, ◌<◌, arith, subst}
 use Rattle.std.specs.List.{FoldsTo}
 use Rattle.resolver_ingress.specs.declared.ingress.Message.{Message}
-use Rattle.resolver_base.specs.Names.{Names}
+use Rattle.resolver_root.specs.Names.{Names}
 use Rattle.resolver_ingress.specs.declared.ingress.FetchKey.{FetchKey}
 use Rattle.resolver_ingress.proofs.Places.{placed-none}
 use Rattle.resolver_ingress.specs.Backlog.{Backlog, Drains, Fetches, IsFiled, Item, Retains, Takes, Told, batch_told, item_of, keys_of_items, told_of, waiting}

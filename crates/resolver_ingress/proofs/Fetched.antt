@@ -2,9 +2,9 @@
 use Rattle.std.proofs.Common.{◌≡◌, ◌∙◌, sym, ap, refl, Bool, true, false, cond, List, [], ◌∷◌, ◌++◌, Option, None, Some}
 use Rattle.std.specs.Prelude.{◌||◌}
 use Rattle.std.specs.List.{list_any}
-use Rattle.resolver_base.specs.Joined.{joined, joined_one}
-use Rattle.resolver_base.specs.Names.{Names, same_key, same_subscriber}
-use Rattle.resolver_base.specs.Targets.{merged_targets, targets_after}
+use Rattle.resolver_root.specs.Joined.{joined, joined_one}
+use Rattle.resolver_root.specs.Names.{Names, same_key, same_subscriber}
+use Rattle.resolver_root.specs.Targets.{merged_targets, targets_after}
 use Rattle.resolver_ingress.specs.Backlog.{IsApart, Item, merged_item, queued, queued_all}
 use Rattle.resolver_ingress.specs.Fetched.{fetched_targets}
 use Rattle.resolver_ingress.proofs.Right.{apart-queued}

@@ -2,10 +2,10 @@
 use Rattle.std.proofs.Common.{◌≡◌, ◌∙◌, sym, ap, refl, Bool, true, false, ℕ, List, [], ◌∷◌, ◌++◌, Option, None, Some, cond}
 use Rattle.std.specs.Prelude.{is_some, ◌&&◌, ◌||◌}
 use Rattle.std.specs.List.{list_any}
-use Rattle.resolver_base.specs.Names.{Names, same_key, same_subscriber}
-use Rattle.resolver_base.specs.Joined.{joined_one}
-use Rattle.resolver_base.specs.Subscribers.{joined_subscribers}
-use Rattle.resolver_base.specs.Demand.{Pair, added, added_all, mark_of, is_pair, pairs_of}
+use Rattle.resolver_root.specs.Names.{Names, same_key, same_subscriber}
+use Rattle.resolver_root.specs.Joined.{joined_one}
+use Rattle.resolver_root.specs.Subscribers.{joined_subscribers}
+use Rattle.resolver_root.specs.Demand.{Pair, added, added_all, mark_of, is_pair, pairs_of}
 
 -- the first, or else the second
 abbrev pub or_else : Option ℕ → Option ℕ → Option ℕ

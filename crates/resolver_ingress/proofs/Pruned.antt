@@ -5,7 +5,7 @@ use Rattle.std.specs.List.{list_any}
 use Rattle.std.specs.BTreeMap.{is_at}
 use Rattle.std.specs.Ordering.{is_eq}
 use Rattle.std.specs.declared.cmp.Ordering.{Ordering}
-use Rattle.resolver_base.specs.Names.{Names, same_key}
+use Rattle.resolver_root.specs.Names.{Names, same_key}
 use Rattle.resolver_ingress.specs.declared.ingress.FetchKey.{FetchKey}
 use Rattle.resolver_ingress.specs.Backlog.{IsApart, Item, has_subscribers, item_of, kept, keys_kept, keys_of_items, pruned}
 use Rattle.resolver_ingress.proofs.Filtered.{list_any-filter}

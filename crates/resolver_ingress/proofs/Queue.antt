@@ -10,7 +10,7 @@ use Rattle.std.specs.Map.{lookup}
 use Rattle.std.specs.declared.cmp.Ordering.{Ordering}
 use Rattle.resolver_ingress.specs.Places.{IsPlaced}
 use Rattle.resolver_ingress.proofs.Places.{found-key}
-use Rattle.resolver_base.specs.Names.{Names, same_key}
+use Rattle.resolver_root.specs.Names.{Names, same_key}
 use Rattle.resolver_ingress.specs.declared.ingress.FetchKey.{FetchKey}
 use Rattle.resolver_ingress.specs.Backlog.{Item, item_of, keys_of_items, merged_item, queued, undone, undone_all}
 

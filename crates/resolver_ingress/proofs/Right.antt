@@ -6,10 +6,10 @@ use Rattle.std.specs.Cmp.{IsTotalOrder}
 use Rattle.std.specs.Ordering.{is_eq, ordering_reverse}
 use Rattle.std.specs.declared.cmp.Ordering.{Ordering}
 use Rattle.std.specs.declared.cmp.Ordering.TheVariants.{Less, Equal, Greater}
-use Rattle.resolver_base.specs.Names.{Names, same_key, same_subscriber}
-use Rattle.resolver_base.specs.Subscribers.{joined_subscribers}
-use Rattle.resolver_base.specs.Demand.{Pair, acts, added_all, mark_of, is_pair, pairs_of}
-use Rattle.resolver_base.specs.Demand.{kept as kept_pairs}
+use Rattle.resolver_root.specs.Names.{Names, same_key, same_subscriber}
+use Rattle.resolver_root.specs.Subscribers.{joined_subscribers}
+use Rattle.resolver_root.specs.Demand.{Pair, acts, added_all, mark_of, is_pair, pairs_of}
+use Rattle.resolver_root.specs.Demand.{kept as kept_pairs}
 use Rattle.resolver_ingress.specs.Backlog.{Item, Backlog, Told, Fetches, Retains, IsApart, IsRight, act_of, asked_by, batch_told, handled, has_subscribers, kept, merged_item, pruned, queued, queued_all, waiting}
 use Rattle.resolver_ingress.proofs.Marks.{both-true, or_else, or_else-none, or_else-assoc, mark_of-added_all, mark_of-append, mark_of-joined, mark_of-pairs-like, mark_of-pairs-other}
 

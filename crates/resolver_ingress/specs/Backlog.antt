@@ -5,9 +5,9 @@ use Rattle.std.specs.List.{FoldsTo, list_any}
 use Rattle.resolver_ingress.specs.declared.ingress.FetchKey.{FetchKey}
 use Rattle.resolver_ingress.specs.declared.ingress.Message.{Message}
 use Rattle.resolver_ingress.specs.declared.ingress.Message.TheVariants as messages
-use Rattle.resolver_base.specs.Names.{Names, same_key}
-use Rattle.resolver_base.specs.Subscribers.{joined_subscribers}
-use Rattle.resolver_base.specs.Demand.{Act, Adds, Keeps, Pair, acts, pairs_of, IsSameDemand}
+use Rattle.resolver_root.specs.Names.{Names, same_key}
+use Rattle.resolver_root.specs.Subscribers.{joined_subscribers}
+use Rattle.resolver_root.specs.Demand.{Act, Adds, Keeps, Pair, acts, pairs_of, IsSameDemand}
 use Rattle.resolver_ingress.specs.Places.{IsPlaced}
 
 -- a fetch of one key

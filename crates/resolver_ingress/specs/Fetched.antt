@@ -1,7 +1,7 @@
 -- What targets a key has once some fetches are taken.
 use Rattle.std.specs.Prelude.{Bool, List, [], ◌∷◌, Option, Some, if◌then◌else◌}
-use Rattle.resolver_base.specs.Names.{Names, same_key}
-use Rattle.resolver_base.specs.Targets.{targets_after}
+use Rattle.resolver_root.specs.Names.{Names, same_key}
+use Rattle.resolver_root.specs.Targets.{targets_after}
 use Rattle.resolver_ingress.specs.Backlog.{Item}
 
 -- Of one key: `was` is none where it isn't wanted, and else its targets.

@@ -14,9 +14,8 @@ ghost use Rattle.std.specs.Prelude.{◌≡◌, ◌<◌, [], ◌∷◌, length, I
 pub use kept::{Kept, Test};
 pub use metadata::Metadata;
 pub use pending::Pending;
-use resolver_base::base::NonEmptyVec;
-pub use resolver_base::base::Predicate;
-use resolver_base::root::Fetch;
+pub use resolver_root::Predicate;
+use resolver_root::{Fetch, NonEmptyVec};
 use std::alloc::{AllocError, Global};
 
 /// A key to fetch and who wants it, with what else is said of the fetch.

@@ -12,15 +12,15 @@ use Rattle.std.specs.Cmp.{IsEquivalence, IsTotalOrder}
 use Rattle.std.proofs.lemmas.Bool.{lt-ltb}
 use Rattle.std.proofs.lemmas.Map.Keys.{IsDistinct-head, IsDistinct-tail}
 use Rattle.std.proofs.lemmas.Map.Made.{IsDistinct-keys_filter}
-use Rattle.resolver_base.specs.Names.{Names, same_key, same_subscriber}
-use Rattle.resolver_base.specs.Subscribers.{attached, attached_all, is_among, without}
-use Rattle.resolver_base.specs.Demand.{Pair, mark_of, has_pair, added, added_all, pairs_of, all_pairs_of, IsSameDemand}
-use Rattle.resolver_base.specs.declared.root.Outcome.{Outcome}
-use Rattle.resolver_base.specs.declared.root.Outcome.TheVariants.{Invalid, Resolved, Unresolved, Ignored}
-use Rattle.resolver_base.specs.declared.root.Resolution.TheVariants.{Complete, Partial}
-use Rattle.resolver_base.specs.Table as tables
+use Rattle.resolver_root.specs.Names.{Names, same_key, same_subscriber}
+use Rattle.resolver_root.specs.Subscribers.{attached, attached_all, is_among, without}
+use Rattle.resolver_root.specs.Demand.{Pair, mark_of, has_pair, added, added_all, pairs_of, all_pairs_of, IsSameDemand}
+use Rattle.resolver_root.specs.declared.root.Outcome.{Outcome}
+use Rattle.resolver_root.specs.declared.root.Outcome.TheVariants.{Invalid, Resolved, Unresolved, Ignored}
+use Rattle.resolver_root.specs.declared.root.Resolution.TheVariants.{Complete, Partial}
+use Rattle.resolver_root.specs.Table as tables
 use Rattle.resolver_machine.specs.Account.{table}
-use Rattle.resolver_base.specs.Table.{asked, asked_one, asked_beside, pruned, has_subscribers, is_asked, left_with, without_these}
+use Rattle.resolver_root.specs.Table.{asked, asked_one, asked_beside, pruned, has_subscribers, is_asked, left_with, without_these}
 use Rattle.resolver_machine.specs.Account.{Account, Handed, Watched, Change, Adds, Keeps, Judges, Empties, Leaves, pairs, conflicts, nothing_asked, judged, demand_after_verdict, demand_after, watch, opens, left_open, completed_after, account_of}
 use Rattle.resolver_machine.specs.Lawful.{Each, AnswersAlike, IsLawful}
 use Rattle.resolver_machine.proofs.Deliveries.{Each-imply, Each-remove_entry, Each-found}

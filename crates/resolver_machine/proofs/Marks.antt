@@ -7,21 +7,21 @@ use Rattle.std.specs.Cmp.{IsEquivalence}
 use Rattle.std.proofs.Common.{arith}
 use Rattle.std.specs.Prelude.{⊤}
 use Rattle.std.specs.Option.{option_or}
-use Rattle.resolver_base.specs.Table.{asked_one, asked_beside}
+use Rattle.resolver_root.specs.Table.{asked_one, asked_beside}
 use Rattle.resolver_machine.proofs.Rows.{lookup-inserted}
 use Rattle.std.specs.Cmp.{IsTotalOrder}
 use Rattle.std.specs.BTreeMap.{is_at}
 use Rattle.std.specs.Ordering.{match_ordering, is_eq, ordering_reverse}
 use Rattle.std.specs.declared.cmp.Ordering.{Ordering}
 use Rattle.std.specs.declared.cmp.Ordering.TheVariants.{Less, Equal, Greater}
-use Rattle.resolver_base.specs.Subscribers.{attached, attached_all}
+use Rattle.resolver_root.specs.Subscribers.{attached, attached_all}
 use Rattle.resolver_machine.specs.Lawful.{Each}
 use Rattle.resolver_machine.proofs.Deliveries.{Each-imply, Each-found}
 use Rattle.std.proofs.lemmas.Bool.{lt-ltb}
 use Rattle.std.proofs.lemmas.Map.Entries.{lookup-filter-values, lookup-filter-keys, option_filter}
-use Rattle.resolver_base.specs.Names.{Names, same_key, same_subscriber}
-use Rattle.resolver_base.specs.Subscribers.{is_among, without}
-use Rattle.resolver_base.specs.Table.{mark_in, mark_of, kept, pruned, without_key, without_named, without_these, left_with}
+use Rattle.resolver_root.specs.Names.{Names, same_key, same_subscriber}
+use Rattle.resolver_root.specs.Subscribers.{is_among, without}
+use Rattle.resolver_root.specs.Table.{mark_in, mark_of, kept, pruned, without_key, without_named, without_these, left_with}
 use Rattle.resolver_machine.proofs.Rows.{lookup-set, lookup-removed, lookup-same}
 
 equal_of : (o : Ordering) → is_eq o ≡ true → o ≡ Equal

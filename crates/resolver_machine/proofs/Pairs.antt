@@ -5,8 +5,8 @@ use Rattle.std.specs.Option.{option_or}
 use Rattle.std.specs.Map.{lookup}
 use Rattle.std.specs.Cmp.{IsEquivalence}
 use Rattle.resolver_machine.specs.Lawful.{AnswersAlike}
-use Rattle.resolver_base.specs.Names.{Names, same_key, same_subscriber}
-use Rattle.resolver_base.specs.Demand.{Pair, is_pair, mark_of, has_pair, added, added_all, pairs_of, kept}
+use Rattle.resolver_root.specs.Names.{Names, same_key, same_subscriber}
+use Rattle.resolver_root.specs.Demand.{Pair, is_pair, mark_of, has_pair, added, added_all, pairs_of, kept}
 use Rattle.resolver_machine.proofs.Marks.{option_or-none, option_or-assoc}
 
 both-true : (a b : Bool) → a && b ≡ true → (a ≡ true) × (b ≡ true)

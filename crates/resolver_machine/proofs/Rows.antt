@@ -9,7 +9,7 @@ use Rattle.std.specs.declared.cmp.Ordering.{Ordering}
 use Rattle.std.specs.declared.cmp.Ordering.TheVariants.{Less, Equal, Greater}
 use Rattle.std.proofs.lemmas.Map.{lookup-set_value, lookup-remove_entry, keys-set_value, none_passes_from_lookup, NonePasses}
 use Rattle.std.proofs.lemmas.Map.Keys.{IsDistinct-head, IsDistinct-tail, IsDistinct-cons}
-use Rattle.resolver_base.specs.Names.{Names, same_key}
+use Rattle.resolver_root.specs.Names.{Names, same_key}
 use Rattle.resolver_machine.specs.Lawful.{Each}
 
 module _ {K S : Type 0} (n : Names K S) (laws : IsEquivalence (same_key n)) where

@@ -9,19 +9,19 @@ use Rattle.std.specs.Ordering.{nat_cmp}
 use Rattle.std.specs.Cmp.{IsEquivalence}
 use Rattle.std.proofs.lemmas.Map.Made.{lookup-map_values, IsDistinct-keys_filter}
 use Rattle.std.proofs.lemmas.Map.Entries.{lookup-filter-values, option_filter}
-use Rattle.resolver_base.specs.Names.{Names, same_key}
-use Rattle.resolver_base.specs.Subscribers.{attached_all, without}
+use Rattle.resolver_root.specs.Names.{Names, same_key}
+use Rattle.resolver_root.specs.Subscribers.{attached_all, without}
 use Rattle.resolver_machine.specs.Account.{table}
-use Rattle.resolver_base.specs.Table.{asked, asked_beside, kept, without_named, without_key}
+use Rattle.resolver_root.specs.Table.{asked, asked_beside, kept, without_named, without_key}
 use Rattle.resolver_machine.specs.Account.{Account, Handed, Watched, Leaves, Adds, Keeps, Judges, Empties, watch, account_after, nothing_asked}
 use Rattle.std.proofs.Common.{ne_eqb, eq-eqb}
 use Rattle.std.specs.Prelude.{◌||◌, if◌then◌else◌}
-use Rattle.resolver_base.specs.declared.root.Outcome.{Outcome}
-use Rattle.resolver_base.specs.declared.root.Outcome.TheVariants.{Invalid, Resolved, Unresolved, Ignored}
-use Rattle.resolver_base.specs.declared.root.Resolution.TheVariants.{Complete, Partial}
+use Rattle.resolver_root.specs.declared.root.Outcome.{Outcome}
+use Rattle.resolver_root.specs.declared.root.Outcome.TheVariants.{Invalid, Resolved, Unresolved, Ignored}
+use Rattle.resolver_root.specs.declared.root.Resolution.TheVariants.{Complete, Partial}
 use Rattle.resolver_machine.specs.declared.ruling.Ruling.TheVariants.{Retry, Retire}
 use Rattle.resolver_machine.specs.Verdicts.{ruling}
-use Rattle.resolver_base.specs.Table.{without_these, left_with}
+use Rattle.resolver_root.specs.Table.{without_these, left_with}
 use Rattle.resolver_machine.specs.Account.{demand_after_verdict, completed_after_verdict, opens}
 use Rattle.resolver_machine.specs.Standing.{rules, ruled_out, served_again}
 use Rattle.resolver_machine.specs.Standing.{Standing, Held, Judgment, asks, asks_one, keeps, prunes, has_any, hands, drops, retires, closes, serves, ends}

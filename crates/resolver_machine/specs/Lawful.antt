@@ -1,6 +1,6 @@
 -- What the types of the code's inputs say of what the machines take.
 use Rattle.std.specs.Prelude.{◌≡◌, ◌<◌, Bool, true, List, [], ◌∷◌, length, ⊤}
-use Rattle.resolver_base.specs.Names.{Names, same_key, same_subscriber}
+use Rattle.resolver_root.specs.Names.{Names, same_key, same_subscriber}
 use Rattle.resolver_machine.specs.Account.{Change, Adds, Keeps}
 
 -- each of these is so

@@ -1,6 +1,6 @@
-pub use Rattle.resolver_base.specs.Names
-pub use Rattle.resolver_base.specs.Demand
-pub use Rattle.resolver_base.specs.Subscribers
+pub use Rattle.resolver_root.specs.Names
+pub use Rattle.resolver_root.specs.Demand
+pub use Rattle.resolver_root.specs.Subscribers
 pub mod Steps
 pub mod Verdicts
 pub mod Account

@@ -3,8 +3,8 @@ use Rattle.std.specs.Prelude.{ℕ, ◌+◌, Bool, nat_lt, List, [], ◌∷◌, O
 use Rattle.std.specs.Map.{lookup, set_value, remove_entry}
 use Rattle.std.specs.BTreeMap.{insert_entry, is_at}
 use Rattle.std.specs.Ordering.{nat_cmp}
-use Rattle.resolver_base.specs.Names.{Names, same_key}
-use Rattle.resolver_base.specs.Subscribers.{attached_all, without}
+use Rattle.resolver_root.specs.Names.{Names, same_key}
+use Rattle.resolver_root.specs.Subscribers.{attached_all, without}
 use Rattle.resolver_machine.specs.declared.ruling.Ruling.{Ruling}
 use Rattle.resolver_machine.specs.declared.ruling.Ruling.TheVariants.{Serve, Retry, Retire}
 use Rattle.resolver_machine.specs.Account.{Handed}

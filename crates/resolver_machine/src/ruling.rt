@@ -3,7 +3,7 @@
 ghost use Rattle.std.specs.Prelude.{◌≡◌};
 ghost use Rattle.resolver_machine.specs.Verdicts.{ruling};
 
-use resolver_base::root::{Outcome, Resolution};
+use resolver_root::{Outcome, Resolution};
 
 /// What becomes of a key and its response after a verdict.
 #[derive(Clone, Copy, Debug, PartialEq, Eq)]

@@ -9,7 +9,7 @@ use Rattle.resolver_ingress.specs.declared.ingress.Message.{Message}
 use Rattle.resolver_desk.specs.declared.entry.Entry.{Entry}
 use Rattle.resolver_desk.specs.declared.entry.Entry.TheVariants as entries
 use Rattle.resolver_desk.specs.declared.entry.Posted.{Posted}
-use Rattle.resolver_base.specs.Names.{Names}
+use Rattle.resolver_root.specs.Names.{Names}
 use Rattle.resolver_ingress.specs.Backlog.{Told, told_of, waiting}
 use Rattle.resolver_desk.specs.Book.{Call, IsBook, call_of, closes, puts_of}
 use Rattle.resolver_desk.specs.Desk.{Book, Desk, IsKept, calls_of}

@@ -3,10 +3,10 @@
 ghost use Rattle.std.specs.Prelude.{true};
 ghost use Rattle.std.proofs.Common.{rules};
 
-use resolver_base::base::{Faithful, Fault, Predicate};
-use resolver_base::root::Fetch;
+use resolver_base::base::{Faithful, Fault};
 use resolver_ingress::ingress::{FetchKey, Message};
 use resolver_mailbox::mailbox::{Entry, Exact};
+use resolver_root::{Fetch, Predicate};
 use std::alloc::Global;
 use std::fmt::Write;
 use std::panic::Expect;

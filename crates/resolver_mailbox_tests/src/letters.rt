@@ -4,7 +4,8 @@ ghost use Rattle.std.specs.Prelude.{◌≡◌, [], ◌∷◌, Option, None, Some
 ghost use Rattle.std.proofs.Common.{rules};
 
 use bytes::{BufMut, BytesMut};
-use resolver_base::base::{Faithful, Predicate, PublicKey, Span};
+use resolver_base::base::{Faithful, PublicKey, Span};
+use resolver_root::Predicate;
 use std::alloc::AllocError;
 
 /// A name of one byte.

@@ -4,9 +4,10 @@ ghost use Rattle.std.specs.Prelude.{◌≡◌, ◌<◌, true};
 ghost use Rattle.std.proofs.Common.{rules};
 
 use bytes::Bytes;
-use resolver_base::base::{Faithful, NonEmptyVec};
+use resolver_base::base::Faithful;
 use resolver_ingress::ingress::{FetchKey, Kept, Message, Test};
 use resolver_mailbox::mailbox::{Entry, Exact, Naming, Pages, Receiver, Sender, recorded};
+use resolver_root::NonEmptyVec;
 use std::alloc::Global;
 use std::hash::Hash;
 use std::marker::Brand;

@@ -5,10 +5,11 @@ ghost use Rattle.futures.specs.Task.{IsArmed, Keeps};
 
 use futures::Stream;
 use futures::task::{Context, Poll};
-use resolver_base::base::{Faithful, NonEmptyVec, Predicate};
+use resolver_base::base::Faithful;
 use resolver_engine::inputs::Event;
 use resolver_ingress::ingress::Message;
 use resolver_mailbox::mailbox::{Receiver, Unrecorded};
+use resolver_root::{NonEmptyVec, Predicate};
 use std::hash::Hash;
 use std::sync::Wait;
 

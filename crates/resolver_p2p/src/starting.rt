@@ -6,7 +6,8 @@ ghost use Rattle.resolver_base.specs.declared.base.fault.Fault.TheVariants.{OutO
 use crate::engine::Engine;
 use bytes::Bytes;
 use futures::Future;
-use resolver_base::base::{Draws, Faithful, Fault, Predicate, PublicKey, Sender, Span};
+use resolver_base::base::{Draws, Faithful, Fault, PublicKey, Sender, Span};
+use resolver_root::Predicate;
 use resolver_surface::{Blocker, Clock, Consumer, Producer, Provider, Receiver};
 use resolver_worker::{Ending, Handle, start};
 use std::alloc::AllocGlobal;

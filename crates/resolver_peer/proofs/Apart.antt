@@ -6,10 +6,10 @@ use Rattle.std.specs.List.{AllByRecursion, IsDistinct}
 use Rattle.std.specs.Map.{keys_of, lookup}
 use Rattle.std.proofs.lemmas.Cmp.{eq_by_cmp_equiv}
 use Rattle.std.proofs.lemmas.Map.Keys.{IsDistinct-head, IsDistinct-tail, IsDistinct-cons}
-use Rattle.resolver_base.specs.Names.{same_key}
-use Rattle.resolver_base.specs.declared.root.Outcome.{Outcome}
-use Rattle.resolver_base.specs.declared.root.Outcome.TheVariants.{Invalid, Resolved, Unresolved, Ignored}
-use Rattle.resolver_base.specs.Subscribers.{without}
+use Rattle.resolver_root.specs.Names.{same_key}
+use Rattle.resolver_root.specs.declared.root.Outcome.{Outcome}
+use Rattle.resolver_root.specs.declared.root.Outcome.TheVariants.{Invalid, Resolved, Unresolved, Ignored}
+use Rattle.resolver_root.specs.Subscribers.{without}
 use Rattle.resolver_base.specs.declared.base.fault.Fault.{Fault}
 use Rattle.resolver_request.specs.declared.requests.request.Request.{Request}
 use Rattle.resolver_request.specs.Requests.{overdue}

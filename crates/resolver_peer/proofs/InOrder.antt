@@ -12,7 +12,7 @@ use Rattle.std.specs.Ordering.{bool_cmp, is_eq, match_ordering, nat_cmp, orderin
 use Rattle.std.specs.Prelude.{nat_le}
 use Rattle.std.specs.declared.cmp.Ordering.{Ordering}
 use Rattle.std.specs.declared.cmp.Ordering.TheVariants.{Less, Equal, Greater}
-use Rattle.resolver_base.proofs.Ordered.{above-less}
+use Rattle.resolver_priorities.proofs.Ordered.{above-less}
 use Rattle.resolver_fetch.specs.declared.fetcher.place.Place.{Place}
 use Rattle.resolver_fetch.specs.Waiting.{Waiting, in_order, place_order, waiting_order}
 use Rattle.resolver_fetch.specs.FetcherLaws.{IsAmong}

@@ -1,8 +1,8 @@
 -- In each run of the peer machine that did not fail, the rows have the demand of the run.
 use Rattle.std.proofs.Common.{sym, subst, List, [], ◌∷◌, Result, Ok, Err}
 use Rattle.std.specs.Cmp.{IsEquivalence, IsTotalOrder}
-use Rattle.resolver_base.specs.Names.{same_key, same_subscriber}
-use Rattle.resolver_base.specs.Demand.{all_pairs_of, IsSameDemand}
+use Rattle.resolver_root.specs.Names.{same_key, same_subscriber}
+use Rattle.resolver_root.specs.Demand.{all_pairs_of, IsSameDemand}
 use Rattle.resolver_base.specs.declared.base.fault.Fault.{Fault}
 use Rattle.resolver_machine.specs.Account.{pairs, nothing_asked, account_of}
 use Rattle.resolver_peer.specs.Parties.{Parties, names_of}

@@ -5,9 +5,9 @@ use Rattle.std.specs.BTreeMap.{insert_entry}
 use Rattle.std.specs.Ordering.{nat_cmp}
 use Rattle.resolver_base.specs.declared.base.fault.Fault.{Fault}
 use Rattle.resolver_base.specs.declared.base.fault.Fault.TheVariants as faults
-use Rattle.resolver_base.specs.declared.root.Outcome.{Outcome}
-use Rattle.resolver_base.specs.declared.root.Outcome.TheVariants.{Invalid, Resolved}
-use Rattle.resolver_base.specs.Subscribers.{attached_all, without}
+use Rattle.resolver_root.specs.declared.root.Outcome.{Outcome}
+use Rattle.resolver_root.specs.declared.root.Outcome.TheVariants.{Invalid, Resolved}
+use Rattle.resolver_root.specs.Subscribers.{attached_all, without}
 use Rattle.resolver_request.specs.declared.score.Averages.{Averages}
 use Rattle.resolver_request.specs.declared.wire.Message.{Message}
 use Rattle.resolver_request.specs.declared.wire.Payload.{Payload}

@@ -2,10 +2,10 @@
 use Rattle.std.specs.Prelude.{◌≡◌, ℕ, not, ◌==◌, true, false, List, [], ◌∷◌, ◌++◌, Option, None, Some}
 use Rattle.std.specs.Ordering.{nat_cmp}
 use Rattle.resolver_base.specs.declared.base.check.Check.TheVariants.{Clear}
-use Rattle.resolver_base.specs.declared.root.Outcome.{Outcome}
-use Rattle.resolver_base.specs.declared.root.Outcome.TheVariants.{Resolved, Invalid, Ignored, Unresolved}
-use Rattle.resolver_base.specs.declared.root.Resolution.TheVariants.{Complete}
-use Rattle.resolver_base.specs.Demand.{Pair, all_pairs_of}
+use Rattle.resolver_root.specs.declared.root.Outcome.{Outcome}
+use Rattle.resolver_root.specs.declared.root.Outcome.TheVariants.{Resolved, Invalid, Ignored, Unresolved}
+use Rattle.resolver_root.specs.declared.root.Resolution.TheVariants.{Complete}
+use Rattle.resolver_root.specs.Demand.{Pair, all_pairs_of}
 use Rattle.resolver_request.specs.declared.wire.Payload.TheVariants as payloads
 use Rattle.resolver_fetch.specs.declared.fetcher.scan.Answer.TheVariants.{Drawn, Checked, Sent}
 use Rattle.resolver_machine.specs.Account.{pairs, nothing_asked, account_of}

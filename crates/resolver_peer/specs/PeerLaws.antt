@@ -3,7 +3,7 @@ use Rattle.std.specs.Prelude.{◌≡◌, ◌≢◌, ℕ, ◌<◌, ◌≤◌, Boo
 use Rattle.std.specs.Map.{lookup}
 use Rattle.std.specs.Ordering.{is_eq}
 use Rattle.resolver_base.specs.declared.base.fault.Fault.{Fault}
-use Rattle.resolver_base.specs.Demand.{all_pairs_of, IsSameDemand}
+use Rattle.resolver_root.specs.Demand.{all_pairs_of, IsSameDemand}
 use Rattle.resolver_request.specs.declared.score.Averages.{Averages}
 use Rattle.resolver_fetch.specs.declared.fetcher.config.Config.{Config}
 use Rattle.resolver_fetch.specs.declared.fetcher.scan.Ask.TheVariants as asks

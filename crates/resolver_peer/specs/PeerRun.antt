@@ -1,7 +1,7 @@
 -- Runs of the peer machine: what it answers, what was taken, and what it came to.
 use Rattle.std.specs.Prelude.{ℕ, ◌++◌, List, [], ◌∷◌, Option, None, Some, Result, Ok, Err, filter_map, map}
 use Rattle.resolver_base.specs.declared.base.fault.Fault.{Fault}
-use Rattle.resolver_base.specs.Demand.{Pair}
+use Rattle.resolver_root.specs.Demand.{Pair}
 use Rattle.resolver_machine.specs.Account.{Handed, Change, Adds, Keeps, Judges, Empties, Leaves, pairs, account_of, nothing_asked}
 use Rattle.resolver_peer.specs.Parties.{Parties, names_of}
 use Rattle.resolver_peer.specs.PeerRows.{Row}

@@ -4,8 +4,8 @@ use Rattle.std.specs.Ordering.{nat_cmp}
 use Rattle.resolver_base.specs.declared.base.check.Check.TheVariants.{Clear, Until}
 use Rattle.resolver_base.specs.declared.base.fault.Fault.{Fault}
 use Rattle.resolver_base.specs.declared.base.fault.Fault.TheVariants.{Ended, Busy, Unasked, OutOfRange}
-use Rattle.resolver_base.specs.declared.root.Outcome.TheVariants.{Resolved, Invalid}
-use Rattle.resolver_base.specs.declared.root.Resolution.TheVariants.{Complete}
+use Rattle.resolver_root.specs.declared.root.Outcome.TheVariants.{Resolved, Invalid}
+use Rattle.resolver_root.specs.declared.root.Resolution.TheVariants.{Complete}
 use Rattle.resolver_request.specs.declared.wire.Message.{Message}
 use Rattle.resolver_request.specs.declared.wire.Payload.TheVariants as payloads
 use Rattle.resolver_request.specs.declared.requests.request.Request.{Request}

@@ -15,7 +15,7 @@ use Rattle.std.specs.BTreeMap.{is_at}
 use Rattle.std.specs.Ordering.{is_eq, nat_cmp}
 use Rattle.std.specs.declared.cmp.Ordering.{Ordering}
 use Rattle.std.specs.declared.cmp.Ordering.TheVariants.{Equal}
-use Rattle.resolver_base.specs.Priorities.{listed}
+use Rattle.resolver_priorities.specs.Priorities.{listed}
 use Rattle.resolver_request.specs.declared.requests.request.Request.{Request}
 use Rattle.resolver_request.specs.Ids.{is_held}
 use Rattle.resolver_request.specs.Requests.{AreNamed, ids_of, is_asked, is_for, is_for_if, request_for, request_of}

@@ -11,7 +11,7 @@ use Rattle.std.specs.Map.{keys_of}
 use Rattle.std.specs.Ordering.{is_lt, nat_cmp}
 use Rattle.std.specs.declared.cmp.Ordering.{Ordering}
 use Rattle.std.specs.declared.cmp.Ordering.TheVariants.{Less}
-use Rattle.resolver_base.specs.Priorities.{listed, pair_order, priorities_of}
+use Rattle.resolver_priorities.specs.Priorities.{listed, pair_order, priorities_of}
 use Rattle.resolver_request.specs.declared.requests.request.Request.{Request}
 use Rattle.resolver_request.specs.Requests.{AreTimed, if_overdue, is_sooner, sooner, soonest, request_of, taken_overdue, taken_soonest, without_request}
 

@@ -11,8 +11,8 @@ use Rattle.std.specs.BTreeMap.{is_at}
 use Rattle.std.specs.BTreeSet.{insert_key}
 use Rattle.std.specs.Set.{remove_key}
 use Rattle.std.specs.Ordering.{is_eq, nat_cmp}
-use Rattle.resolver_base.specs.Priorities.{listed, priorities_of, retained, without}
-use Rattle.resolver_base.proofs.Priorities.{priorities-insert, priorities-without, remove_key-without}
+use Rattle.resolver_priorities.specs.Priorities.{listed, priorities_of, retained, without}
+use Rattle.resolver_priorities.proofs.Priorities.{priorities-insert, priorities-without, remove_key-without}
 use Rattle.resolver_request.specs.declared.requests.request.Request.{Request}
 use Rattle.resolver_request.specs.Requests.{AreTimed, request_of}
 use Rattle.resolver_request.proofs.Soonest.{behind, by_deadline, past-head}

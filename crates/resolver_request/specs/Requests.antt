@@ -7,7 +7,7 @@ use Rattle.std.specs.declared.cmp.Ordering.{Ordering}
 use Rattle.std.specs.BTreeMap.{insert_entry, is_at}
 use Rattle.std.specs.Map.{keys_of, lookup, remove_entry}
 use Rattle.std.specs.List.Sorted.{IsStrictlySortedBy}
-use Rattle.resolver_base.specs.Priorities.{listed, priorities_of}
+use Rattle.resolver_priorities.specs.Priorities.{listed, priorities_of}
 use Rattle.resolver_request.specs.declared.requests.request.Request.{Request}
 
 module _ {K P : Type 0} where

@@ -5,7 +5,7 @@ ghost use Rattle.resolver_base.specs.declared.base.fault.Fault.TheVariants.{OutO
 
 use futures::channel::oneshot;
 use resolver_base::base::{Fault, Span};
-use resolver_base::root::{Delivery, Outcome};
+use resolver_root::{Delivery, Outcome};
 
 /// What judges the values that were fetched.
 pub trait Consumer: 'static {

@@ -3,8 +3,8 @@
 ghost use Rattle.std.specs.Prelude.{◌≡◌, ◌≢◌, IfErr};
 ghost use Rattle.resolver_base.specs.declared.base.fault.Fault.TheVariants.{Exhausted, OutOfMemory};
 
-use resolver_base::base::{Fault, Feedback, NonEmptyVec, Predicate, PublicKey, Span};
-use resolver_base::root::Fetch;
+use resolver_base::base::{Fault, Feedback, PublicKey, Span};
+use resolver_root::{Fetch, NonEmptyVec, Predicate};
 
 /// A handle through which data is fetched by key. A clone is another handle of the same resolver.
 ///

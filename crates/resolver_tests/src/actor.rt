@@ -3,8 +3,8 @@ ghost use Rattle.std.proofs.Common.{rules};
 
 use resolver::ingress::{FetchKey, Predicate};
 use resolver::opaque::{Actor, Effect, Event, Input, Phase, Row};
-use resolver_base::base::{Fault, NonEmptyVec, Numbers};
-use resolver_base::root::{Outcome, Resolution};
+use resolver_base::base::{Fault, Numbers};
+use resolver_root::{NonEmptyVec, Outcome, Resolution};
 use std::alloc::Global;
 use std::panic::Expect;
 use std::process::Abort;

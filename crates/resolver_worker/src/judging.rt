@@ -8,7 +8,7 @@ ghost use Rattle.resolver_base.specs.declared.base.fault.Fault.TheVariants.{OutO
 use crate::awaited::Awaited;
 use futures::task::{Context, Poll};
 use resolver_base::base::Fault;
-use resolver_base::root::{Delivery, Outcome};
+use resolver_root::{Delivery, Outcome};
 use resolver_surface::Consumer;
 use std::alloc::Global;
 

@@ -12,11 +12,11 @@ ghost use Rattle.resolver_machine.specs.Verdicts.{ruling};
 
 use super::rows::{Row, call_off_all, call_off_each, forget_each, listed};
 use super::stages::Stages;
-use resolver_base::base::{Fault, NonEmptyVec, Numbers, Predicate};
-use resolver_base::root::{Delivery, Outcome};
+use resolver_base::base::{Fault, Numbers};
 use resolver_demand::subscribers::Tracker;
 use resolver_ingress::ingress::FetchKey;
 use resolver_machine::ruling::{Ruling, rule_on};
+use resolver_root::{Delivery, NonEmptyVec, Outcome, Predicate};
 use std::alloc::{AllocError, Global};
 use std::marker::{Model, PhantomData};
 
@@ -155,8 +155,8 @@ impl<K: Ord + Clone, V: Clone, S: Ord + Clone, Q: Predicate<K, S> + Drop> Actor<
     ghost use Rattle.std.specs.Map.{lookup};
     ghost use Rattle.std.specs.Ordering.{is_eq, nat_cmp};
     ghost use Rattle.std.specs.BTreeMap.{is_at};
-    ghost use Rattle.resolver_base.specs.Names.{names};
-    ghost use Rattle.resolver_base.specs.Subscribers.{attached_all};
+    ghost use Rattle.resolver_root.specs.Names.{names};
+    ghost use Rattle.resolver_root.specs.Subscribers.{attached_all};
     ghost use Rattle.resolver_actor.specs.Opaque.{opening, start_new, fetch_one, fetch, hand_out, fetched, verdict, does, row_of, next_retry, end, retain, start_again, start_all, waiting_by_due};
     ghost use Rattle.resolver_actor.specs.OpaqueSteps.{Goes, Takes, Runs, answer_of, takes_no_memory};
     ghost use Rattle.resolver_actor.specs.OpaqueInputs.{item_of, event_of, input_of};

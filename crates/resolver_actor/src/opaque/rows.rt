@@ -11,9 +11,10 @@ ghost use Rattle.resolver_actor.specs.OpaqueListed.{listed, listed_phase};
 
 use super::actor::Effect;
 use super::stages::Stages;
-use resolver_base::base::{Fault, NonEmptyVec};
+use resolver_base::base::Fault;
 use resolver_demand::delivery::{Entries, Entry};
 use resolver_demand::subscribers::{Subscribers, Tracker};
+use resolver_root::NonEmptyVec;
 use std::alloc::{AllocError, Global};
 
 /// What is being done for a demanded key.

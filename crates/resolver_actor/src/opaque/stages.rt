@@ -10,14 +10,15 @@ ghost use Rattle.resolver_actor.specs.declared.opaque.rows.Stage.TheVariants.{As
 ghost use Rattle.resolver_actor.specs.OpaqueFound.{asked_key, first_due};
 ghost use Rattle.resolver_actor.specs.OpaqueOverdue.{by_due, due_of, first_key};
 ghost use Rattle.resolver_actor.specs.OpaqueStages.{IsAsked, attempt_in, resting, stands_under, unstaged, waits};
-ghost use Rattle.resolver_base.specs.Priorities.{without};
+ghost use Rattle.resolver_priorities.specs.Priorities.{without};
 ghost use Rattle.resolver_base.specs.declared.base.fault.Fault.TheVariants.{OutOfMemory};
 
 use super::by_attempt::ByAttempt;
 use super::rows::{Keys, Phase, Stage, listed_phase};
-use resolver_base::base::{Fault, Numbers, PrioritySet};
-use resolver_base::root::{Delivery, Outcome};
+use resolver_base::base::{Fault, Numbers};
 use resolver_demand::delivery::{Aborted, Completion, Entries, Entry};
+use resolver_priorities::PrioritySet;
+use resolver_root::{Delivery, Outcome};
 use std::alloc::Global;
 use std::marker::Model;
 

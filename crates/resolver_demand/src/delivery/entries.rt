@@ -15,7 +15,7 @@ ghost use Rattle.resolver_base.specs.declared.base.fault.Fault.TheVariants.{OutO
 use crate::delivery::completion::{Aborted, Completion};
 use crate::delivery::entry::{Entry, Open, Response};
 use resolver_base::base::{Fault, Numbers};
-use resolver_base::root::{Delivery, Outcome};
+use resolver_root::{Delivery, Outcome};
 use std::alloc::{AllocError, Global};
 use std::collections::BTreeMap;
 use std::collections::btree_map::Iter;

@@ -4,14 +4,15 @@ ghost use Rattle.std.specs.Prelude.{◌≡◌, ◌≤◌, Bool, [], ◌∷◌, I
 ghost use Rattle.std.specs.Fn.{FnReturnsAt};
 ghost use Rattle.std.specs.List.Sorted.{IsStrictlySortedBy};
 ghost use Rattle.resolver_base.specs.Answering.{AnswersBy};
-ghost use Rattle.resolver_base.specs.Priorities.{has_item, is_of, pair_order, priorities_of, put, retained, without};
+ghost use Rattle.resolver_priorities.specs.Priorities.{has_item, is_of, pair_order, priorities_of, put, retained, without};
 ghost use Rattle.resolver_base.specs.declared.base.fault.Fault.TheVariants.{OutOfMemory};
 ghost use Rattle.resolver_fetch.specs.Queues.{IsQueued, first_due, fresh_queue, retry_queue};
 ghost use Rattle.resolver_fetch.specs.Waiting.{place_order};
 ghost use Rattle.resolver_fetch.specs.declared.fetcher.place.Place.{Place};
 
 use crate::fetcher::Place;
-use resolver_base::base::{Fault, PrioritySet};
+use resolver_base::base::Fault;
+use resolver_priorities::PrioritySet;
 use std::alloc::Global;
 use std::marker::Model;
 

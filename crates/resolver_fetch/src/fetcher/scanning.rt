@@ -7,7 +7,7 @@ ghost use Rattle.std.specs.Map.{lookup};
 ghost use Rattle.std.specs.Map.Iter.{ShowsInOrder, deref};
 ghost use Rattle.resolver_fetch.specs.Known.{eligible};
 ghost use Rattle.resolver_fetch.specs.Trying.{apart_from, weighed};
-ghost use Rattle.resolver_base.specs.Priorities.{pair_order};
+ghost use Rattle.resolver_priorities.specs.Priorities.{pair_order};
 ghost use Rattle.resolver_base.specs.declared.base.fault.Fault.TheVariants.{OutOfMemory};
 ghost use Rattle.resolver_fetch.specs.declared.fetcher.step.Step.TheVariants.{Accept, Clear, Fail};
 ghost use Rattle.resolver_fetch.specs.Fetcher as calls;

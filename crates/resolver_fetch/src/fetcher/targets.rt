@@ -4,7 +4,7 @@ ghost use Rattle.std.specs.Prelude.{◌≡◌, [], length, IfOk, OnErr, OnOk};
 ghost use Rattle.std.specs.List.Sorted.{IsStrictlySortedBy};
 ghost use Rattle.std.specs.Map.Iter.{ShowsInOrder, deref};
 ghost use Rattle.std.specs.BTreeSet.{contains};
-ghost use Rattle.resolver_base.specs.Joined.{joined_one};
+ghost use Rattle.resolver_root.specs.Joined.{joined_one};
 ghost use Rattle.resolver_fetch.specs.Orders.{is_one_of};
 ghost use Rattle.resolver_fetch.specs.Peers.{is_target_of, with_targets};
 

@@ -6,7 +6,7 @@ ghost use Rattle.std.specs.Vec.{vec_capacity, vec_len};
 ghost use Rattle.std.specs.BTreeMap.{is_at};
 ghost use Rattle.std.specs.Map.{lookup, remove_entry};
 ghost use Rattle.std.specs.Option.{option_to_list};
-ghost use Rattle.resolver_base.specs.Names.{names};
+ghost use Rattle.resolver_root.specs.Names.{names};
 ghost use Rattle.resolver_ingress.specs.Backlog.{IsApart, item_of, kept, keys_kept, keys_of_items, merged_item, queued, queued_all, undone, undone_all};
 ghost use Rattle.resolver_ingress.specs.Places.{Grows, IsPlaced};
 ghost use Rattle.resolver_ingress.specs.Undone.{without_each};
@@ -14,7 +14,7 @@ ghost use Rattle.resolver_ingress.specs.Undone.{without_each};
 use crate::ingress::FetchKey;
 use crate::ingress::metadata::Metadata;
 use crate::ingress::places::Places;
-use resolver_base::base::{NonEmptyVec, Predicate};
+use resolver_root::{NonEmptyVec, Predicate};
 use std::alloc::{AllocError, Global};
 use std::mem;
 

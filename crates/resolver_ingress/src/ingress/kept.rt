@@ -2,7 +2,8 @@
 
 ghost use Rattle.std.specs.Prelude.{◌≡◌, Bool, true};
 
-use resolver_base::base::{Faithful, Predicate};
+use resolver_base::base::Faithful;
+use resolver_root::Predicate;
 use std::marker::Model;
 
 /// A caller's test of subscribers, by their key. It is pure: what it answers follows from its own

@@ -1,13 +1,13 @@
 //! What is true of a backlog whatever waits in it.
 
 ghost use Rattle.std.specs.Prelude.{◌≡◌, ◌++◌, ◌∷◌, [], List, Option};
-ghost use Rattle.resolver_base.specs.Names.{names};
-ghost use Rattle.resolver_base.specs.Targets.{merged_targets};
+ghost use Rattle.resolver_root.specs.Names.{names};
+ghost use Rattle.resolver_root.specs.Targets.{merged_targets};
 ghost use Rattle.resolver_ingress.specs.Backlog.{Backlog, IsApart, IsRight, Item, Told, handled, queued_all, waiting};
 ghost use Rattle.resolver_ingress.specs.Fetched.{fetched_targets};
 
 use crate::ingress::metadata::Metadata;
-use resolver_base::base::Predicate;
+use resolver_root::Predicate;
 
 /// On every demand, what waits after a message is taken does what waited and then the message do,
 /// where each key stood once, as `Pending::law` says that it does.

@@ -1,9 +1,10 @@
 //! What is said of a fetch beside its key and its subscribers.
 
 ghost use Rattle.std.specs.Prelude.{◌≡◌, IfOk, OnOk, OnErr};
-ghost use Rattle.resolver_base.specs.Targets.{merged_targets};
+ghost use Rattle.resolver_root.specs.Targets.{merged_targets};
 
-use resolver_base::base::{Faithful, NonEmptyVec};
+use resolver_base::base::Faithful;
+use resolver_root::NonEmptyVec;
 use std::alloc::{AllocError, Global};
 
 /// What is said of a fetch: it merges with what a later fetch of the key says.

@@ -3,7 +3,7 @@
 ghost use Rattle.std.specs.Prelude.{◌≡◌, ◌∷◌, ◌++◌, [], map, length, take, IsTrue, IfErr, OnOk, OnErr, ◌↔◌};
 ghost use Rattle.resolver_base.specs.declared.base.fault.Fault.TheVariants.{OutOfMemory};
 ghost use Rattle.std.specs.Option.{option_to_list};
-ghost use Rattle.resolver_base.specs.Names.{names};
+ghost use Rattle.resolver_root.specs.Names.{names};
 ghost use Rattle.resolver_ingress.specs.Backlog.{IsApart, Drains, Fetches, HandsBack, Retains, IsRight, batch_told, behind_first, handled, item_of, no_backlog, told_of, waiting};
 
 use crate::ingress::batch::{kept_places, prune_all, put_all};
@@ -11,7 +11,8 @@ use crate::ingress::drain::{drain_retains, offer_batch};
 use crate::ingress::metadata::Metadata;
 use crate::ingress::places::Places;
 use crate::ingress::{FetchKey, Message};
-use resolver_base::base::{Fault, Predicate};
+use resolver_base::base::Fault;
+use resolver_root::Predicate;
 use std::alloc::Global;
 use std::collections::VecDeque;
 use std::hash::Hash;
@@ -29,7 +30,7 @@ pub struct Pending<K: Ord + Hash, S: Ord, M, Q> {
 }
 
 impl<K: Ord + Hash, S: Ord, M, Q> Model for Pending<K, S, M, Q> {
-    ghost use Rattle.resolver_base.specs.Names.{names};
+    ghost use Rattle.resolver_root.specs.Names.{names};
     ghost use Rattle.resolver_ingress.specs.Backlog.{Backlog, IsFiled, backlog_of};
 
     ghost Value = { Backlog K S M Q };

@@ -3,15 +3,16 @@
 ghost use Rattle.std.specs.Prelude.{◌≡◌, ◌≢◌, ◌≤◌, ◌<◌, ◌+◌, ◌^◌, ◌-◌, ◌∷◌, [], false, true, is_some, map, None, Some, IfOk, IfErr, OnOk, OnErr};
 ghost use Rattle.std.specs.Vec.{vec_len, vec_capacity};
 ghost use Rattle.resolver_base.specs.declared.base.fault.Fault.TheVariants.{Exhausted, OutOfMemory};
-ghost use Rattle.resolver_base.specs.Names.{names};
+ghost use Rattle.resolver_root.specs.Names.{names};
 ghost use Rattle.resolver_ingress.specs.Backlog.{told_of};
 ghost use Rattle.resolver_desk.specs.Desk.{desk_put, feedback_of};
 ghost use Rattle.resolver_mailbox.specs.Shares.{first_share, marked, numbered, with_message};
 
 use crate::mailbox::naming::{Names, Puts};
-use resolver_base::base::{Faithful, Fault, Feedback, Predicate};
+use resolver_base::base::{Faithful, Fault, Feedback};
 use resolver_desk::desk::Desk;
 use resolver_ingress::ingress::{Message, Metadata};
+use resolver_root::Predicate;
 use std::alloc::{AllocError, Global};
 use std::hash::Hash;
 use std::marker::Model;

@@ -8,9 +8,10 @@ ghost use Rattle.resolver_desk.specs.Desk.{desk_taken};
 
 use crate::mailbox::naming::{Naming, Takes};
 use crate::mailbox::share::ready_copy;
-use resolver_base::base::{Faithful, Fault, Predicate};
+use resolver_base::base::{Faithful, Fault};
 use resolver_desk::desk::Desk;
 use resolver_ingress::ingress::{Message, Metadata};
+use resolver_root::Predicate;
 use std::alloc::Global;
 use std::hash::Hash;
 use std::marker::Model;

@@ -10,7 +10,7 @@ use crate::consumer::Consumer as Judge;
 use futures::channel::mpsc::SendError;
 use futures::channel::{mpsc, oneshot};
 use resolver_base::base::{Fault, Span};
-use resolver_base::root::Delivery;
+use resolver_root::Delivery;
 use std::alloc::Global;
 use std::collections::BTreeMap;
 use std::marker::{Model, PhantomData};

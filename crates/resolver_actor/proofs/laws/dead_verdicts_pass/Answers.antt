@@ -1,4 +1,4 @@
-use Rattle.resolver_base.specs.Names.{names}
+use Rattle.resolver_root.specs.Names.{names}
 use Rattle.resolver_actor.proofs.Dead.{dead_verdicts_pass}
 use Rattle.resolver_actor.proofs.laws.dead_verdicts_pass.Goals as goal
 

@@ -1,5 +1,5 @@
 use Rattle.std.proofs.lemmas.Cmp.{eq_by_cmp_equiv}
-use Rattle.resolver_base.specs.Names.{names}
+use Rattle.resolver_root.specs.Names.{names}
 use Rattle.resolver_actor.proofs.OpaqueKept.{demand_is_kept}
 use Rattle.resolver_actor.proofs.laws.opaque_keeps_demand.Goals as goal
 

@@ -1,4 +1,4 @@
-use Rattle.resolver_base.specs.Names.{names}
+use Rattle.resolver_root.specs.Names.{names}
 use Rattle.resolver_actor.specs.Opaque.{Failed}
 use Rattle.resolver_actor.specs.OpaqueSteps.{MayWant, step_on}
 use Rattle.std.proofs.Common.{◌≡◌}

@@ -2,7 +2,7 @@ use Rattle.std.proofs.Common.{◌≡◌, ◌∙◌, sym, ap, arith, true, false,
 use Rattle.std.specs.Map.{lookup, remove_entry}
 use Rattle.std.specs.BTreeMap.{insert_entry, is_at}
 use Rattle.std.specs.Vec.Iter.{into_iter_items}
-use Rattle.resolver_base.specs.Subscribers.{attached_all}
+use Rattle.resolver_root.specs.Subscribers.{attached_all}
 use Rattle.resolver_ingress.specs.Undone.{without_each}
 use Rattle.resolver_demand.proofs.Placed.{attached-absent, attached-present}
 use Rattle.resolver_ingress.proofs.Undone.{removed-inserted, without_each-last}

@@ -3,7 +3,7 @@ use Rattle.std.specs.Vec.{vec_len, vec_capacity}
 use Rattle.std.specs.Vec.Iter.{into_iter_items}
 use Rattle.std.specs.List.Sorted.{IsStrictlySortedBy}
 use Rattle.std.specs.Map.{keys_of}
-use Rattle.resolver_base.specs.Subscribers.{attached_all}
+use Rattle.resolver_root.specs.Subscribers.{attached_all}
 use Rattle.resolver_ingress.specs.Undone.{without_each}
 use Rattle.resolver_demand.proofs.subscribers.many.attach_all.Given as goal
 

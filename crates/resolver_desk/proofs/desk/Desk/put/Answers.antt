@@ -1,7 +1,7 @@
 use Rattle.std.proofs.Common.{rules, ◌≡◌, ◌<◌, ◌+◌, ◌^◌, ◌∙◌, ◌∷◌, ◌++◌, [], false, nat_lt, cond, sym, ap, refl, Bool, ℕ, subst}
 use Rattle.std.specs.Option.{ForSome}
 use Rattle.std.proofs.lemmas.List.{length-map}
-use Rattle.resolver_base.specs.Names.{names}
+use Rattle.resolver_root.specs.Names.{names}
 use Rattle.resolver_ingress.specs.Backlog.{Backlog, IsRight, handled, told_of, waiting}
 use Rattle.resolver_desk.specs.Desk.{Desk, IsKept, desk_of, desk_put, has_room}
 use Rattle.resolver_ingress.proofs.Right.{follows-by}

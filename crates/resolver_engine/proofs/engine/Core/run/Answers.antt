@@ -2,7 +2,7 @@ use Rattle.std.proofs.Common.{◌≡◌, sym, ◌∙◌, subst, rules, arith, []
 use Rattle.std.proofs.lemmas.List.{nil_from_length}
 use Rattle.std.specs.Vec.Iter.{into_iter_items}
 use Rattle.std.specs.Cmp.{IsTotalOrder}
-use Rattle.resolver_base.specs.Names.{names}
+use Rattle.resolver_root.specs.Names.{names}
 use Rattle.resolver_machine.specs.Lawful.{AnswersAlike}
 use Rattle.resolver_peer.specs.Parties.{parties}
 use Rattle.resolver_engine.specs.Said.{codec}

@@ -1,5 +1,5 @@
 use Rattle.std.proofs.Common.{ap, ◌∙◌, refl, ◌++◌}
-use Rattle.resolver_base.specs.Table.{emptied}
+use Rattle.resolver_root.specs.Table.{emptied}
 use Rattle.resolver_peer.specs.Parties.{parties}
 use Rattle.resolver_peer.specs.Peer.{retain}
 use Rattle.resolver_engine.specs.Canceled.{each_canceled}

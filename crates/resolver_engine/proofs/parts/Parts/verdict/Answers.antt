@@ -1,6 +1,6 @@
 use Rattle.std.proofs.Common.{◌≡◌, refl, ap, sym, ◌∙◌, subst, ◌++◌, true, false}
 use Rattle.std.specs.Prelude.{not}
-use Rattle.resolver_base.specs.declared.root.Delivery.{Delivery}
+use Rattle.resolver_root.specs.declared.root.Delivery.{Delivery}
 use Rattle.resolver_machine.specs.Verdicts.{ruling}
 use Rattle.resolver_peer.specs.Parties.{parties, orders_of}
 use Rattle.resolver_peer.specs.Peer.{Open, ruled}

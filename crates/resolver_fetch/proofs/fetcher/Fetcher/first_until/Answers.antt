@@ -3,7 +3,7 @@ use Rattle.std.proofs.lemmas.Bool.Decides.{nat_tests}
 use Rattle.std.proofs.lemmas.Map.Keys.{sorted_tail}
 use Rattle.std.specs.Ordering.{nat_cmp}
 use Rattle.std.specs.Prelude.{nat_le}
-use Rattle.resolver_base.specs.Priorities.{pair_order}
+use Rattle.resolver_priorities.specs.Priorities.{pair_order}
 use Rattle.resolver_fetch.specs.Orders.{orders}
 use Rattle.resolver_fetch.specs.Queues.{placed}
 use Rattle.resolver_fetch.specs.Seeking.{first_until, trying_key}

@@ -1,7 +1,7 @@
 use Rattle.std.proofs.Common.{◌≡◌, ap, sym, ◌∙◌, true, false, None, rules}
 use Rattle.std.proofs.lemmas.Result.{IfOk-weaker}
 use Rattle.std.specs.Ordering.{nat_cmp}
-use Rattle.resolver_base.specs.Priorities.{after}
+use Rattle.resolver_priorities.specs.Priorities.{after}
 use Rattle.resolver_fetch.specs.declared.fetcher.place.Place.{Place}
 use Rattle.resolver_fetch.specs.Fetcher.{Fetcher}
 use Rattle.resolver_fetch.specs.Orders.{orders}

@@ -1,5 +1,5 @@
 use Rattle.std.proofs.Common.{◌∙◌, ap}
-use Rattle.resolver_base.specs.Subscribers.{joined_subscribers}
+use Rattle.resolver_root.specs.Subscribers.{joined_subscribers}
 use Rattle.resolver_ingress.proofs.Items.{same-item}
 use Rattle.resolver_ingress.proofs.ingress.batch.merged.Goals as goal
 

@@ -2,7 +2,7 @@ use Rattle.std.proofs.Common.{◌≡◌, ap, refl, rules, None, Some, ◌∷◌,
 use Rattle.std.specs.List.{position}
 use Rattle.std.specs.Map.{lookup}
 use Rattle.std.specs.BTreeMap.{is_at}
-use Rattle.resolver_base.specs.Names.{names}
+use Rattle.resolver_root.specs.Names.{names}
 use Rattle.resolver_ingress.specs.Backlog.{item_of, keys_of_items}
 use Rattle.resolver_ingress.proofs.Places.{absent-key, found-key, grows-none}
 use Rattle.resolver_ingress.proofs.Queue.{keys-present, keys-pushed, queued-absent, queued-present, set-back, undone-push, within-batch}

@@ -1,7 +1,7 @@
 use Rattle.std.proofs.Common.{◌≡◌, ◌∙◌, sym, ap, refl, rules, arith, ◌∷◌, ◌++◌, [], drop, length, map}
 use Rattle.std.proofs.lemmas.List.{drop-map}
 use Rattle.std.specs.Vec.Iter.{into_iter_items}
-use Rattle.resolver_base.specs.Names.{names}
+use Rattle.resolver_root.specs.Names.{names}
 use Rattle.resolver_ingress.specs.Backlog.{item_of, keys_of_items, queued_all, undone_all}
 use Rattle.resolver_ingress.specs.Undone.{without_each}
 use Rattle.resolver_ingress.proofs.Places.{grown-back, grown-longer, grows-none, grows-on}

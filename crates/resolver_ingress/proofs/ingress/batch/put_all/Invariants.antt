@@ -1,7 +1,7 @@
 use Rattle.std.proofs.Common.{◌≡◌, ◌+◌, ◌≤◌, length, map}
 use Rattle.std.specs.Vec.{vec_len, vec_capacity}
 use Rattle.std.specs.Vec.Iter.{into_iter_items}
-use Rattle.resolver_base.specs.Names.{names}
+use Rattle.resolver_root.specs.Names.{names}
 use Rattle.resolver_ingress.specs.Backlog.{item_of, keys_of_items, queued_all, undone_all}
 use Rattle.resolver_ingress.specs.Places.{Grows, IsPlaced}
 use Rattle.resolver_ingress.proofs.ingress.batch.put_all.Given as goal

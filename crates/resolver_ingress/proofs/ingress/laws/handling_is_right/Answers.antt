@@ -1,5 +1,5 @@
 use Rattle.std.proofs.Common.{◌∙◌}
-use Rattle.resolver_base.specs.Names.{names}
+use Rattle.resolver_root.specs.Names.{names}
 use Rattle.resolver_ingress.proofs.Right.{flips-by, follows-by, right-handled}
 use Rattle.resolver_ingress.proofs.ingress.laws.handling_is_right.Goals as goal
 

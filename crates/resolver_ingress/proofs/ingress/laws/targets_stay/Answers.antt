@@ -1,5 +1,5 @@
 use Rattle.std.proofs.Common.{◌∙◌}
-use Rattle.resolver_base.specs.Names.{names}
+use Rattle.resolver_root.specs.Names.{names}
 use Rattle.resolver_ingress.proofs.Fetched.{fetched-queued_all}
 use Rattle.resolver_ingress.proofs.Right.{flips-by, follows-by}
 use Rattle.resolver_ingress.proofs.ingress.laws.targets_stay.Goals as goal

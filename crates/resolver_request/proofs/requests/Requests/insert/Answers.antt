@@ -3,7 +3,7 @@ use Rattle.std.specs.BTreeMap.{is_at}
 use Rattle.std.specs.BTreeSet.{insert_key}
 use Rattle.std.specs.Map.{lookup}
 use Rattle.std.specs.Ordering.{nat_cmp}
-use Rattle.resolver_base.specs.Priorities.{pair_order}
+use Rattle.resolver_priorities.specs.Priorities.{pair_order}
 use Rattle.resolver_request.specs.Ids.{is_held}
 use Rattle.resolver_request.specs.Requests.{is_asked, request_of}
 use Rattle.resolver_request.proofs.Timed.{timed-put, timed-back}

@@ -1,7 +1,7 @@
 use Rattle.std.proofs.Common.{◌≡◌, ◌∙◌, ap, filter, is_some, rules}
 use Rattle.std.proofs.lemmas.Fn.{filter_same}
 use Rattle.std.proofs.lemmas.Map.Made.{filter_same_pairs}
-use Rattle.resolver_base.specs.Priorities.{retained}
+use Rattle.resolver_priorities.specs.Priorities.{retained}
 use Rattle.resolver_request.specs.Requests.{request_of}
 use Rattle.std.proofs.lemmas.Cmp.{eq_by_cmp_equiv}
 use Rattle.std.proofs.lemmas.Map.Keys.{IsDistinct-from_sorted}

@@ -1,4 +1,4 @@
-use Rattle.resolver_base.specs.Names.{names}
+use Rattle.resolver_root.specs.Names.{names}
 use Rattle.resolver_actor.specs.OpaqueActor.{status_of}
 use Rattle.resolver_actor.proofs.Agrees.{agree-none}
 use Rattle.resolver_actor.proofs.Going.{end_goes}

@@ -1,6 +1,6 @@
 use Rattle.std.proofs.Common.{◌≡◌, map}
 use Rattle.std.specs.Vec.Iter.{into_iter_items}
-use Rattle.resolver_base.specs.Names.{names}
+use Rattle.resolver_root.specs.Names.{names}
 use Rattle.resolver_actor.specs.Opaque.{fetch}
 use Rattle.resolver_actor.specs.OpaqueInputs.{item_of}
 use Rattle.resolver_actor.specs.OpaqueSteps.{onto}

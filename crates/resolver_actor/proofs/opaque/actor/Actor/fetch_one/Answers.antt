@@ -1,5 +1,5 @@
 use Rattle.std.proofs.Common.{sym, subst}
-use Rattle.resolver_base.specs.Names.{names}
+use Rattle.resolver_root.specs.Names.{names}
 use Rattle.resolver_actor.specs.OpaqueActor.{machine_with, status_of}
 use Rattle.resolver_actor.specs.Opaque.{fetch_one}
 use Rattle.resolver_actor.specs.OpaqueInputs.{item_of}

@@ -1,8 +1,8 @@
 use Rattle.std.proofs.Common.{◌≡◌, ◌∙◌, ℕ, List, ◌∷◌, ◌++◌, [], ap, sym, refl, rules}
-use Rattle.resolver_base.specs.declared.root.Delivery.{Delivery}
+use Rattle.resolver_root.specs.declared.root.Delivery.{Delivery}
 use Rattle.resolver_actor.specs.declared.opaque.actor.Effect.{Effect}
 use Rattle.resolver_actor.specs.declared.opaque.actor.Effect.TheVariants.{Deliver}
-use Rattle.resolver_base.specs.Names.{names}
+use Rattle.resolver_root.specs.Names.{names}
 use Rattle.resolver_actor.specs.OpaqueActor.{status_of}
 use Rattle.resolver_actor.proofs.Going.{hand_out_goes, agree-delivered, asked-idle, asked-stage, at-idle, idle-asked, idle-tracked, idle-free_number, asked-none}
 use Rattle.resolver_actor.proofs.opaque.actor.Actor.hand_out.Goals as goal

@@ -1,6 +1,6 @@
 use Rattle.std.proofs.Common.{Some, ap, ◌++◌, ◌≡◌}
 use Rattle.std.proofs.lemmas.Cmp.{eq_by_cmp_equiv}
-use Rattle.resolver_base.specs.Names.{names}
+use Rattle.resolver_root.specs.Names.{names}
 use Rattle.resolver_actor.specs.Opaque.{retain}
 use Rattle.resolver_actor.specs.OpaqueActor.{machine_of, machine_with, status_of}
 use Rattle.resolver_actor.specs.OpaqueFound.{each_called_off}

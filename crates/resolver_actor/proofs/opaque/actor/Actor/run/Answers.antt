@@ -1,7 +1,7 @@
 use Rattle.std.proofs.Common.{◌≡◌, refl, sym, ◌∙◌, subst, rules, arith, [], ◌∷◌, map, append-nil}
 use Rattle.std.proofs.lemmas.List.{nil_from_length}
 use Rattle.std.specs.Vec.Iter.{into_iter_items}
-use Rattle.resolver_base.specs.Names.{names}
+use Rattle.resolver_root.specs.Names.{names}
 use Rattle.resolver_actor.specs.OpaqueInputs.{input_of}
 use Rattle.resolver_actor.specs.OpaqueSteps.{Runs, answer_of, step_on, MayWant}
 use Rattle.resolver_actor.specs.Opaque.{Failed}

@@ -1,6 +1,6 @@
 use Rattle.std.proofs.Common.{◌≡◌, ◌∙◌, ap, sym, subst, rules, Err, IfSome}
 use Rattle.std.proofs.lemmas.Cmp.{eq_by_cmp_equiv}
-use Rattle.resolver_base.specs.Names.{names}
+use Rattle.resolver_root.specs.Names.{names}
 use Rattle.resolver_actor.specs.Opaque.{row_of, start_again, start_all, waiting_by_due}
 use Rattle.resolver_actor.specs.OpaqueSteps.{onto, Goes}
 use Rattle.resolver_actor.proofs.Going.{quiet_goes}

@@ -1,5 +1,5 @@
 use Rattle.std.proofs.Common.{◌≡◌, ◌==◌, false, length}
-use Rattle.resolver_base.specs.Names.{names}
+use Rattle.resolver_root.specs.Names.{names}
 use Rattle.resolver_actor.specs.Opaque.{start_all, waiting_by_due}
 use Rattle.resolver_actor.specs.OpaqueSteps.{onto}
 use Rattle.resolver_actor.proofs.opaque.actor.Actor.start_due.Given as goal

@@ -1,6 +1,6 @@
 use Rattle.std.proofs.Common.{None, ◌≡◌, ap, sym, refl, rules, subst}
 use Rattle.std.proofs.lemmas.Cmp.{eq_by_cmp_equiv}
-use Rattle.resolver_base.specs.Names.{names}
+use Rattle.resolver_root.specs.Names.{names}
 use Rattle.resolver_actor.specs.Opaque.{row_of}
 use Rattle.resolver_actor.specs.OpaqueActor.{status_of}
 use Rattle.resolver_actor.proofs.Going.{absent-first, absent-second, start_new_goes, agree-started, agree-undone}

@@ -1,5 +1,5 @@
 use Rattle.std.proofs.Common.{ap, sym, ◌∙◌, ◌||◌}
-use Rattle.resolver_base.specs.Priorities.{has_item}
+use Rattle.resolver_priorities.specs.Priorities.{has_item}
 use Rattle.resolver_fetch.proofs.Queues.{has-joined}
 use Rattle.resolver_fetch.proofs.fetcher.queues.Queues.contains.Goals as goal
 

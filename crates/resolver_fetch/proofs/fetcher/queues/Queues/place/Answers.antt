@@ -1,5 +1,5 @@
 use Rattle.std.proofs.Common.{◌≡◌, ap, sym, ◌∙◌, [], ◌∷◌, None, option_map, find, rules}
-use Rattle.resolver_base.specs.Priorities.{is_of, listed, priorities_of}
+use Rattle.resolver_priorities.specs.Priorities.{is_of, listed, priorities_of}
 use Rattle.resolver_fetch.proofs.Queues.{place-fresh, place-retry}
 use Rattle.resolver_fetch.proofs.fetcher.queues.Queues.place.Goals as goal
 

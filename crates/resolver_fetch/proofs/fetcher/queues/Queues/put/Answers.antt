@@ -1,5 +1,5 @@
 use Rattle.std.proofs.Common.{◌≡◌, ap, sym, ◌∙◌}
-use Rattle.resolver_base.specs.Priorities.{put}
+use Rattle.resolver_priorities.specs.Priorities.{put}
 use Rattle.resolver_fetch.specs.Queues.{joined}
 use Rattle.resolver_fetch.specs.Waiting.{fresh_at, place_order, retry_at}
 use Rattle.resolver_fetch.proofs.Pending.{either_way}

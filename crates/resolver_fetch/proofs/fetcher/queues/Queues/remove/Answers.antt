@@ -1,5 +1,5 @@
 use Rattle.std.proofs.Common.{◌≡◌, ap, ◌∙◌, true, false, [], ◌∷◌, map, not}
-use Rattle.resolver_base.specs.Priorities.{is_of, priorities_of, without}
+use Rattle.resolver_priorities.specs.Priorities.{is_of, priorities_of, without}
 use Rattle.resolver_fetch.specs.Queues.{joined}
 use Rattle.resolver_fetch.proofs.Queues.{apart-fewer-fresh, apart-fewer-retry, without-fresh, without-retry}
 use Rattle.resolver_fetch.proofs.fetcher.queues.Queues.remove.Goals as goal

@@ -1,5 +1,5 @@
 use Rattle.std.proofs.Common.{◌≡◌, ap, sym, ◌∙◌, filter, rules}
-use Rattle.resolver_base.specs.Priorities.{retained}
+use Rattle.resolver_priorities.specs.Priorities.{retained}
 use Rattle.resolver_fetch.proofs.Queues.{apart-filtered, by_kind, filter-joined, kinds-joined}
 use Rattle.resolver_fetch.proofs.fetcher.queues.Queues.retain.Goals as goal
 

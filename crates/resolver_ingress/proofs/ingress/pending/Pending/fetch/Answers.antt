@@ -1,5 +1,5 @@
 use Rattle.std.proofs.Common.{map}
-use Rattle.resolver_base.specs.Names.{names}
+use Rattle.resolver_root.specs.Names.{names}
 use Rattle.resolver_ingress.specs.Backlog.{backlog_of, item_of}
 use Rattle.resolver_ingress.proofs.Right.{apart-queued_all, flips-by, follows-by, right-fetch}
 use Rattle.resolver_ingress.proofs.ingress.pending.Pending.fetch.Goals as goal

@@ -1,5 +1,5 @@
 use Rattle.std.proofs.Common.{rules}
-use Rattle.resolver_base.specs.Names.{names}
+use Rattle.resolver_root.specs.Names.{names}
 use Rattle.resolver_ingress.proofs.Drained.{filed-none}
 use Rattle.resolver_ingress.proofs.ingress.pending.Pending.new.Goals as goal
 

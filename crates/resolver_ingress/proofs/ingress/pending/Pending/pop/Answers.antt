@@ -1,5 +1,5 @@
 use Rattle.std.proofs.Common.{◌≡◌, ◌∙◌, ◌<◌, refl, sym, ap, take, map, length, List, [], ◌∷◌, rules, arith}
-use Rattle.resolver_base.specs.Names.{names}
+use Rattle.resolver_root.specs.Names.{names}
 use Rattle.resolver_ingress.specs.Backlog.{Backlog, Fetches, backlog_of, behind_first, item_of, waiting}
 use Rattle.resolver_ingress.specs.declared.ingress.FetchKey.{FetchKey}
 use Rattle.resolver_ingress.proofs.Drained.{filed-none}

@@ -1,5 +1,5 @@
 use Rattle.std.proofs.Common.{◌≡◌, ◌∙◌, ap, rules, List, ◌∷◌, ◌++◌, [], map}
-use Rattle.resolver_base.specs.Names.{names}
+use Rattle.resolver_root.specs.Names.{names}
 use Rattle.resolver_ingress.specs.Backlog.{Backlog, Item, backlog_of, item_of, kept, keys_kept, keys_of_items}
 use Rattle.resolver_ingress.proofs.Pruned.{apart-kept, keys-of-items}
 use Rattle.resolver_ingress.proofs.Right.{flips-by, follows-by, right-retain}

@@ -5,7 +5,7 @@ use Rattle.resolver_base.specs.declared.base.fault.Fault.{Fault}
 use Rattle.resolver_base.specs.declared.base.fault.Fault.TheVariants.{Exhausted, OutOfMemory}
 use Rattle.resolver_base.specs.declared.base.feedback.Feedback.{Feedback}
 use Rattle.resolver_base.specs.declared.base.feedback.Feedback.TheVariants as feedbacks
-use Rattle.resolver_base.specs.Names.{Names, names}
+use Rattle.resolver_root.specs.Names.{Names, names}
 use Rattle.resolver_ingress.specs.Backlog.{Told, told_of}
 use Rattle.resolver_desk.specs.Desk.{Book, Desk, desk_put, feedback_of, has_room, placed, with_put}
 use Rattle.resolver_mailbox.specs.Shares.{IsAdded, Share, first_share, with_message}

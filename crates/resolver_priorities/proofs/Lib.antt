@@ -1,0 +1,4 @@
+pub mod Ordered
+pub mod Priorities
+pub mod Forgotten
+pub mod From

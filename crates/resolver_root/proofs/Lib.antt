@@ -1,0 +1,4 @@
+pub mod MappedInPart
+pub mod Lexicographic
+pub mod KeepsAny
+pub mod Joins
