@@ -11,11 +11,13 @@ use bytes::Bytes;
 use futures::Future;
 use futures::channel::{mpsc, oneshot};
 use futures::task::{Context, Poll};
-use resolver::base::Fault;
-use resolver::mailbox::Unrecorded;
-use resolver::opaque::{Fetcher, Loop, init, open};
-use resolver::p2p::mocks::Key;
-use resolver::{Handle, Outcome, Resolution, Resolver, opaque};
+use resolver_base::base::Fault;
+use resolver_mailbox::mailbox::Unrecorded;
+use resolver_opaque::{Fetcher, Loop, init, open};
+use resolver_p2p::mocks::Key;
+use resolver_root::{Outcome, Resolution};
+use resolver_surface::Resolver;
+use resolver_worker::Handle;
 use std::alloc::{AllocGlobal, Global};
 use std::fmt::Write;
 use std::num::NonZeroUsize;
@@ -86,7 +88,7 @@ impl Fetcher for Source {
 pub type Looped<R> = Loop<Key, Bytes, u16, Below, R, Telling, Source, Judge>;
 
 /// A handle of its mailbox.
-pub type Asked<R> = opaque::Resolver<Key, u16, Peer, Below, Unrecorded, R>;
+pub type Asked<R> = resolver_opaque::Resolver<Key, u16, Peer, Below, Unrecorded, R>;
 
 /// Where a look is answered.
 pub type Looked = oneshot::Sender<Option<Bytes>>;

@@ -11,12 +11,10 @@ use bytes::Bytes;
 use futures::Stream;
 use futures::channel::{mpsc, oneshot};
 use futures::task::{Context, Poll};
-use resolver::base::{
-    Blocker, Check, Draws, Fault, Feedback, Provider, Receiver, Seeded, Sender, Unreliable,
-};
-use resolver::p2p::Producer;
-use resolver::p2p::mocks::Key;
-use resolver::{Consumer, Delivery, Outcome};
+use resolver_base::base::{Check, Draws, Fault, Feedback, Seeded, Sender, Unreliable};
+use resolver_p2p::mocks::Key;
+use resolver_root::{Delivery, Outcome};
+use resolver_surface::{Blocker, Consumer, Producer, Provider, Receiver};
 use std::alloc::Global;
 
 /// Peer sets, blocked sets or messages, as a test gives them.

@@ -3,8 +3,9 @@
 ghost use Rattle.std.specs.Prelude.{◌≡◌, nat_lt};
 ghost use Rattle.std.proofs.Common.{rules};
 
-use resolver::base::{Faithful, Predicate, PublicKey};
-use resolver::p2p::mocks::Key;
+use resolver_base::base::{Faithful, PublicKey};
+use resolver_p2p::mocks::Key;
+use resolver_root::Predicate;
 
 /// A name of a peer.
 #[derive(Clone, Copy, Debug, PartialEq, Eq, PartialOrd, Ord, Hash)]

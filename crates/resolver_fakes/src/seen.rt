@@ -3,9 +3,9 @@
 use crate::names::Peer;
 use bytes::Bytes;
 use futures::channel::mpsc;
-use resolver::Delivery;
-use resolver::base::Check;
-use resolver::p2p::mocks::Key;
+use resolver_base::base::Check;
+use resolver_p2p::mocks::Key;
+use resolver_root::Delivery;
 use std::fmt;
 use std::fmt::{Formatter, Write};
 use std::test::Fail;

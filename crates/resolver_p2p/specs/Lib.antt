@@ -1,1 +1,2 @@
 pub mod Configured
+pub mod MockKeys

@@ -10,6 +10,7 @@ mod config;
 mod engine;
 mod looping;
 mod mail;
+pub mod mocks;
 mod starting;
 
 pub use config::Config;

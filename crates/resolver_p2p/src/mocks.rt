@@ -23,7 +23,7 @@ impl fmt::Display for Key {
 
 impl Span for Key {
     ghost use Rattle.std.proofs.Common.{lit<, refl, eq-eqb};
-    ghost use Rattle.resolver.specs.MockKeys.{bytes_of, read_from, bytes_of-read_from};
+    ghost use Rattle.resolver_p2p.specs.MockKeys.{bytes_of, read_from, bytes_of-read_from};
 
     ghost SIZE = { 1 };
 
