@@ -1,7 +1,6 @@
-//! `example-store`: a store that wants 20 chunks for three subscribers from an opaque source. Some are
-//! lacking at first and are asked for again when they are due; one is refused; a subscriber leaves. It prints
-//! a table of what arrived.
-#![tactic(auto)]
+//! A store that wants 20 chunks for three subscribers from an opaque source. Some are lacking at first and
+//! are asked for again when they are due; one is refused; a subscriber leaves. It prints a table of what
+//! arrived.
 
 ghost use Rattle.std.specs.Prelude.{◌==◌, not};
 ghost use Rattle.std.proofs.Common.{rules};
@@ -124,7 +123,8 @@ fn fill(store: &mut Store) -> Result<()> {
     Ok(())
 }
 
-fn main(rt: HostRuntime) -> Result<()> {
+/// Fills a store, and prints what arrived.
+pub fn run(rt: &(impl AllocGlobal + Print)) -> Result<()> {
     let alloc = rt.alloc();
     let mut store = Store {
         // what the source lacks, or what was refused, waits 100 nanoseconds

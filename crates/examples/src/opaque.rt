@@ -1,6 +1,5 @@
-//! `example-opaque`: a store reads four chunks by their keys, each for three readers, from a shelf. What asks
-//! the shelf runs in a thread of its own. It prints what arrived.
-#![tactic(auto)]
+//! A store reads four chunks by their keys, each for three readers, from a shelf. What asks the shelf runs
+//! in a thread of its own. It prints what arrived.
 
 ghost use Rattle.std.specs.Prelude.{◌≡◌, IfErr, true};
 ghost use Rattle.std.proofs.Common.{rules};
@@ -18,11 +17,18 @@ use resolver::p2p::mocks::Key;
 use resolver::{Consumer, Delivery, Fetch, Handle, Resolver, opaque};
 use std::alloc::Global;
 use std::num::NonZeroUsize;
+use std::random::RandomSource;
+use std::sync::Wait;
+use std::thread::Threads;
 
 /// What the store is asked through. Readers are named by numbers, and there are no peers.
 type Store<R> = opaque::Resolver<Key, u16, (), All, Unrecorded, R>;
 
-fn main(rt: HostRuntime) -> Result<()> {
+/// Reads the chunks, and prints each as it arrives.
+pub fn run<R>(rt: R) -> Result<()>
+where
+    R: Print + Threads + Wait + RandomSource + AllocGlobal + Copy + Drop + Send + 'static,
+{
     let alloc = rt.alloc();
     let (told, mut arrived) = mpsc::unbounded(alloc)?;
     let reader = Reader { alloc, told };

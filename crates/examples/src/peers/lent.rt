@@ -3,7 +3,7 @@
 ghost use Rattle.std.specs.Prelude.{true};
 ghost use Rattle.std.proofs.Common.{rules};
 
-use crate::network::{Peer, Seen, Told};
+use crate::peers::network::{Peer, Seen, Told};
 use futures::task::{Context, Poll};
 use resolver::base::{Blocker, Clock, Draws, Faithful, Predicate, Provider};
 use resolver::p2p::mocks::{Key, Quiet};

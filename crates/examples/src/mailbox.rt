@@ -1,6 +1,5 @@
-//! `example-mailbox`: two threads put 50 fetches each into a recorded mailbox with room for two messages,
-//! and one takes them. It prints how many keys came, and how many puts the book has of the two handles.
-#![tactic(auto)]
+//! Two threads put 50 fetches each into a recorded mailbox with room for two messages, and one takes them.
+//! It prints how many keys came, and how many puts the book has of the two handles.
 
 ghost use Rattle.std.specs.Prelude.{◌≡◌, true};
 
@@ -26,14 +25,18 @@ type Putter<N, R> = Sender<u32, u16, (), AllBut, N, R>;
 
 type Taker<N, R> = Receiver<u32, u16, (), AllBut, N, R>;
 
-fn main(rt: HostRuntime) -> Result<()> {
-    let (keys, puts) = run::<Brand, _>(rt, rt.alloc(), Pages::new())?;
+/// Names the mailbox, and prints what was counted of it.
+pub fn run<R>(rt: R) -> Result<()>
+where
+    R: AllocGlobal + Print + Threads + Wait + RandomSource + Copy + Drop + Send + 'static,
+{
+    let (keys, puts) = counted::<Brand, _>(rt, rt.alloc(), Pages::new())?;
     println!(rt; "{keys} keys came of {puts} puts")?;
     Ok(())
 }
 
 /// Opens a mailbox, has two threads put while this one takes, and counts the keys and the puts.
-fn run<N, R>(rt: R, alloc: Global, pages: Pages) -> Result<(u64, usize)>
+fn counted<N, R>(rt: R, alloc: Global, pages: Pages) -> Result<(u64, usize)>
 where
     N: Naming + Send + Sync + 'static,
     R: AllocGlobal + Threads + Wait + RandomSource + Copy + Drop + Send + 'static,

@@ -1,7 +1,5 @@
-//! `example-peers`: three engines in one process, over a network in memory. Engine 0 wants a key that the
-//! others have: 1 sends wrong bytes, which the consumer refuses, and 2 the right ones. It prints what
-//! engine 0 did.
-#![tactic(auto)]
+//! Three engines in one process, over a network in memory. Engine 0 wants a key that the others have: 1
+//! sends wrong bytes, which the consumer refuses, and 2 the right ones. It prints what engine 0 did.
 
 mod lent;
 mod network;
@@ -31,7 +29,11 @@ struct Running<R> {
     handle: Handle,
 }
 
-fn main(rt: HostRuntime) -> Result<()> {
+/// Runs the engines, and prints what was seen of engine 0.
+pub fn run<R>(rt: R) -> Result<()>
+where
+    R: Print + Threads + Wait + RandomSource + AllocGlobal + Copy + Drop + Send + 'static,
+{
     let alloc = rt.alloc();
     let (told, mut seen) = mpsc::unbounded(alloc)?;
     let taken = work(rt, alloc, &told)?;
@@ -87,7 +89,7 @@ where
     let (mut consumer, mut taken) = Consumer::new(alloc)?;
     consumer.add_expected(Key(7), Bytes::from_static(b"right"))?;
     let hands = (consumer, Producer::new(alloc));
-    let mut running = run(rt, alloc, (sets, guard), hands, net)?;
+    let mut running = begin(rt, alloc, (sets, guard), hands, net)?;
     running.mailbox.fetch(Fetch::from(Key(7)))?;
     let value = block_on(&rt, taken.next())?;
     end(&rt, running)?;
@@ -102,11 +104,11 @@ where
     let mut producer = Producer::new(alloc);
     producer.insert(Key(7), Bytes::from_static(bytes))?;
     let hands = (Consumer::dummy(alloc)?, producer);
-    run(rt, alloc, (Quiet::new(), Quiet::new()), hands, net)
+    begin(rt, alloc, (Quiet::new(), Quiet::new()), hands, net)
 }
 
 /// Runs an engine over what gives it its peers, what its effects go to, and its network.
-fn run<R, D, B>(
+fn begin<R, D, B>(
     rt: R,
     alloc: Global,
     peers: (D, B),

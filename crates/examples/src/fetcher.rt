@@ -1,7 +1,6 @@
-//! `example-fetcher`: twenty keys are asked of four peers, over a network in memory and with draws from a
-//! seed. The fetcher itself is peer 0, and the network refuses peer 3. It prints how many requests each peer
-//! got, and what becomes of the keys.
-#![tactic(auto)]
+//! Twenty keys are asked of four peers, over a network in memory and with draws from a seed. The fetcher
+//! itself is peer 0, and the network refuses peer 3. It prints how many requests each peer got, and what
+//! becomes of the keys.
 
 mod network;
 
@@ -23,7 +22,8 @@ struct Told {
     taken: [u64; 4],
 }
 
-fn main(rt: HostRuntime) -> Result<()> {
+/// Asks for the keys, and prints what became of them.
+pub fn run(rt: &(impl AllocGlobal + Print)) -> Result<()> {
     let told = shown(rt.alloc())?;
     let [_, first, second, third] = told.taken;
     println!(rt; "{} wait, {} asked", told.waiting, told.asked)?;

@@ -1,0 +1,25 @@
+//! `examples`: five first programs over the library, each a module. They run one after another, and a line
+//! with its name stands before what each prints. In a program of its own a module's `run` would be `main`,
+//! which takes the `HostRuntime`.
+#![tactic(auto)]
+
+mod fetcher;
+mod mailbox;
+mod opaque;
+mod peers;
+mod store;
+
+use anyhow::Result;
+
+fn main(rt: HostRuntime) -> Result<()> {
+    println!(rt; "store:")?;
+    store::run(&rt)?;
+    println!(rt; "mailbox:")?;
+    mailbox::run(rt)?;
+    println!(rt; "fetcher:")?;
+    fetcher::run(&rt)?;
+    println!(rt; "opaque:")?;
+    opaque::run(rt)?;
+    println!(rt; "peers:")?;
+    peers::run(rt)
+}
