@@ -1,4 +1,4 @@
-//! Tests of `resolver_base` and of `resolver_surface`, through their public calls.
+//! Tests of what both machines share, from names to deliveries, through public calls.
 //!
 //! They stand in a crate of their own, so that the libraries aren't proved a second time with them.
 #![tactic(auto)]
@@ -6,17 +6,27 @@
 #[cfg(test)]
 mod asserts;
 #[cfg(test)]
+mod completion;
+#[cfg(test)]
 mod consumer;
+#[cfg(test)]
+mod counting;
 #[cfg(test)]
 mod draws;
 #[cfg(test)]
+mod entries;
+#[cfg(test)]
 mod fault;
+#[cfg(test)]
+mod ingress;
 #[cfg(test)]
 mod names;
 #[cfg(test)]
 mod non_empty_vec;
 #[cfg(test)]
 mod numbers;
+#[cfg(test)]
+mod pending;
 #[cfg(test)]
 mod predicate;
 #[cfg(test)]
@@ -34,8 +44,16 @@ mod seeded;
 #[cfg(test)]
 mod sender;
 #[cfg(test)]
+mod slow;
+#[cfg(test)]
 mod sources;
 #[cfg(test)]
 mod span;
+#[cfg(test)]
+mod subscribers;
+#[cfg(test)]
+mod targets;
+#[cfg(test)]
+mod tracker;
 #[cfg(test)]
 mod unreliable;
