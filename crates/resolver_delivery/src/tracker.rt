@@ -14,8 +14,8 @@ use futures::task;
 use futures::task::Poll;
 use resolver_base::base::{Fault, Numbers};
 use resolver_demand::delivery::{Aborted, Completion, Entries};
+use resolver_loop::Consumer;
 use resolver_root::{Delivery, Outcome};
-use resolver_surface::Consumer;
 use std::alloc::{AllocError, Global};
 use std::marker::Model;
 

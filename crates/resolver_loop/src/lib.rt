@@ -1,4 +1,8 @@
-//! A loop in a thread of its own: what the loops of both machines are made of.
+//! What a caller lends to the loops of a resolver, and what both loops are made of.
+//!
+//! Lent are a consumer and a producer, the sources that a loop polls, and a clock. `mocks` has some
+//! for tests. Beside them stand the traits of the handles through which a resolver is asked,
+//! `Resolver` and `TargetedResolver`.
 //!
 //! A loop takes what is ready, one input a `Turn`, until its `Ending`. `start` runs one in a thread,
 //! and its `Handle` waits for the end. `Judging` and `Serving` are consumer and producer with what
@@ -7,19 +11,34 @@
 #![tactic(auto)]
 
 mod awaited;
+mod blocker;
+mod clock;
+mod consumer;
 mod deadline;
 mod ending;
 mod handle;
 mod judging;
+pub mod mocks;
 mod peers;
+mod producer;
+mod provider;
+mod receiver;
+mod resolver;
 mod serving;
 mod turn;
 
 pub use awaited::Awaited;
+pub use blocker::Blocker;
+pub use clock::Clock;
+pub use consumer::Consumer;
 pub use deadline::{earlier, poll_moment};
 pub use ending::Ending;
 pub use handle::{Handle, start};
 pub use judging::Judging;
 pub use peers::Peers;
+pub use producer::Producer;
+pub use provider::Provider;
+pub use receiver::Receiver;
+pub use resolver::{Resolver, TargetedResolver};
 pub use serving::Serving;
 pub use turn::{TURNS, Turn};

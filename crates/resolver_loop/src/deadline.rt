@@ -3,10 +3,10 @@
 ghost use Rattle.std.specs.Prelude.{◌≡◌, ◌<◌, ◌^◌, IfSome};
 ghost use Rattle.futures.specs.Poll.{OnPending};
 ghost use Rattle.futures.specs.Task.{IsArmed, Keeps};
-ghost use Rattle.resolver_worker.specs.Deadlines.{earlier};
+ghost use Rattle.resolver_loop.specs.Deadlines.{earlier};
 
+use crate::Clock;
 use futures::task::{Context, Poll};
-use resolver_surface::Clock;
 
 /// No moment of a clock reaches it.
 const END_OF_TIME: u128 = 1 << 94;

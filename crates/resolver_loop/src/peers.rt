@@ -4,8 +4,8 @@ ghost use Rattle.std.specs.Prelude.{◌≡◌, true};
 ghost use Rattle.futures.specs.Poll.{OnPending};
 ghost use Rattle.futures.specs.Task.{IsArmed, Keeps};
 
+use crate::{Blocker, Provider};
 use futures::task::{Context, Poll};
-use resolver_surface::{Blocker, Provider};
 
 /// What gives the sets of peers, and what blocks peers. Once the blocked set changes no more, it
 /// isn't asked for again.

@@ -4,11 +4,11 @@ ghost use Rattle.std.specs.Prelude.{◌≡◌, IfErr};
 ghost use Rattle.futures.specs.Task.{Keeps};
 ghost use Rattle.resolver_base.specs.declared.base.fault.Fault.TheVariants.{OutOfMemory};
 
+use crate::Producer;
 use crate::awaited::Awaited;
 use bytes::Bytes;
 use futures::task::{Context, Poll};
 use resolver_base::base::Fault;
-use resolver_surface::Producer;
 use std::alloc::Global;
 
 /// A producer, and the requests of peers that it hasn't answered so far, each under its number.

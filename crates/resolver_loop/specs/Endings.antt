@@ -2,8 +2,8 @@
 use Rattle.std.specs.Prelude.{Option, Some, None, Result, Ok, Err}
 use Rattle.resolver_base.specs.declared.base.fault.Fault.{Fault}
 use Rattle.resolver_base.specs.declared.base.fault.Fault.TheVariants.{OutOfMemory, Exhausted}
-use Rattle.resolver_worker.specs.declared.ending.Ending.{Ending}
-use Rattle.resolver_worker.specs.declared.ending.Ending.TheVariants.{Complete, OutOfMemory as Starved, Exhausted as Spent}
+use Rattle.resolver_loop.specs.declared.ending.Ending.{Ending}
+use Rattle.resolver_loop.specs.declared.ending.Ending.TheVariants.{Complete, OutOfMemory as Starved, Exhausted as Spent}
 
 -- what the owner of a loop that ended so is told
 abbrev pub refusal_of : Ending → Result (Unit {0}) Fault

@@ -1,7 +1,7 @@
 //! How a loop ended.
 
 ghost use Rattle.std.specs.Prelude.{◌≡◌};
-ghost use Rattle.resolver_worker.specs.Endings.{ending_of, refusal_of};
+ghost use Rattle.resolver_loop.specs.Endings.{ending_of, refusal_of};
 
 use resolver_base::base::Fault;
 

@@ -4,7 +4,7 @@ ghost use Rattle.std.specs.Prelude.{◌≡◌, [], IfErr, IfOk, OnErr, OnOk};
 ghost use Rattle.std.specs.BTreeMap.{insert_entry, is_at};
 ghost use Rattle.std.specs.Map.{lookup, remove_entry};
 ghost use Rattle.resolver_base.specs.declared.base.fault.Fault.TheVariants.{OutOfMemory};
-ghost use Rattle.resolver_surface.specs.Verdict.{is_right};
+ghost use Rattle.resolver_loop.specs.Verdict.{is_right};
 
 use crate::consumer::Consumer as Judge;
 use futures::channel::mpsc::SendError;

@@ -5,11 +5,11 @@ ghost use Rattle.futures.specs.Poll.{OnPending};
 ghost use Rattle.futures.specs.Task.{Keeps};
 ghost use Rattle.resolver_base.specs.declared.base.fault.Fault.TheVariants.{OutOfMemory};
 
+use crate::Consumer;
 use crate::awaited::Awaited;
 use futures::task::{Context, Poll};
 use resolver_base::base::Fault;
 use resolver_root::{Delivery, Outcome};
-use resolver_surface::Consumer;
 use std::alloc::Global;
 
 /// A consumer, and the deliveries that it hasn't judged so far, each under its number.
