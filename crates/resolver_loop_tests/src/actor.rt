@@ -1,22 +1,21 @@
 //! An actor's loop in memory over an opaque source, and what its test holds of it.
 
-use crate::acts::wanted;
-use crate::both::both;
-use crate::lent::Judge;
-use crate::names::{Below, Peer};
-use crate::seen::{Seen, Wrong, spell};
-use crate::watch::{Standing, Telling, Watch};
-use crate::world::judge;
 use bytes::Bytes;
 use futures::Future;
 use futures::channel::{mpsc, oneshot};
 use futures::task::{Context, Poll};
-use resolver_base::base::Fault;
-use resolver_loop::{Handle, Resolver};
-use resolver_mailbox::mailbox::Unrecorded;
-use resolver_opaque::{Fetcher, Loop, init, open};
-use resolver_p2p::mocks::Key;
-use resolver_root::{Outcome, Resolution};
+use resolver::base::Fault;
+use resolver::mailbox::Unrecorded;
+use resolver::opaque::{Fetcher, Loop, init, open};
+use resolver::p2p::mocks::Key;
+use resolver::{Handle, Outcome, Resolution, Resolver, opaque};
+use resolver_fakes::acts::wanted;
+use resolver_fakes::both::both;
+use resolver_fakes::lent::Judge;
+use resolver_fakes::names::{Below, Peer};
+use resolver_fakes::seen::{Seen, Wrong, spell};
+use resolver_fakes::watch::{Standing, Telling, Watch};
+use resolver_fakes::world::judge;
 use std::alloc::{AllocGlobal, Global};
 use std::fmt::Write;
 use std::num::NonZeroUsize;
@@ -87,7 +86,7 @@ impl Fetcher for Source {
 pub type Looped<R> = Loop<Key, Bytes, u16, Below, R, Telling, Source, Judge>;
 
 /// A handle of its mailbox.
-pub type Asked<R> = resolver_opaque::Resolver<Key, u16, Peer, Below, Unrecorded, R>;
+pub type Asked<R> = opaque::Resolver<Key, u16, Peer, Below, Unrecorded, R>;
 
 /// Where a look is answered.
 pub type Looked = oneshot::Sender<Option<Bytes>>;
