@@ -7,7 +7,8 @@
 //! A loop takes what is ready, one input a `Turn`, until its `Ending`. `start` runs one in a thread,
 //! and its `Handle` waits for the end. `Judging` and `Serving` are consumer and producer with what
 //! they haven't answered, `Peers` the sources of peers. `Awaited` holds the one-shots that a loop
-//! waits for, each under its number.
+//! waits for, each under its number. `Tracker` is for callers with a loop of their own: it hands
+//! values to its consumer, each under a number, and is polled for what is said of them.
 #![tactic(auto)]
 
 mod awaited;
@@ -25,7 +26,9 @@ mod provider;
 mod receiver;
 mod resolver;
 mod serving;
+mod tracker;
 mod turn;
+mod verdicts;
 
 pub use awaited::Awaited;
 pub use blocker::Blocker;
@@ -41,4 +44,5 @@ pub use provider::Provider;
 pub use receiver::Receiver;
 pub use resolver::{Resolver, TargetedResolver};
 pub use serving::Serving;
+pub use tracker::Tracker;
 pub use turn::{TURNS, Turn};

@@ -1,5 +1,5 @@
 use Rattle.futures.specs.Task.{Keeps}
-use Rattle.resolver_delivery.proofs.verdicts.Verdicts.poll.Given as goal
+use Rattle.resolver_loop.proofs.verdicts.Verdicts.poll.Given as goal
 
 -- What was so of the poll before stays so.
 abbrev pub invariant-loop-number : goal.invariant-loop-number

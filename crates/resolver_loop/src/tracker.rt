@@ -7,14 +7,14 @@ ghost use Rattle.resolver_base.specs.declared.base.fault.Fault.TheVariants.{OutO
 ghost use Rattle.resolver_demand.specs.Entries.{accepted, changed, completed, delivered, inserted, is_accepted, is_tracked, number_of, redelivered, removed, response_changed, response_of, retained, state_of, with_response};
 ghost use Rattle.futures.specs.Poll.{IfReady, OnPending};
 ghost use Rattle.futures.specs.Task.{Keeps};
-ghost use Rattle.resolver_delivery.specs.Polled.{Completes};
+ghost use Rattle.resolver_loop.specs.Polled.{Completes};
 
+use crate::Consumer;
 use crate::verdicts::Verdicts;
 use futures::task;
 use futures::task::Poll;
 use resolver_base::base::{Fault, Numbers};
 use resolver_demand::delivery::{Aborted, Completion, Entries};
-use resolver_loop::Consumer;
 use resolver_root::{Delivery, Outcome};
 use std::alloc::{AllocError, Global};
 use std::marker::Model;
