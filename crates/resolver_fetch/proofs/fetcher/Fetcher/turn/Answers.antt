@@ -1,4 +1,6 @@
+use Rattle.std.proofs.Common.{inl}
 use Rattle.resolver_fetch.specs.Orders.{orders}
+use Rattle.resolver_fetch.proofs.Fetching.{on-err}
 use Rattle.resolver_fetch.proofs.Progress.{fits-taken, goes-forward, if-refused, is-answerable, only-memory}
 use Rattle.resolver_fetch.proofs.Stepping.{onto-ok}
 use Rattle.resolver_fetch.proofs.fetcher.Fetcher.turn.Goals as goal
@@ -30,3 +32,20 @@ returns-clause-only g c =
     (λ fault refused. only-memory fault (λ other.
     fits-taken (orders g.K.Ord.cmp g.P.Ord.cmp) c.args.self.now c.args.ask c.requires.asked c.in_ok-answer.answer c.in_ok-answer.ensures.fits fault (refused other)))
     c.scan_answer.ensures.refused
+
+pub returns-clause-taken : goal.returns-clause-taken
+returns-clause-taken g c =
+    onto-ok c.scan_answer.result _ _
+    (λ taken. (c.in_ok-answer.answer, record { ask = c.args.ask; asked = c.requires.asked; said = c.in_ok-answer.ensures.says; taken = taken }))
+    c.scan_answer.ensures.ok
+
+pub returns-clause-keeps : goal.returns-clause-keeps
+returns-clause-keeps g c =
+    let by_key = g.met.K.Ord.total in
+    let by_peer = g.met.P.Ord.total in
+    onto-ok c.scan_answer.result _ _
+    (λ taken. (goes-forward (orders g.K.Ord.cmp g.P.Ord.cmp) by_key by_peer c.args.self.now c.requires.sound c.in_ok-answer.answer c.scan_answer.new.self taken).2)
+    c.scan_answer.ensures.ok
+
+pub returns-clause-said : goal.returns-clause-said
+returns-clause-said g c = on-err c.scan_answer.result _ (inl (c.in_ok-answer.answer, c.in_ok-answer.ensures.says))
