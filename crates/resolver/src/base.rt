@@ -7,6 +7,6 @@ pub use moment::Moment;
 pub use resolver_base::base::{
     Check, Draws, Faithful, Fault, Feedback, Numbers, PublicKey, Seeded, Sender, Span, Unreliable,
 };
+pub use resolver_loop::{Blocker, Clock, Provider, Receiver};
 pub use resolver_priorities::PrioritySet;
 pub use resolver_root::{NonEmptyVec, Predicate};
-pub use resolver_surface::{Blocker, Clock, Provider, Receiver};

@@ -9,10 +9,9 @@
 pub use resolver_actor::laws;
 pub use resolver_demand::subscribers;
 pub use resolver_ingress::ingress;
+pub use resolver_loop::{Consumer, Ending, Handle, Resolver, TargetedResolver};
 pub use resolver_mailbox::mailbox;
 pub use resolver_root::{Delivery, Fetch, Outcome, Resolution};
-pub use resolver_surface::{Consumer, Resolver, TargetedResolver};
-pub use resolver_worker::{Ending, Handle};
 
 pub mod base;
 pub mod delivery;

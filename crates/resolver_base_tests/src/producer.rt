@@ -3,7 +3,7 @@ use crate::names::Letter;
 use bytes::Bytes;
 use futures::task::Poll;
 use futures::test::MockTask;
-use resolver_surface::{Producer, mocks};
+use resolver_loop::{Producer, mocks};
 use std::panic::Expect;
 use std::process::Abort;
 

@@ -1,8 +1,8 @@
 use crate::names::Letter;
 use futures::task::Poll;
 use futures::test::MockTask;
-use resolver_surface::mocks::Quiet;
-use resolver_surface::{Blocker, Provider};
+use resolver_loop::mocks::Quiet;
+use resolver_loop::{Blocker, Provider};
 use std::panic::Expect;
 
 /// Whether a provider has no set so far.

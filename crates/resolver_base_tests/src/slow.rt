@@ -8,8 +8,8 @@ use bytes::Bytes;
 use futures::channel::mpsc::SendError;
 use futures::channel::{mpsc, oneshot};
 use resolver_base::base::Fault;
+use resolver_loop::Consumer;
 use resolver_root::{Delivery, Outcome};
-use resolver_surface::Consumer;
 use std::alloc::Global;
 
 /// Hands the test what its verdicts are sent by.

@@ -5,7 +5,7 @@ use futures::Stream;
 use futures::channel::mpsc;
 use futures::task::{Context, Poll, Source, Waker};
 use futures::test::MockTask;
-use resolver_surface::{Clock, Receiver};
+use resolver_loop::{Clock, Receiver};
 use std::panic::Expect;
 use std::process::Abort;
 

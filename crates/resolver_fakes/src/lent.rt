@@ -12,9 +12,9 @@ use futures::Stream;
 use futures::channel::{mpsc, oneshot};
 use futures::task::{Context, Poll};
 use resolver_base::base::{Check, Draws, Fault, Feedback, Seeded, Sender, Unreliable};
+use resolver_loop::{Blocker, Consumer, Producer, Provider, Receiver};
 use resolver_p2p::mocks::Key;
 use resolver_root::{Delivery, Outcome};
-use resolver_surface::{Blocker, Consumer, Producer, Provider, Receiver};
 use std::alloc::Global;
 
 /// Peer sets, blocked sets or messages, as a test gives them.

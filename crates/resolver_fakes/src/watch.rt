@@ -7,7 +7,7 @@ ghost use Rattle.futures.specs.Task.{IsArmed, Keeps};
 use futures::channel::mpsc;
 use futures::spin::lock;
 use futures::task::{Context, Poll, Source, Waker};
-use resolver_surface::Clock;
+use resolver_loop::Clock;
 use std::alloc::{AllocError, Global};
 use std::sync::{Arc, Mutex};
 

@@ -2,6 +2,8 @@
 #![tactic(auto)]
 
 #[cfg(test)]
+mod actor;
+#[cfg(test)]
 mod asserts;
 #[cfg(test)]
 mod closing;

@@ -1,10 +1,10 @@
+use crate::actor::{Ends, Held, run};
 use bytes::Bytes;
 use futures::StreamExt;
 use futures::channel::mpsc;
 use futures::executor::block_on;
 use resolver::base::Fault;
 use resolver::{Handle, Outcome, Resolution, Resolver};
-use resolver_fakes::actor::{Ends, Held, run};
 use resolver_fakes::acts::Act;
 use resolver_fakes::seen::{Seen, Wrong};
 use resolver_fakes::world::{Lent, Made, Setting, World, make_world, start};

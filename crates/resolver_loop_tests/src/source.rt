@@ -1,10 +1,10 @@
+use crate::actor::{Ends, Held, Looped, opened};
 use crate::asserts::answered;
 use bytes::Bytes;
 use futures::channel::oneshot;
 use futures::task::Poll;
 use futures::test::MockTask;
 use resolver::{Ending, Resolver};
-use resolver_fakes::actor::{Ends, Held, Looped, opened};
 use resolver_fakes::acts::wanted;
 use resolver_fakes::seen::Wrong;
 use resolver_fakes::world::spell_polled;

@@ -10,10 +10,9 @@ use futures::{Future, Stream};
 use resolver_actor::opaque::{Actor, Effect, Event, Input};
 use resolver_base::base::{Faithful, Span};
 use resolver_ingress::ingress::Message;
+use resolver_loop::{Clock, Consumer, Ending, Judging, TURNS, Turn, poll_moment};
 use resolver_mailbox::mailbox::{Receiver, Unrecorded};
 use resolver_root::{Delivery, Predicate};
-use resolver_surface::{Clock, Consumer};
-use resolver_worker::{Ending, Judging, TURNS, Turn, poll_moment};
 use std::hash::Hash;
 use std::sync::Wait;
 

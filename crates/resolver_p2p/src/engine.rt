@@ -30,11 +30,12 @@ use resolver_engine::inputs::Input;
 use resolver_engine::metrics::Metrics;
 use resolver_engine::rows::Row;
 use resolver_fetch::fetcher;
+use resolver_loop::{
+    Blocker, Clock, Consumer, Judging, Peers, Producer, Provider, Receiver, Serving,
+};
 use resolver_mailbox::mailbox;
 use resolver_mailbox::mailbox::Unrecorded;
 use resolver_root::Predicate;
-use resolver_surface::{Blocker, Clock, Consumer, Producer, Provider, Receiver};
-use resolver_worker::{Judging, Peers, Serving};
 use std::alloc::Global;
 use std::hash::Hash;
 use std::marker::Model;

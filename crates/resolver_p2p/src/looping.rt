@@ -13,9 +13,11 @@ use resolver_engine::effects::Effect;
 use resolver_engine::engine::Core;
 use resolver_engine::inputs::{Event, Happening, Input};
 use resolver_fetch::fetcher::{Answer, Ask};
+use resolver_loop::{
+    Blocker, Clock, Consumer, Ending, Judging, Peers, Producer, Provider, Receiver, Serving, TURNS,
+    Turn, earlier, poll_moment,
+};
 use resolver_root::{Delivery, Predicate};
-use resolver_surface::{Blocker, Clock, Consumer, Producer, Provider, Receiver};
-use resolver_worker::{Ending, Judging, Peers, Serving, TURNS, Turn, earlier, poll_moment};
 use std::alloc::Global;
 use std::hash::Hash;
 use std::sync::Wait;

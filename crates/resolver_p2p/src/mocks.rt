@@ -4,9 +4,9 @@ ghost use Rattle.std.proofs.Common.{rules};
 
 use bytes::{BufMut, BytesMut};
 use resolver_base::base::{Faithful, Span};
+pub use resolver_loop::mocks::{Consumer, Producer, Quiet};
 use resolver_mailbox::mailbox::Exact;
 pub use resolver_request::wire::{Message, Payload};
-pub use resolver_surface::mocks::{Consumer, Producer, Quiet};
 use std::alloc::AllocError;
 use std::fmt;
 

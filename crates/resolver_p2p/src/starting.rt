@@ -7,9 +7,10 @@ use crate::engine::Engine;
 use bytes::Bytes;
 use futures::Future;
 use resolver_base::base::{Draws, Faithful, Fault, PublicKey, Sender, Span};
+use resolver_loop::{
+    Blocker, Clock, Consumer, Ending, Handle, Producer, Provider, Receiver, start,
+};
 use resolver_root::Predicate;
-use resolver_surface::{Blocker, Clock, Consumer, Producer, Provider, Receiver};
-use resolver_worker::{Ending, Handle, start};
 use std::alloc::AllocGlobal;
 use std::random::RandomSource;
 use std::sync::Wait;

@@ -8,6 +8,9 @@ use resolver_fakes::acts::Act;
 use resolver_fakes::seen::Wrong;
 use resolver_fakes::world::Setting;
 use std::alloc::AllocGlobal;
+use std::io::Eprint;
+use std::panic::Expect;
+use std::process::Abort;
 use std::random::RandomSource;
 use std::sync::Wait;
 use std::test::Fail;
@@ -49,51 +52,54 @@ fn wrong(first: u64, count: u64, until: Option<u64>) -> Wrong {
 
 /// Three peers, and three keys by one message.
 fn open<R: Wait + Copy + Drop + Send + 'static>(
+    rt: &(impl Abort + Eprint),
     pair: &mut Pair<R>,
     is_targeted: bool,
 ) -> Result<(), Fail> {
-    pair.act(Act::Peers(1, &[3, 4, 5, 9]))?;
+    pair.act(rt, Act::Peers(1, &[3, 4, 5, 9]))?;
     if is_targeted {
-        return pair.act(Act::FetchFrom(&[(1, 3), (2, 4), (3, 5)]));
+        return pair.act(rt, Act::FetchFrom(&[(1, 3), (2, 4), (3, 5)]));
     }
-    pair.act(Act::Fetch(&[(1, 10), (2, 10), (3, 10)]))
+    pair.act(rt, Act::Fetch(&[(1, 10), (2, 10), (3, 10)]))
 }
 
 /// The key itself, in response to the request for it, if there is one, and its verdict.
 fn complete<R: Wait + Copy + Drop + Send + 'static>(
+    rt: &(impl Abort + Eprint),
     pair: &mut Pair<R>,
     key: u8,
 ) -> Result<(), Fail> {
-    pair.reply(key, &[1, 1, key])?;
-    pair.act(Act::Judge(Outcome::Resolved(Resolution::Complete)))
+    pair.reply(rt, key, &[1, 1, key])?;
+    pair.act(rt, Act::Judge(Outcome::Resolved(Resolution::Complete)))
 }
 
 /// What happens in the tenth moment of this number: a key is answered, another's peer has none, and
 /// the third's runs out of time. Later all are answered, for longer than nine refusals take.
 fn go_on<R: Wait + Copy + Drop + Send + 'static>(
+    rt: &(impl Abort + Eprint),
     pair: &mut Pair<R>,
     tenth: u64,
 ) -> Result<(), Fail> {
-    pair.act(Act::At(tenth.saturating_mul(10)))?;
+    pair.act(rt, Act::At(tenth.saturating_mul(10)))?;
     match tenth {
-        2 => complete(pair, 1),
-        3 => pair.reply(2, &[2]),
+        2 => complete(rt, pair, 1),
+        3 => pair.reply(rt, 2, &[2]),
         10..=21 => {
-            complete(pair, 1)?;
-            complete(pair, 2)?;
-            complete(pair, 3)
+            complete(rt, pair, 1)?;
+            complete(rt, pair, 2)?;
+            complete(rt, pair, 3)
         }
         _ => Ok(()),
     }
 }
 
 /// Fails unless every key was delivered once.
-fn judge(twin: &mut Twin) -> Result<(), Fail> {
-    twin.delivered.sort()?;
+fn judge(rt: &impl Abort, twin: &mut Twin) -> Result<(), Fail> {
+    twin.delivered.sort().expect(rt, "memory");
     if twin.delivered.as_slice() != [(1, 10), (2, 10), (3, 10)].as_slice() {
         return Err("a key was not delivered once".into());
     }
-    if !twin.rows()?.is_empty() || twin.counts.credits != 3 {
+    if !twin.rows(rt).expect(rt, "memory").is_empty() || twin.counts.credits != 3 {
         return Err("a key is left, or a response without its credit".into());
     }
     Ok(())
@@ -101,21 +107,22 @@ fn judge(twin: &mut Twin) -> Result<(), Fail> {
 
 /// The run, after which every key was delivered once. Gives what was counted.
 fn play<R: Wait + Copy + Drop + Send + 'static>(
+    rt: &(impl Abort + Eprint),
     pair: &mut Pair<R>,
     is_targeted: bool,
 ) -> Result<Counts, Fail> {
-    open(pair, is_targeted)?;
+    open(rt, pair, is_targeted)?;
     for tenth in 1..22_u64 {
-        go_on(pair, tenth)?;
+        go_on(rt, pair, tenth)?;
     }
-    judge(&mut pair.twin)?;
+    judge(rt, &mut pair.twin)?;
     Ok(pair.twin.counts)
 }
 
 /// A run in which this one and those behind it go wrong. Gives what was counted.
 fn run<R>(rt: R, plan: Plan, wrong: Wrong) -> Result<Counts, Fail>
 where
-    R: Wait + RandomSource + AllocGlobal + Copy + Drop + Send + 'static,
+    R: Abort + Eprint + Wait + RandomSource + AllocGlobal + Copy + Drop + Send + 'static,
 {
     let setting = Setting {
         me: 9,
@@ -123,20 +130,16 @@ where
         seed: plan.seed,
     };
     let eligible = if plan.is_targeted { 1 } else { 3 };
-    match make_pair(rt, setting, Some(eligible)) {
-        Ok(mut pair) => {
-            let counts = play(&mut pair, plan.is_targeted);
-            drop(pair);
-            counts
-        }
-        Err(fail) => Err(fail),
-    }
+    let mut pair = make_pair(rt, setting, Some(eligible));
+    let counts = play(&rt, &mut pair, plan.is_targeted);
+    drop(pair);
+    counts
 }
 
 /// The run for every N that it meets, of which there are five at the least.
 fn every_n<R>(rt: R, plan: Plan, until: Option<u64>) -> Result<(), Fail>
 where
-    R: Wait + RandomSource + AllocGlobal + Copy + Drop + Send + 'static,
+    R: Abort + Eprint + Wait + RandomSource + AllocGlobal + Copy + Drop + Send + 'static,
 {
     for first in 1..1000_u64 {
         let counts = run(rt, plan, wrong(first, plan.count, until))?;
@@ -159,7 +162,7 @@ where
 /// The same for every plan.
 fn every_plan<R>(rt: R, until: Option<u64>) -> Result<(), Fail>
 where
-    R: Wait + RandomSource + AllocGlobal + Copy + Drop + Send + 'static,
+    R: Abort + Eprint + Wait + RandomSource + AllocGlobal + Copy + Drop + Send + 'static,
 {
     for &(count, seed, is_targeted) in PLANS {
         let plan = Plan {

@@ -6,6 +6,8 @@ use resolver::p2p::mocks::Key;
 use resolver::p2p::rows::{Phase, Row};
 use resolver_fakes::names::{Below, Peer};
 use std::alloc::Global;
+use std::panic::Expect;
+use std::process::Abort;
 use std::test::Fail;
 
 /// The wake-up where nothing is to be waited for.
@@ -47,15 +49,19 @@ fn rows_of(core: &Core<Key, Peer, u16, Below>) -> Result<Vec<Row<Key, u16, Peer>
 }
 
 /// The demanded keys of a core.
-pub fn list_rows(alloc: Global, core: &Core<Key, Peer, u16, Below>) -> Result<Vec<Shown>, Fault> {
+pub fn list_rows(
+    rt: &impl Abort,
+    alloc: Global,
+    core: &Core<Key, Peer, u16, Below>,
+) -> Result<Vec<Shown>, Fault> {
     let rows = rows_of(core)?;
     let mut list = Vec::new(alloc);
     for row in rows.as_slice() {
-        let stage = stage_of(&row.phase);
-        list.push(Shown {
+        let shown = Shown {
             key: row.key.0,
-            stage,
-        })?;
+            stage: stage_of(&row.phase),
+        };
+        list.push(shown).expect(rt, "memory");
     }
     Ok(list)
 }
@@ -136,19 +142,18 @@ impl Scan {
 
     /// A peer is tried. Keys are tried one after another, each with all of its eligible peers, so the next
     /// key begins where these are used up.
-    pub fn note_check(&mut self, peer: Peer, check: Check) -> Result<(), Fault> {
+    pub fn note_check(&mut self, rt: &impl Abort, peer: Peer, check: Check) {
         if self.tried.len() >= self.eligible {
             self.tried.clear();
         }
         self.is_repeated |= self.tried.as_slice().contains(&peer);
-        self.tried.push(peer)?;
+        self.tried.push(peer).expect(rt, "memory");
         if let Check::Until(moment) = check {
             self.limit = Some(match self.limit {
                 Some(limit) if limit <= moment => limit,
                 _ => moment,
             });
         }
-        Ok(())
     }
 
     /// A request was accepted.

@@ -14,6 +14,9 @@ use resolver_fakes::seen::{Hex, Wrong};
 use resolver_fakes::world::Setting;
 use std::alloc::{AllocError, AllocGlobal, Global};
 use std::fmt::Write;
+use std::io::Eprint;
+use std::panic::Expect;
+use std::process::Abort;
 use std::random::RandomSource;
 use std::sync::Wait;
 use std::test::Fail;
@@ -43,22 +46,24 @@ fn write_fetch(lines: &mut String, items: &[FetchKey<Key, Peer, u16>]) -> Result
 }
 
 /// Peers, joined by commas; a dash where there is none.
-fn write_peers(lines: &mut String, peers: &[Peer]) -> Result<(), AllocError> {
+fn write_peers(rt: &impl Abort, lines: &mut String, peers: &[Peer]) {
     let mut comma = "";
     for peer in peers {
-        write!(lines, "{comma}{}", peer.0)?;
+        write!(lines, "{comma}{}", peer.0).expect(rt, "memory");
         comma = ",";
     }
-    writeln!(lines, "{}", if peers.is_empty() { "-" } else { "" })
+    let dash = if peers.is_empty() { "-" } else { "" };
+    writeln!(lines, "{dash}").expect(rt, "memory");
 }
 
 /// A core takes this event.
-pub fn write_event(lines: &mut String, event: &Happened) -> Result<(), AllocError> {
-    match event {
+pub fn write_event(rt: &impl Abort, lines: &mut String, event: &Happened) {
+    let written = match event {
         Event::Fetch(items) => write_fetch(lines, items.as_slice()),
         Event::PeerSet { index, peers } => {
-            write!(lines, "peers {index} ")?;
-            write_peers(lines, peers.as_slice())
+            write!(lines, "peers {index} ").expect(rt, "memory");
+            write_peers(rt, lines, peers.as_slice());
+            Ok(())
         }
         Event::ActiveDue => writeln!(lines, "timeout"),
         Event::PendingDue => writeln!(lines, "wake"),
@@ -75,18 +80,20 @@ pub fn write_event(lines: &mut String, event: &Happened) -> Result<(), AllocErro
         Event::Blocked(_) | Event::Retain(_) | Event::End => {
             writeln!(lines, "# an event that no test of these gives")
         }
-    }
+    };
+    written.expect(rt, "memory");
 }
 
 /// A core takes this answer.
-pub fn write_answer(lines: &mut String, answer: Answer) -> Result<(), AllocError> {
-    match answer {
+pub fn write_answer(rt: &impl Abort, lines: &mut String, answer: Answer) {
+    let written = match answer {
         Answer::Drawn(number) => writeln!(lines, "drawn {number}"),
         Answer::Checked(Check::Clear) => writeln!(lines, "checked clear"),
         Answer::Checked(Check::Until(moment)) => writeln!(lines, "checked {moment}"),
         Answer::Sent(true) => writeln!(lines, "sent accepted"),
         Answer::Sent(false) => writeln!(lines, "sent refused"),
-    }
+    };
+    written.expect(rt, "memory");
 }
 
 /// A key is fetched and served, and another runs out of time and is refused.
@@ -133,29 +140,31 @@ sent refused
 ";
 
 /// What the core took as these were done.
-fn script_of<R>(alloc: Global, pair: &mut Pair<R>, acts: &[Act<'_>]) -> Result<String, Fail>
+fn script_of<R>(
+    rt: &(impl Abort + Eprint),
+    alloc: Global,
+    pair: &mut Pair<R>,
+    acts: &[Act<'_>],
+) -> Result<String, Fail>
 where
     R: Wait + Copy + Drop + Send + 'static,
 {
     for act in acts {
-        pair.act(*act)?;
+        pair.act(rt, *act)?;
     }
-    Ok(String::from_str(alloc, pair.twin.script.as_str())?)
+    let script = String::from_str(alloc, pair.twin.script.as_str());
+    Ok(script.expect(rt, "memory"))
 }
 
 fn write_script<R>(rt: R, acts: &[Act<'_>]) -> Result<String, Fail>
 where
-    R: Wait + RandomSource + AllocGlobal + Copy + Drop + Send + 'static,
+    R: Abort + Eprint + Wait + RandomSource + AllocGlobal + Copy + Drop + Send + 'static,
 {
     let refused = Wrong::Sends { first: 4, count: 1 };
-    match make_pair(rt, Setting::with(refused), None) {
-        Ok(mut pair) => {
-            let script = script_of(rt.alloc(), &mut pair, acts);
-            drop(pair);
-            script
-        }
-        Err(fail) => Err(fail),
-    }
+    let mut pair = make_pair(rt, Setting::with(refused), None);
+    let script = script_of(&rt, rt.alloc(), &mut pair, acts);
+    drop(pair);
+    script
 }
 
 #[test]

@@ -13,14 +13,15 @@ use resolver::p2p::mocks::Key;
 use resolver::p2p::{Core, FetchKey as Wanted};
 use resolver::{Delivery, Outcome};
 use resolver_fakes::acts::{Act, fetches, targeted};
-use resolver_fakes::both::both;
 use resolver_fakes::lent::{Dice, Wire};
 use resolver_fakes::names::{Below, Peer};
 use resolver_fakes::seen::{Seen, Told};
 use resolver_fakes::world::{Setting, peers};
-use std::alloc::{AllocError, Global};
+use std::alloc::Global;
 use std::collections::VecDeque;
 use std::fmt::Write;
+use std::panic::Expect;
+use std::process::Abort;
 use std::test::Fail;
 
 pub type Happened = Event<Key, Peer, u16, Below>;
@@ -142,27 +143,23 @@ fn make_core(alloc: Global, me: u8) -> Core<Key, Peer, u16, Below> {
     Core::new(alloc, configuration, false)
 }
 
-fn make_fakes(alloc: Global, setting: Setting) -> Result<Fakes, Fault> {
-    let (told, seen) = mpsc::unbounded(alloc)?;
-    match both(told.clone(), told.clone()) {
-        Ok((one, other)) => Ok(Fakes {
-            wire: Wire::new(one, setting.wrong),
-            dice: setting.dice(other),
-            told,
-            seen,
-        }),
-        Err(error) => {
-            drop((told, seen));
-            Err(error.into())
-        }
+fn make_fakes(rt: &impl Abort, alloc: Global, setting: Setting) -> Fakes {
+    let (told, seen) = mpsc::unbounded(alloc).expect(rt, "memory");
+    let one = told.clone().expect(rt, "memory");
+    let other = told.clone().expect(rt, "memory");
+    Fakes {
+        wire: Wire::new(one, setting.wrong),
+        dice: setting.dice(other),
+        told,
+        seen,
     }
 }
 
 /// The line that opens an engine which is called so.
-fn begin_script(alloc: Global, me: u8) -> Result<String, AllocError> {
+fn begin_script(rt: &impl Abort, alloc: Global, me: u8) -> String {
     let mut script = String::new(alloc);
-    writeln!(script, "p2p {me} 50 10")?;
-    Ok(script)
+    writeln!(script, "p2p {me} 50 10").expect(rt, "memory");
+    script
 }
 
 fn is_due(deadline: Option<u128>, now: u64) -> bool {
@@ -188,53 +185,56 @@ fn draw(dice: &mut Dice, bound: u128) -> u128 {
 }
 
 /// Lists the subscribers of a delivery with its key.
-fn list(delivered: &mut Vec<(u8, u16)>, delivery: &Delivery<Key, u16>) -> Result<(), AllocError> {
+fn list(rt: &impl Abort, delivered: &mut Vec<(u8, u16)>, delivery: &Delivery<Key, u16>) {
     for (subscriber, _) in delivery.subscribers.iter() {
-        delivered.push((delivery.key.0, *subscriber))?;
+        let pushed = delivered.push((delivery.key.0, *subscriber));
+        pushed.expect(rt, "memory");
     }
-    Ok(())
 }
 
 /// The bytes of a message: its id, and what follows.
-pub fn message(alloc: Global, id: u64, bytes: &[u8]) -> Result<Vec<u8>, Fault> {
+pub fn message(rt: &impl Abort, alloc: Global, id: u64, bytes: &[u8]) -> Vec<u8> {
     let mut message = Vec::new(alloc);
-    message.extend_from_slice(&id.to_be_bytes())?;
-    message.extend_from_slice(bytes)?;
-    Ok(message)
+    let id = id.to_be_bytes();
+    message.extend_from_slice(&id).expect(rt, "memory");
+    message.extend_from_slice(bytes).expect(rt, "memory");
+    message
 }
 
 /// Keys that any peer may be asked for.
-fn wanted(alloc: Global, wants: &[(u8, u16)]) -> Result<Vec<Wanted<Key, Peer, u16>>, Fault> {
+fn wanted(rt: &impl Abort, alloc: Global, wants: &[(u8, u16)]) -> Vec<Wanted<Key, Peer, u16>> {
     let mut items = Vec::new(alloc);
-    for fetch in fetches(alloc, wants)? {
-        items.push(FetchKey::from_fetch(alloc, fetch)?)?;
+    for fetch in fetches(alloc, wants).expect(rt, "memory") {
+        let item = FetchKey::from_fetch(alloc, fetch).expect(rt, "memory");
+        items.push(item).expect(rt, "memory");
     }
-    Ok(items)
+    items
 }
 
 /// Keys that one peer each may be asked for.
-fn wanted_from(alloc: Global, wants: &[(u8, u8)]) -> Result<Vec<Wanted<Key, Peer, u16>>, Fault> {
+fn wanted_from(rt: &impl Abort, alloc: Global, wants: &[(u8, u8)]) -> Vec<Wanted<Key, Peer, u16>> {
     let mut items = Vec::new(alloc);
-    for (fetch, peers) in targeted(alloc, wants)? {
-        let mut item: Wanted<Key, Peer, u16> = FetchKey::from_fetch(alloc, fetch)?;
+    for (fetch, peers) in targeted(alloc, wants).expect(rt, "memory") {
+        let item = FetchKey::from_fetch(alloc, fetch);
+        let mut item: Wanted<Key, Peer, u16> = item.expect(rt, "memory");
         item.metadata = Some(peers);
-        items.push(item)?;
+        items.push(item).expect(rt, "memory");
     }
-    Ok(items)
+    items
 }
 
 /// The event that this becomes, of those that need nothing of the twin.
-fn event_of(alloc: Global, act: Act<'_>) -> Result<Happened, Fail> {
+fn event_of(rt: &impl Abort, alloc: Global, act: Act<'_>) -> Result<Happened, Fail> {
     Ok(match act {
         Act::Peers(index, numbers) => Event::PeerSet {
             index,
-            peers: peers(alloc, numbers)?,
+            peers: peers(alloc, numbers).expect(rt, "memory"),
         },
-        Act::Fetch(wants) => Event::Fetch(wanted(alloc, wants)?),
-        Act::FetchFrom(wants) => Event::Fetch(wanted_from(alloc, wants)?),
+        Act::Fetch(wants) => Event::Fetch(wanted(rt, alloc, wants)),
+        Act::FetchFrom(wants) => Event::Fetch(wanted_from(rt, alloc, wants)),
         Act::Net(peer, bytes) => Event::Net {
             peer: Peer(peer),
-            bytes: Bytes::copy_from_slice(alloc, bytes)?,
+            bytes: Bytes::copy_from_slice(alloc, bytes).expect(rt, "memory"),
         },
         _ => return Err("a twin takes no such act".into()),
     })
@@ -242,32 +242,30 @@ fn event_of(alloc: Global, act: Act<'_>) -> Result<Happened, Fail> {
 
 impl Twin {
     /// The twin of a world's engine. Its scans are judged where the peers of each key are counted.
-    pub fn new(alloc: Global, setting: Setting, eligible: Option<usize>) -> Result<Twin, Fail> {
-        let script = begin_script(alloc, setting.me)?;
-        match make_fakes(alloc, setting) {
-            Ok(fakes) => Ok(Twin {
-                alloc,
-                setting,
-                core: make_core(alloc, setting.me),
-                fakes,
-                differs: false,
-                now: 0,
-                eligible,
-                scan: Scan::new(alloc, 0, 0, Vec::new(alloc)),
-                deliveries: VecDeque::new(alloc),
-                serves: VecDeque::new(alloc),
-                sent: VecDeque::new(alloc),
-                delivered: Vec::new(alloc),
-                counts: NONE,
-                script,
-            }),
-            Err(fault) => Err(fault.into()),
+    pub fn new(rt: &impl Abort, alloc: Global, setting: Setting, eligible: Option<usize>) -> Twin {
+        let script = begin_script(rt, alloc, setting.me);
+        let fakes = make_fakes(rt, alloc, setting);
+        Twin {
+            alloc,
+            setting,
+            core: make_core(alloc, setting.me),
+            fakes,
+            differs: false,
+            now: 0,
+            eligible,
+            scan: Scan::new(alloc, 0, 0, Vec::new(alloc)),
+            deliveries: VecDeque::new(alloc),
+            serves: VecDeque::new(alloc),
+            sent: VecDeque::new(alloc),
+            delivered: Vec::new(alloc),
+            counts: NONE,
+            script,
         }
     }
 
     /// The demanded keys.
-    pub fn rows(&self) -> Result<Vec<Shown>, Fault> {
-        list_rows(self.alloc, &self.core)
+    pub fn rows(&self, rt: &impl Abort) -> Result<Vec<Shown>, Fault> {
+        list_rows(rt, self.alloc, &self.core)
     }
 
     /// The earlier of the two deadlines, where a clock can reach it.
@@ -284,16 +282,16 @@ impl Twin {
     }
 
     /// The id and the peer of the request for a key.
-    pub fn asked(&self, key: u8) -> Result<Option<(u64, u8)>, Fault> {
-        let rows = self.rows()?;
+    pub fn asked(&self, rt: &impl Abort, key: u8) -> Option<(u64, u8)> {
+        let rows = self.rows(rt).expect(rt, "memory");
         for row in rows.as_slice() {
             if let Stage::Asked { id, peer, .. } = row.stage {
                 if row.key == key {
-                    return Ok(Some((id, peer)));
+                    return Some((id, peer));
                 }
             }
         }
-        Ok(None)
+        None
     }
 
     /// Whether no key is wanted: none waits, is asked for or is judged.
@@ -303,70 +301,70 @@ impl Twin {
     }
 
     /// Sends, and says whether it is accepted.
-    fn send(&mut self, peer: Peer, bytes: Bytes, priority: bool) -> Result<bool, Fault> {
-        let copy = bytes.clone()?;
+    fn send(&mut self, rt: &impl Abort, peer: Peer, bytes: Bytes, priority: bool) -> bool {
+        let copy = bytes.clone().expect(rt, "memory");
         let is_accepted = self.fakes.wire.send(&peer, bytes, priority).is_accepted();
         if is_accepted {
-            self.sent.push_back((peer, copy))?;
+            self.sent.push_back((peer, copy)).expect(rt, "memory");
         }
-        Ok(is_accepted)
+        is_accepted
     }
 
-    fn check(&mut self, peer: Peer) -> Result<Check, Fault> {
+    fn check(&mut self, rt: &impl Abort, peer: Peer) -> Check {
         self.counts.checks = self.counts.checks.saturating_add(1);
         let check = self.fakes.wire.check(&peer);
-        self.scan.note_check(peer, check)?;
-        Ok(check)
+        self.scan.note_check(rt, peer, check);
+        check
     }
 
-    fn request(&mut self, peer: Peer, id: u64, key: Key, priority: bool) -> Result<bool, Fault> {
+    fn request(&mut self, rt: &impl Abort, peer: Peer, id: u64, key: Key, priority: bool) -> bool {
         self.counts.sends = self.counts.sends.saturating_add(1);
-        let message = message(self.alloc, id, &[0, key.0])?;
-        let is_accepted = self.send(peer, Bytes::from_vec(message)?, priority)?;
+        let message = message(rt, self.alloc, id, &[0, key.0]);
+        let bytes = Bytes::from_vec(message).expect(rt, "memory");
+        let is_accepted = self.send(rt, peer, bytes, priority);
         if is_accepted {
             self.scan.note_sent(key.0, id, peer.0);
         }
-        Ok(is_accepted)
+        is_accepted
     }
 
-    fn answer(&mut self, ask: Ask<Key, Peer>) -> Result<Answer, Fault> {
+    fn answer(&mut self, rt: &impl Abort, ask: Ask<Key, Peer>) -> Answer {
         match ask {
-            Ask::Draw(bound) => Ok(Answer::Drawn(draw(&mut self.fakes.dice, bound))),
-            Ask::Check(peer) => Ok(Answer::Checked(self.check(peer)?)),
+            Ask::Draw(bound) => Answer::Drawn(draw(&mut self.fakes.dice, bound)),
+            Ask::Check(peer) => Answer::Checked(self.check(rt, peer)),
             Ask::Request {
                 peer,
                 id,
                 key,
                 priority,
-            } => Ok(Answer::Sent(self.request(peer, id, key, priority)?)),
+            } => Answer::Sent(self.request(rt, peer, id, key, priority)),
         }
     }
 
     fn deliver(
         &mut self,
+        rt: &impl Abort,
         number: u64,
         delivery: Delivery<Key, u16>,
         value: Bytes,
-    ) -> Result<(), Fault> {
-        self.deliveries.push_back(number)?;
-        list(&mut self.delivered, &delivery)?;
+    ) {
+        self.deliveries.push_back(number).expect(rt, "memory");
+        list(rt, &mut self.delivered, &delivery);
         let _ = self
             .fakes
             .told
             .unbounded_send(Seen::Delivered(delivery, value));
-        Ok(())
     }
 
-    fn produce(&mut self, serve: u64, key: Key) -> Result<(), Fault> {
-        self.serves.push_back((serve, key))?;
+    fn produce(&mut self, rt: &impl Abort, serve: u64, key: Key) {
+        self.serves.push_back((serve, key)).expect(rt, "memory");
         let _ = self.fakes.told.unbounded_send(Seen::Produced(key));
-        Ok(())
     }
 
     /// Carries an effect out, and gives the answer to what it asks.
-    fn carry_out(&mut self, effect: Done) -> Result<Option<Answer>, Fault> {
+    fn carry_out(&mut self, rt: &impl Abort, effect: Done) -> Option<Answer> {
         match effect {
-            Effect::Ask(ask) => return Ok(Some(self.answer(ask)?)),
+            Effect::Ask(ask) => return Some(self.answer(rt, ask)),
             Effect::Deliver {
                 number,
                 response,
@@ -376,16 +374,16 @@ impl Twin {
                 if number == response {
                     self.counts.responses = self.counts.responses.saturating_add(1);
                 }
-                self.deliver(number, delivery, value)?;
+                self.deliver(rt, number, delivery, value);
             }
             Effect::Cancel { .. } => {}
-            Effect::Produce { serve, key } => self.produce(serve, key)?,
+            Effect::Produce { serve, key } => self.produce(rt, serve, key),
             Effect::Reply {
                 peer,
                 bytes,
                 priority,
             } => {
-                self.send(peer, bytes, priority)?;
+                self.send(rt, peer, bytes, priority);
             }
             Effect::Credit { .. } => {
                 self.counts.credits = self.counts.credits.saturating_add(1);
@@ -394,57 +392,58 @@ impl Twin {
                 let _ = self.fakes.told.unbounded_send(Seen::Blocked(peer));
             }
         }
-        Ok(None)
+        None
     }
 
-    fn carry_out_all(&mut self, effects: Vec<Done>) -> Result<Option<Answer>, Fault> {
+    fn carry_out_all(&mut self, rt: &impl Abort, effects: Vec<Done>) -> Option<Answer> {
         let mut answer = None;
         for effect in effects {
-            answer = self.carry_out(effect)?;
+            answer = self.carry_out(rt, effect);
         }
-        Ok(answer)
+        answer
     }
 
-    fn take_answer(&mut self, answer: Answer) -> Result<Vec<Done>, Fail> {
-        write_answer(&mut self.script, answer)?;
-        Ok(step(&mut self.core, Input::Answers(answer))?)
+    fn take_answer(&mut self, rt: &impl Abort, answer: Answer) -> Result<Vec<Done>, Fault> {
+        write_answer(rt, &mut self.script, answer);
+        step(&mut self.core, Input::Answers(answer))
     }
 
     /// Answers what a scan asks.
-    fn answer_all(&mut self, first: Vec<Done>) -> Result<(), Fail> {
+    fn answer_all(&mut self, rt: &impl Abort, first: Vec<Done>) -> Result<(), Fail> {
         let mut effects = first;
         for _ in 0..ASKS {
-            let Some(answer) = self.carry_out_all(effects)? else {
+            let Some(answer) = self.carry_out_all(rt, effects) else {
                 return Ok(());
             };
-            effects = self.take_answer(answer)?;
+            effects = self.take_answer(rt, answer)?;
         }
         Err("a scan without an end".into())
     }
 
     /// A scan may begin, which is written down where scans are to be judged.
-    fn begin_scan(&mut self) -> Result<(), Fault> {
+    fn begin_scan(&mut self, rt: &impl Abort) {
         if let Some(eligible) = self.eligible {
-            self.scan = Scan::new(self.alloc, self.now, eligible, self.rows()?);
+            let rows = self.rows(rt).expect(rt, "memory");
+            self.scan = Scan::new(self.alloc, self.now, eligible, rows);
         }
-        Ok(())
     }
 
-    fn judge_scan(&self) -> Result<(), Fail> {
+    fn judge_scan(&self, rt: &impl Abort) -> Result<(), Fail> {
         if self.eligible.is_none() {
             return Ok(());
         }
         let (_, pending) = deadlines(&self.core);
-        self.scan.judge(self.rows()?.as_slice(), pending)
+        let rows = self.rows(rt).expect(rt, "memory");
+        self.scan.judge(rows.as_slice(), pending)
     }
 
     /// Takes an event, and answers what its scan asks.
-    fn take(&mut self, event: Happened) -> Result<(), Fail> {
-        write_event(&mut self.script, &event)?;
+    fn take(&mut self, rt: &impl Abort, event: Happened) -> Result<(), Fail> {
+        write_event(rt, &mut self.script, &event);
         let effects = step(&mut self.core, happens(self.now, event))?;
-        self.begin_scan()?;
-        self.answer_all(effects)?;
-        self.judge_scan()
+        self.begin_scan(rt);
+        self.answer_all(rt, effects)?;
+        self.judge_scan(rt)
     }
 
     /// What is due.
@@ -459,50 +458,56 @@ impl Twin {
         None
     }
 
-    fn settle(&mut self) -> Result<(), Fail> {
+    fn settle(&mut self, rt: &impl Abort) -> Result<(), Fail> {
         for _ in 0..DUE {
             let Some(event) = self.due() else {
                 return Ok(());
             };
-            self.take(event)?;
+            self.take(rt, event)?;
         }
         Err("there is always something due".into())
     }
 
     /// The consumer says this of the first delivery that has no verdict, if there is one.
-    fn judge(&mut self, outcome: Outcome) -> Result<(), Fail> {
+    fn judge(&mut self, rt: &impl Abort, outcome: Outcome) -> Result<(), Fail> {
         let Some(number) = self.deliveries.pop_front() else {
             return Ok(());
         };
-        self.take(Event::Verdict {
-            number,
-            outcome: Some(outcome),
-        })
+        let outcome = Some(outcome);
+        self.take(rt, Event::Verdict { number, outcome })
     }
 
     /// The producer has these bytes for the first request that it hasn't answered, if there is one.
-    fn serve(&mut self, bytes: &[u8]) -> Result<(), Fail> {
+    fn serve(&mut self, rt: &impl Abort, bytes: &[u8]) -> Result<(), Fail> {
         let Some((serve, _)) = self.serves.pop_front() else {
             return Ok(());
         };
-        let value = Some(Bytes::copy_from_slice(self.alloc, bytes)?);
-        self.take(Event::Served { serve, value })
+        let value = Bytes::copy_from_slice(self.alloc, bytes).expect(rt, "memory");
+        let value = Some(value);
+        self.take(rt, Event::Served { serve, value })
     }
 
-    fn go_to(&mut self, moment: u64) -> Result<(), Fail> {
+    fn go_to(&mut self, rt: &impl Abort, moment: u64) {
         self.now = moment;
-        writeln!(self.script, "at {moment}")?;
-        Ok(())
+        writeln!(self.script, "at {moment}").expect(rt, "memory");
+    }
+
+    /// Takes this, and not yet what is due then.
+    fn take_act(&mut self, rt: &impl Abort, act: Act<'_>) -> Result<(), Fail> {
+        match act {
+            Act::Judge(outcome) => self.judge(rt, outcome),
+            Act::Serve(bytes) => self.serve(rt, bytes),
+            Act::At(moment) => {
+                self.go_to(rt, moment);
+                Ok(())
+            }
+            _ => self.take(rt, event_of(rt, self.alloc, act)?),
+        }
     }
 
     /// Takes this, and what is due then.
-    pub fn act(&mut self, act: Act<'_>) -> Result<(), Fail> {
-        match act {
-            Act::Judge(outcome) => self.judge(outcome)?,
-            Act::Serve(bytes) => self.serve(bytes)?,
-            Act::At(moment) => self.go_to(moment)?,
-            _ => self.take(event_of(self.alloc, act)?)?,
-        }
-        self.settle()
+    pub fn act(&mut self, rt: &impl Abort, act: Act<'_>) -> Result<(), Fail> {
+        self.take_act(rt, act)?;
+        self.settle(rt)
     }
 }

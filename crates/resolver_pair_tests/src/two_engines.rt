@@ -9,7 +9,9 @@ use resolver_fakes::acts::Act;
 use resolver_fakes::seen::Wrong;
 use resolver_fakes::world::Setting;
 use std::alloc::AllocGlobal;
-use std::io::Print;
+use std::io::{Eprint, Print};
+use std::panic::Expect;
+use std::process::Abort;
 use std::random::RandomSource;
 use std::sync::Wait;
 use std::test::Fail;
@@ -53,36 +55,46 @@ fn next_fetch(twin: &Twin) -> Option<(u8, u16)> {
     Some((key, subscriber))
 }
 
-fn fetch<R: Wait + Copy + Drop + Send + 'static>(pair: &mut Pair<R>) -> Result<bool, Fail> {
+fn fetch<R: Wait + Copy + Drop + Send + 'static>(
+    rt: &(impl Abort + Eprint),
+    pair: &mut Pair<R>,
+) -> Result<bool, Fail> {
     let Some(wants) = next_fetch(&pair.twin) else {
         return Ok(false);
     };
     pair.twin.counts.fetches = pair.twin.counts.fetches.saturating_add(1);
-    pair.act(Act::Fetch(&[wants]))?;
+    pair.act(rt, Act::Fetch(&[wants]))?;
     Ok(true)
 }
 
 /// The producer has the key itself as its value.
-fn serve<R: Wait + Copy + Drop + Send + 'static>(pair: &mut Pair<R>) -> Result<bool, Fail> {
+fn serve<R: Wait + Copy + Drop + Send + 'static>(
+    rt: &(impl Abort + Eprint),
+    pair: &mut Pair<R>,
+) -> Result<bool, Fail> {
     let Some((_, key)) = pair.twin.serves.front() else {
         return Ok(false);
     };
     let value = [key.0];
-    pair.act(Act::Serve(&value))?;
+    pair.act(rt, Act::Serve(&value))?;
     Ok(true)
 }
 
 /// The consumer takes what it was handed.
-fn judge<R: Wait + Copy + Drop + Send + 'static>(pair: &mut Pair<R>) -> Result<bool, Fail> {
+fn judge<R: Wait + Copy + Drop + Send + 'static>(
+    rt: &(impl Abort + Eprint),
+    pair: &mut Pair<R>,
+) -> Result<bool, Fail> {
     if pair.twin.deliveries.is_empty() {
         return Ok(false);
     }
-    pair.act(Act::Judge(Outcome::Resolved(Resolution::Complete)))?;
+    pair.act(rt, Act::Judge(Outcome::Resolved(Resolution::Complete)))?;
     Ok(true)
 }
 
 /// The next message of one engine is given to the other, if it is for it.
 fn pass<R: Wait + Copy + Drop + Send + 'static>(
+    rt: &(impl Abort + Eprint),
     from: &mut Pair<R>,
     to: &mut Pair<R>,
 ) -> Result<bool, Fail> {
@@ -90,33 +102,35 @@ fn pass<R: Wait + Copy + Drop + Send + 'static>(
         return Ok(false);
     };
     if peer.0 == to.twin.setting.me {
-        to.act(Act::Net(from.twin.setting.me, bytes.as_slice()))?;
+        to.act(rt, Act::Net(from.twin.setting.me, bytes.as_slice()))?;
     }
     Ok(true)
 }
 
 /// One of the two does one thing of this kind, if there is one.
 fn work<R: Wait + Copy + Drop + Send + 'static>(
+    rt: &(impl Abort + Eprint),
     me: &mut Pair<R>,
     other: &mut Pair<R>,
     kind: u128,
 ) -> Result<bool, Fail> {
     match kind {
-        0 => fetch(me),
-        1 | 2 | 3 => pass(other, me),
-        4 | 5 => serve(me),
-        _ => judge(me),
+        0 => fetch(rt, me),
+        1 | 2 | 3 => pass(rt, other, me),
+        4 | 5 => serve(rt, me),
+        _ => judge(rt, me),
     }
 }
 
 /// One of the two does several things of one kind.
 fn work_on<R: Wait + Copy + Drop + Send + 'static>(
+    rt: &(impl Abort + Eprint),
     me: &mut Pair<R>,
     other: &mut Pair<R>,
     kind: u128,
 ) -> Result<(), Fail> {
     for _ in 0..BATCH {
-        if !work(me, other, kind)? {
+        if !work(rt, me, other, kind)? {
             return Ok(());
         }
     }
@@ -125,12 +139,13 @@ fn work_on<R: Wait + Copy + Drop + Send + 'static>(
 
 /// Both take this.
 fn both<R: Wait + Copy + Drop + Send + 'static>(
+    rt: &(impl Abort + Eprint),
     one: &mut Pair<R>,
     two: &mut Pair<R>,
     act: Act<'_>,
 ) -> Result<(), Fail> {
-    one.act(act)?;
-    two.act(act)
+    one.act(rt, act)?;
+    two.act(rt, act)
 }
 
 /// A number below this one, as a call that promises nothing.
@@ -153,6 +168,7 @@ fn draw_peers(draws: &mut Seeded) -> &'static [u8] {
 
 /// A step of the draws. Every tenth changes the peers of both, and in some of the others time goes by.
 fn step<R: Wait + Copy + Drop + Send + 'static>(
+    rt: &(impl Abort + Eprint),
     one: &mut Pair<R>,
     two: &mut Pair<R>,
     course: &mut Course,
@@ -161,15 +177,15 @@ fn step<R: Wait + Copy + Drop + Send + 'static>(
     if number % 10 == 0 {
         let peers = draw_peers(&mut course.draws);
         course.index = course.index.saturating_add(1);
-        return both(one, two, Act::Peers(course.index, peers));
+        return both(rt, one, two, Act::Peers(course.index, peers));
     }
     match draw(&mut course.draws, 10) {
         0 => {
             course.now = course.now.saturating_add(7);
-            both(one, two, Act::At(course.now))
+            both(rt, one, two, Act::At(course.now))
         }
-        1..=5 => work_on(one, two, draw(&mut course.draws, 8)),
-        _ => work_on(two, one, draw(&mut course.draws, 8)),
+        1..=5 => work_on(rt, one, two, draw(&mut course.draws, 8)),
+        _ => work_on(rt, two, one, draw(&mut course.draws, 8)),
     }
 }
 
@@ -190,15 +206,15 @@ fn is_each_once(delivered: &[(u8, u16)]) -> bool {
 
 /// What is wrong at the end, if anything is: each key is to be delivered once to each subscriber, no request
 /// to be left, and each response that was handed out to have earned one credit.
-fn wrong(twin: &mut Twin) -> Result<Option<&'static str>, Fault> {
-    twin.delivered.sort()?;
+fn wrong(rt: &impl Abort, twin: &mut Twin) -> Result<Option<&'static str>, Fault> {
+    twin.delivered.sort().expect(rt, "memory");
     if twin.differs {
         return Ok(Some("the loop asks or awaits something else than its twin"));
     }
     if !is_each_once(twin.delivered.as_slice()) {
         return Ok(Some("a key was not delivered once to each subscriber"));
     }
-    if !twin.rows()?.is_empty() || twin.awaited().is_some() {
+    if !twin.rows(rt)?.is_empty() || twin.awaited().is_some() {
         return Ok(Some("a request is left"));
     }
     if twin.counts.credits != twin.counts.responses {
@@ -208,8 +224,8 @@ fn wrong(twin: &mut Twin) -> Result<Option<&'static str>, Fault> {
 }
 
 /// Fails where something is wrong at the end.
-fn judge_end(twin: &mut Twin) -> Result<(), Fail> {
-    match wrong(twin)? {
+fn judge_end(rt: &impl Abort, twin: &mut Twin) -> Result<(), Fail> {
+    match wrong(rt, twin)? {
         Some(why) => Err(why.into()),
         None => Ok(()),
     }
@@ -217,23 +233,24 @@ fn judge_end(twin: &mut Twin) -> Result<(), Fail> {
 
 /// Steps by the draws, until nothing is left.
 fn go_all<R: Wait + Copy + Drop + Send + 'static>(
+    rt: &(impl Abort + Eprint),
     one: &mut Pair<R>,
     two: &mut Pair<R>,
     course: &mut Course,
 ) -> Result<(), Fail> {
     for number in 1..STEPS {
-        step(one, two, course, number)?;
+        step(rt, one, two, course, number)?;
         if is_over(&one.twin) && is_over(&two.twin) {
             break;
         }
     }
-    judge_end(&mut one.twin)?;
-    judge_end(&mut two.twin)
+    judge_end(rt, &mut one.twin)?;
+    judge_end(rt, &mut two.twin)
 }
 
-fn make_engine<R>(rt: R, me: u8, seed: u64) -> Result<Pair<R>, Fail>
+fn make_engine<R>(rt: R, me: u8, seed: u64) -> Pair<R>
 where
-    R: Wait + RandomSource + AllocGlobal + Copy + Drop + Send + 'static,
+    R: Abort + Wait + RandomSource + AllocGlobal + Copy + Drop + Send + 'static,
 {
     let setting = Setting {
         me,
@@ -249,8 +266,8 @@ fn print_script<R: Print + Copy + Drop>(rt: R, seed: u64, script: &str) {
 }
 
 /// Prints the script of the first of the two that went wrong.
-fn print_wrong<R: Print + Copy + Drop>(rt: R, seed: u64, one: &mut Twin, two: &Twin) {
-    if matches!(wrong(one), Ok(None)) {
+fn print_wrong<R: Abort + Print + Copy + Drop>(rt: R, seed: u64, one: &mut Twin, two: &Twin) {
+    if matches!(wrong(&rt, one), Ok(None)) {
         print_script(rt, seed, two.script.as_str());
     } else {
         print_script(rt, seed, one.script.as_str());
@@ -260,14 +277,14 @@ fn print_wrong<R: Print + Copy + Drop>(rt: R, seed: u64, one: &mut Twin, two: &T
 /// What both engines do in a run. Where it goes wrong a script is printed.
 fn run_both<R>(rt: R, one: &mut Pair<R>, two: &mut Pair<R>, seed: u64) -> Result<(), Fail>
 where
-    R: Print + Wait + RandomSource + AllocGlobal + Copy + Drop + Send + 'static,
+    R: Abort + Eprint + Print + Wait + RandomSource + AllocGlobal + Copy + Drop + Send + 'static,
 {
     let mut course = Course {
         now: 0,
         index: 0,
         draws: Seeded::new(seed.wrapping_add(2000)),
     };
-    let ended = go_all(one, two, &mut course);
+    let ended = go_all(&rt, one, two, &mut course);
     if ended.is_err() {
         print_wrong(rt, seed, &mut one.twin, &two.twin);
     }
@@ -277,36 +294,28 @@ where
 /// The rest of a run: the second engine, and what both do.
 fn run_beside<R>(rt: R, one: &mut Pair<R>, seed: u64) -> Result<(), Fail>
 where
-    R: Print + Wait + RandomSource + AllocGlobal + Copy + Drop + Send + 'static,
+    R: Abort + Eprint + Print + Wait + RandomSource + AllocGlobal + Copy + Drop + Send + 'static,
 {
-    match make_engine(rt, 2, seed.wrapping_add(1000)) {
-        Ok(mut two) => {
-            let ended = run_both(rt, one, &mut two, seed);
-            drop(two);
-            ended
-        }
-        Err(fail) => Err(fail),
-    }
+    let mut two = make_engine(rt, 2, seed.wrapping_add(1000));
+    let ended = run_both(rt, one, &mut two, seed);
+    drop(two);
+    ended
 }
 
 fn run<R>(rt: R, seed: u64) -> Result<(), Fail>
 where
-    R: Print + Wait + RandomSource + AllocGlobal + Copy + Drop + Send + 'static,
+    R: Abort + Eprint + Print + Wait + RandomSource + AllocGlobal + Copy + Drop + Send + 'static,
 {
-    match make_engine(rt, 1, seed) {
-        Ok(mut one) => {
-            let ended = run_beside(rt, &mut one, seed);
-            drop(one);
-            ended
-        }
-        Err(fail) => Err(fail),
-    }
+    let mut one = make_engine(rt, 1, seed);
+    let ended = run_beside(rt, &mut one, seed);
+    drop(one);
+    ended
 }
 
 /// Runs of ten seeds, from this one on.
 fn run_all<R>(rt: R, first: u64) -> Result<(), Fail>
 where
-    R: Print + Wait + RandomSource + AllocGlobal + Copy + Drop + Send + 'static,
+    R: Abort + Eprint + Print + Wait + RandomSource + AllocGlobal + Copy + Drop + Send + 'static,
 {
     for seed in first..first.saturating_add(10) {
         run(rt, seed)?;

@@ -5,7 +5,8 @@ use resolver_script::endings::{Ending, Fault};
 use resolver_script::replay::run;
 use std::alloc::Global;
 use std::io::{BufReader, ErrorKind, Read, Write};
-use std::test::Fail;
+use std::panic::Expect;
+use std::process::Abort;
 use std::{io, str};
 
 mod peers;
@@ -15,11 +16,11 @@ mod why;
 mod worked;
 
 /// What a script prints, and how it ended.
-fn replayed(alloc: Global, script: &[u8]) -> io::Result<(Vec<u8>, Result<Ending, Fault>)> {
+fn replayed(rt: &impl Abort, alloc: Global, script: &[u8]) -> (Vec<u8>, Result<Ending, Fault>) {
     let mut output = Vec::new(alloc);
-    let mut input = BufReader::new(alloc, script)?;
+    let mut input = BufReader::new(alloc, script).expect(rt, "memory");
     let ended = run(&Discard, alloc, &mut input, &mut output);
-    Ok((output, ended))
+    (output, ended)
 }
 
 /// Worked rows, and what they leave out: a name, a script, and what it prints.
@@ -128,13 +129,12 @@ const SCRIPTS: &[(&str, &[u8], &[u8])] = &[
 ];
 
 #[test]
-fn scripts(rt: HostRuntime) -> Result<(), Fail> {
+fn scripts(rt: HostRuntime) {
     for &(name, script, printed) in SCRIPTS {
-        let (output, ended) = replayed(rt.alloc(), script)?;
+        let (output, ended) = replayed(&rt, rt.alloc(), script);
         assert_eq!(rt; output.as_slice(), printed, "{name}");
         assert_eq!(rt; ended, Ok(Ending::End), "{name}");
     }
-    Ok(())
 }
 
 /// Scripts with a line that can't be read, and what they print.
@@ -205,14 +205,13 @@ fn is_unreadable(ended: Result<Ending, Fault>) -> bool {
 
 // The first line that can't be read ends the script, and is named.
 #[test]
-fn unreadable_lines(rt: HostRuntime) -> Result<(), Fail> {
+fn unreadable_lines(rt: HostRuntime) {
     for &(script, printed) in UNREADABLE {
-        let (output, ended) = replayed(rt.alloc(), script)?;
+        let (output, ended) = replayed(&rt, rt.alloc(), script);
         assert_eq!(rt; output.as_slice(), printed);
         assert!(rt; is_unreadable(ended));
     }
     assert_eq!(rt; Ending::End.status(), 0);
-    Ok(())
 }
 
 /// A reader that gives its bytes and then fails.
@@ -232,16 +231,15 @@ impl Read for Torn<'_> {
 
 // A line that was read in part is not executed.
 #[test]
-fn a_torn_input(rt: HostRuntime) -> Result<(), Fail> {
+fn a_torn_input(rt: HostRuntime) {
     let mut output = Vec::new(rt.alloc());
     let torn = Torn {
         rest: b"opaque 1\nfetch 1 10 7\nfetch 2 10 7",
     };
-    let mut input = BufReader::new(rt.alloc(), torn)?;
+    let mut input = BufReader::new(rt.alloc(), torn).expect(&rt, "memory");
     let ended = run(&Discard, rt.alloc(), &mut input, &mut output);
     assert_eq!(rt; ended, Err(Fault::Input));
     assert_eq!(rt; output.as_slice(), b"start 0 1\n".as_slice());
-    Ok(())
 }
 
 /// A writer that takes some bytes and then fails.
@@ -269,20 +267,20 @@ impl Write for Full {
 
 // What a full writer took is a beginning of the whole output.
 #[test]
-fn a_full_output(rt: HostRuntime) -> Result<(), Fail> {
+fn a_full_output(rt: HostRuntime) {
     let script = b"opaque 1\nfetch 1 10 7\nfetched 0 x6869\nshow\nbad\n";
-    let (whole, _) = replayed(rt.alloc(), script)?;
+    let (whole, _) = replayed(&rt, rt.alloc(), script);
     for room in 0..whole.len() {
         let mut output = Full {
             taken: Vec::new(rt.alloc()),
             room,
         };
-        let mut input = BufReader::new(rt.alloc(), script.as_slice())?;
+        let input = BufReader::new(rt.alloc(), script.as_slice());
+        let mut input = input.expect(&rt, "memory");
         let ended = run(&Discard, rt.alloc(), &mut input, &mut output);
         assert_eq!(rt; ended, Err(Fault::Output));
         assert_eq!(rt; output.taken.as_slice(), &whole[..room]);
     }
-    Ok(())
 }
 
 /// A reader that gives one line at a time.
@@ -322,47 +320,46 @@ const TWO_FETCHES: &[u8] = b"opaque 1\nfetch 1 10 7\n\nfetch 2 10 7\n";
 
 // What is executed is printed before more input is waited for.
 #[test]
-fn lines_that_come_one_by_one(rt: HostRuntime) -> Result<(), Fail> {
+fn lines_that_come_one_by_one(rt: HostRuntime) {
     let mut output = Flushed {
         taken: 0,
         flushes: Vec::new(rt.alloc()),
     };
-    let mut input = BufReader::new(rt.alloc(), Lines { rest: TWO_FETCHES })?;
+    let lines = Lines { rest: TWO_FETCHES };
+    let mut input = BufReader::new(rt.alloc(), lines).expect(&rt, "memory");
     let ended = run(&Discard, rt.alloc(), &mut input, &mut output);
     assert_eq!(rt; ended, Ok(Ending::End));
     assert_eq!(rt;
         output.flushes.as_slice(),
         [0, 0, 10, 10, 20, 20].as_slice()
     );
-    Ok(())
 }
 
 // Lines that are there already are not waited for.
 #[test]
-fn lines_that_come_together(rt: HostRuntime) -> Result<(), Fail> {
+fn lines_that_come_together(rt: HostRuntime) {
     let mut output = Flushed {
         taken: 0,
         flushes: Vec::new(rt.alloc()),
     };
-    let mut input = BufReader::new(rt.alloc(), TWO_FETCHES)?;
+    let mut input = BufReader::new(rt.alloc(), TWO_FETCHES).expect(&rt, "memory");
     let ended = run(&Discard, rt.alloc(), &mut input, &mut output);
     assert_eq!(rt; ended, Ok(Ending::End));
     assert_eq!(rt; output.flushes.as_slice(), [0, 20, 20].as_slice());
-    Ok(())
 }
 
 // A line that is skipped isn't traced.
 #[test]
-fn lines_that_are_traced(rt: HostRuntime) -> Result<(), Fail> {
+fn lines_that_are_traced(rt: HostRuntime) {
     let traces = Memory::new(rt.alloc());
     let mut output = Vec::new(rt.alloc());
-    let mut input = BufReader::new(rt.alloc(), TWO_FETCHES)?;
+    let mut input = BufReader::new(rt.alloc(), TWO_FETCHES).expect(&rt, "memory");
     let ended = run(&traces, rt.alloc(), &mut input, &mut output);
     assert_eq!(rt; ended, Ok(Ending::End));
     let mut said = String::new(rt.alloc());
     for line in traces.into_lines().as_slice() {
-        said.push_str(line.as_str())?;
-        said.push('\n')?;
+        said.push_str(line.as_str()).expect(&rt, "memory");
+        said.push('\n').expect(&rt, "memory");
     }
     assert_eq!(rt;
         said.as_str(),
@@ -371,5 +368,4 @@ fn lines_that_are_traced(rt: HostRuntime) -> Result<(), Fail> {
 [TRACE resolver_script::replay] line 4
 "
     );
-    Ok(())
 }

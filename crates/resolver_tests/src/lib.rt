@@ -1,4 +1,4 @@
-//! Tests of `resolver`, and of the engine's core, through their public calls.
+//! Tests of `resolver`: of both machines, of the engine with its handle, and of the laws, through public calls.
 //!
 //! They stand in a crate of their own, so that the libraries aren't proved a second time with them.
 #![tactic(auto)]
@@ -6,11 +6,19 @@
 #[cfg(test)]
 mod actor;
 #[cfg(test)]
+mod asking;
+#[cfg(test)]
+mod engine;
+#[cfg(test)]
 mod laws;
+#[cfg(test)]
+mod mailbox;
 #[cfg(test)]
 mod metrics;
 #[cfg(test)]
 mod mocks;
+#[cfg(test)]
+mod names;
 #[cfg(test)]
 mod runs;
 #[cfg(test)]

@@ -149,8 +149,8 @@ show => key 1 subs 10:7 targets all retries 1 phase waiting retry 30 / wake 30
 ];
 
 #[test]
-fn rows(rt: HostRuntime) -> Result<(), Fail> {
-    print_as_worked(&rt, rt.alloc(), ROWS)
+fn rows(rt: HostRuntime) {
+    print_as_worked(&rt, rt.alloc(), ROWS);
 }
 
 /// Peers that answer late, for others, or broken, and verdicts that come again.
@@ -192,31 +192,30 @@ show => wake none
 ];
 
 #[test]
-fn hostile_peers(rt: HostRuntime) -> Result<(), Fail> {
-    print_as_worked(&rt, rt.alloc(), HOSTILE)
+fn hostile_peers(rt: HostRuntime) {
+    print_as_worked(&rt, rt.alloc(), HOSTILE);
 }
 
 // A peer that asks ten thousand times has ten thousand open serves, and the last of them is
 // answered.
 #[test]
-fn ten_thousand_requests(rt: HostRuntime) -> Result<(), Fail> {
-    let (script, printed) = many_requests(rt.alloc())?;
-    let (output, ended) = replayed(rt.alloc(), &script)?;
+fn ten_thousand_requests(rt: HostRuntime) {
+    let (script, printed) = many_requests(&rt, rt.alloc());
+    let (output, ended) = replayed(&rt, rt.alloc(), &script);
     assert!(rt; output == printed);
     assert_eq!(rt; ended, Ok(Ending::End));
-    Ok(())
 }
 
 /// The script of ten thousand requests, and what it prints.
-fn many_requests(alloc: Global) -> Result<(Vec<u8>, Vec<u8>), Fail> {
+fn many_requests(rt: &impl Abort, alloc: Global) -> (Vec<u8>, Vec<u8>) {
     let mut script = Vec::new(alloc);
     let mut printed = Vec::new(alloc);
-    writeln!(script, "p2p 9 50 10")?;
+    writeln!(script, "p2p 9 50 10").expect(rt, "memory");
     for serve in 0..10_000_u64 {
-        writeln!(script, "net 3 x0000000000000007007b")?;
-        writeln!(printed, "produce {serve} 123")?;
+        writeln!(script, "net 3 x0000000000000007007b").expect(rt, "memory");
+        writeln!(printed, "produce {serve} 123").expect(rt, "memory");
     }
-    writeln!(script, "served 9999 dropped")?;
-    writeln!(printed, "reply 3 x000000000000000702")?;
-    Ok((script, printed))
+    writeln!(script, "served 9999 dropped").expect(rt, "memory");
+    writeln!(printed, "reply 3 x000000000000000702").expect(rt, "memory");
+    (script, printed)
 }

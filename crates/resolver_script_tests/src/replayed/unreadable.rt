@@ -1,7 +1,6 @@
 //! Lines that can't be read.
 
 use super::*;
-use std::process::Abort;
 
 /// Lines that open no machine.
 const OPENINGS: &[&[u8]] = &[
@@ -127,15 +126,14 @@ const OF_NO_ACTOR: &[&[u8]] = &[
 ];
 
 #[test]
-fn openings(rt: HostRuntime) -> Result<(), Fail> {
+fn openings(rt: HostRuntime) {
     for &line in OPENINGS {
-        assert_unreadable(&rt, rt.alloc(), b"", line, b"line 1 unreadable\n")?;
+        assert_unreadable(&rt, rt.alloc(), b"", line, b"line 1 unreadable\n");
     }
-    Ok(())
 }
 
 #[test]
-fn of_no_engine(rt: HostRuntime) -> Result<(), Fail> {
+fn of_no_engine(rt: HostRuntime) {
     for &line in OF_NO_ENGINE {
         assert_unreadable(
             &rt,
@@ -143,33 +141,24 @@ fn of_no_engine(rt: HostRuntime) -> Result<(), Fail> {
             b"p2p 9 50 10\n",
             line,
             b"line 2 unreadable\n",
-        )?;
+        );
     }
-    Ok(())
 }
 
 #[test]
-fn of_no_actor(rt: HostRuntime) -> Result<(), Fail> {
+fn of_no_actor(rt: HostRuntime) {
     for &line in OF_NO_ACTOR {
-        assert_unreadable(&rt, rt.alloc(), b"opaque 1\n", line, b"line 2 unreadable\n")?;
+        assert_unreadable(&rt, rt.alloc(), b"opaque 1\n", line, b"line 2 unreadable\n");
     }
-    Ok(())
 }
 
 /// A line ends the script, and no line behind it is read.
-fn assert_unreadable(
-    rt: &impl Abort,
-    alloc: Global,
-    before: &[u8],
-    line: &[u8],
-    printed: &[u8],
-) -> Result<(), Fail> {
+fn assert_unreadable(rt: &impl Abort, alloc: Global, before: &[u8], line: &[u8], printed: &[u8]) {
     let mut script = Vec::new(alloc);
-    script.extend_from_slice(before)?;
-    script.extend_from_slice(line)?;
-    script.extend_from_slice(b"\nshow\n")?;
-    let (output, ended) = replayed(alloc, &script)?;
+    script.extend_from_slice(before).expect(rt, "memory");
+    script.extend_from_slice(line).expect(rt, "memory");
+    script.extend_from_slice(b"\nshow\n").expect(rt, "memory");
+    let (output, ended) = replayed(rt, alloc, &script);
     assert_eq!(rt; output.as_slice(), printed, "{line:?}");
     assert!(rt; is_unreadable(ended), "{line:?}");
-    Ok(())
 }

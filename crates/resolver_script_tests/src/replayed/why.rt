@@ -60,13 +60,13 @@ const SAID: &[(&[u8], &str)] = &[
 ];
 
 #[test]
-fn unreadable_lines_say_why(rt: HostRuntime) -> Result<(), Fail> {
+fn unreadable_lines_say_why(rt: HostRuntime) {
     for &(script, said) in SAID {
-        let (_, ended) = replayed(rt.alloc(), script)?;
+        let (_, ended) = replayed(&rt, rt.alloc(), script);
         let Ok(Ending::Unreadable(place)) = ended else {
-            return Err("an unreadable line".into());
+            panic!(rt; "an unreadable line");
         };
-        assert_eq!(rt; format!(in rt.alloc(); "{place}")?.as_str(), said);
+        let text = format!(in rt.alloc(); "{place}").expect(&rt, "memory");
+        assert_eq!(rt; text.as_str(), said);
     }
-    Ok(())
 }

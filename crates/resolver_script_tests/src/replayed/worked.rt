@@ -2,8 +2,6 @@
 //! prints, with ` / ` between them. A line without ` => ` prints nothing.
 
 use super::*;
-use std::alloc::AllocError;
-use std::process::Abort;
 
 /// Nothing stands before.
 pub const NOTHING: &str = "";
@@ -35,55 +33,43 @@ net 4 x000000000000000501026869 => deliver 0 1 10 x6869
 ";
 
 /// Each script prints what stands there, and is read to its end.
-pub fn print_as_worked(
-    rt: &impl Abort,
-    alloc: Global,
-    rows: &[(&str, &str, &str)],
-) -> Result<(), Fail> {
+pub fn print_as_worked(rt: &impl Abort, alloc: Global, rows: &[(&str, &str, &str)]) {
     for (name, before, script) in rows {
-        print_one(rt, alloc, name, before, script)?;
+        print_one(rt, alloc, name, before, script);
     }
-    Ok(())
 }
 
-fn print_one(
-    rt: &impl Abort,
-    alloc: Global,
-    name: &str,
-    before: &str,
-    after: &str,
-) -> Result<(), Fail> {
+fn print_one(rt: &impl Abort, alloc: Global, name: &str, before: &str, after: &str) {
     let mut script = Vec::new(alloc);
     let mut printed = Vec::new(alloc);
-    add_lines(before, &mut script, &mut printed)?;
-    add_lines(after, &mut script, &mut printed)?;
-    let (output, ended) = replayed(alloc, &script)?;
+    add_lines(rt, before, &mut script, &mut printed);
+    add_lines(rt, after, &mut script, &mut printed);
+    let (output, ended) = replayed(rt, alloc, &script);
     assert_eq!(rt; str::from_utf8(&output), str::from_utf8(&printed), "{name}");
     assert_eq!(rt; ended, Ok(Ending::End), "{name}");
-    Ok(())
 }
 
 /// Adds lines to a script, and what they print.
-fn add_lines(text: &str, script: &mut Vec<u8>, printed: &mut Vec<u8>) -> Result<(), AllocError> {
+fn add_lines(rt: &impl Abort, text: &str, script: &mut Vec<u8>, printed: &mut Vec<u8>) {
     for line in text.split('\n') {
-        add_line(line, script, printed)?;
+        add_line(rt, line, script, printed);
     }
-    Ok(())
 }
 
-fn add_line(line: &str, script: &mut Vec<u8>, printed: &mut Vec<u8>) -> Result<(), AllocError> {
+fn add_line(rt: &impl Abort, line: &str, script: &mut Vec<u8>, printed: &mut Vec<u8>) {
     let Some((said, answers)) = line.split_once(" => ") else {
-        return put_line(script, line);
+        put_line(rt, script, line);
+        return;
     };
-    put_line(script, said)?;
+    put_line(rt, script, said);
     for answer in answers.split(" / ") {
-        put_line(printed, answer)?;
+        put_line(rt, printed, answer);
     }
-    Ok(())
 }
 
-fn put_line(lines: &mut Vec<u8>, line: &str) -> Result<(), AllocError> {
-    lines.extend_from_slice(line.as_bytes())?;
-    lines.push(b'\n')?;
-    Ok(())
+fn put_line(rt: &impl Abort, lines: &mut Vec<u8>, line: &str) {
+    lines
+        .extend_from_slice(line.as_bytes())
+        .expect(rt, "memory");
+    lines.push(b'\n').expect(rt, "memory");
 }

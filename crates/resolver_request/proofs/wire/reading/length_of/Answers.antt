@@ -1,6 +1,8 @@
 use Rattle.std.proofs.Common.{◌≡◌, ℕ, ◌+◌, ◌-◌, ◌*◌, ◌^◌, ◌<◌, get_or, refl, add-one, arith}
 use Rattle.std.proofs.lemmas.Bool.Decides.{nat_tests}
+use Rattle.std.proofs.lemmas.Grind.{common_steps}
 use Rattle.std.proofs.Math.Nat.{pow-suc}
+use Rattle.resolver_request.specs.Reading.{varint_at}
 use Rattle.resolver_request.proofs.Groups.{Adds, goes_on, group_adds}
 use Rattle.resolver_request.proofs.wire.reading.length_of.Goals as goal
 use Rattle.resolver_request.proofs.wire.reading.length_of.Goals.{then-place, else-place}
@@ -47,3 +49,18 @@ loop-place-preserved c =
       low = omega (arith, adds.below, inv.low);
       so_far = goes_on c.args.bytes.now c.loop-place.place c.loop-place.length c.loop-place.worth c.from.result _ few (omega arith) c.if-byte-lt128.false group inv.so_far;
     }
+
+pub returns-then-place-bytes-clause-length : goal.returns-then-place-bytes-clause-length
+unfolding varint_at
+returns-then-place-bytes-clause-length c = grind (arith, common_steps)
+
+pub returns-then-is_padded-clause-length : goal.returns-then-is_padded-clause-length
+unfolding varint_at
+returns-then-is_padded-clause-length c = grind (arith, common_steps)
+
+pub returns-then-byte-lt128-clause-length : goal.returns-then-byte-lt128-clause-length
+unfolding varint_at
+returns-then-byte-lt128-clause-length c = grind (arith, common_steps)
+
+pub returns-then-byte-lt128-clause-after : goal.returns-then-byte-lt128-clause-after
+returns-then-byte-lt128-clause-after c = grind (arith, common_steps)

@@ -70,6 +70,39 @@ loop-level-preserved c =
       total = c.loop-level.invariant.total;
     }
 
+pub shift-requires-clause-within : goal.shift-requires-clause-within
+shift-requires-clause-within c = omega (arith, c.loop-level.invariant.ascends.within, c.loop-level.invariant.ascends.stored, c.loop-level.invariant.ascends.same_length)
+
+-- once all levels are through, the node is the top one
+at-top : (c : goal.After-loop-level) → c.loop-level.node ≡ 1
+at-top c =
+    let none : c.self.inside.shape.depth - c.loop-level._level ≡ 0 = omega (arith, c.loop-level-test.false) in
+    omega (arith, rw none at c.loop-level.invariant.from, rw none at c.loop-level.invariant.below)
+
+-- the change has risen to this node, over the numbers that were there
+risen : (c : goal.After-loop-level) → Ascends c.self.inside.shape.leaves c.args.place c.replace-less.result c.from-more.result c.self.inside.nodes c.loop-level.self-inside.nodes c.loop-level.node
+risen c =
+    let back : slice_set c.replace-less.new.self (c.self.inside.shape.leaves + c.args.place) c.replace-less.result ≡ c.self.inside.nodes =
+    set-back c.self.inside.nodes c.replace-less.new.self (c.self.inside.shape.leaves + c.args.place) c.from-more.result c.replace-less.result c.replace-less.ensures.set c.replace-less.ensures.was in
+    rw back at c.loop-level.invariant.ascends
+
+pub overflow_sub-self : goal.overflow_sub-self
+overflow_sub-self c = omega (arith, c.self.invariant.root, c.loop-level.invariant.total, rw (at-top c) at (risen c).held)
+
+pub overflow_add-self : goal.overflow_add-self
+overflow_add-self c = omega (arith, c.self.invariant.root, c.loop-level.invariant.total, (risen c).fits)
+
+pub returns-clause-was : goal.returns-clause-was
+returns-clause-was c =
+    rw (← c.self.view_is) (c.replace-less.ensures.was ∙ sym (get_or-drop c.self.inside.shape.leaves c.self.inside.nodes c.args.place 0))
+
+pub returns-clause-visits : goal.returns-clause-visits
+returns-clause-visits c = λ digits few.
+    let stored : length (drop c.self.inside.shape.leaves c.self.inside.nodes) < 2 ^ digits = rw c.self.view_is few in
+    let low : c.self.inside.shape.depth ≤ digits =
+    c.self.invariant.shape.low digits (omega (arith, stored, length-drop c.self.inside.shape.leaves c.self.inside.nodes)) in
+    omega (arith, low, c.loop-level.invariant.visits, c.loop-level.auto._level-end)
+
 pub overflow_cast-result : goal.overflow_cast-result
 overflow_cast-result c =
     let was : slice_index (drop c.self.inside.shape.leaves c.self.inside.nodes) c.args.place ≡ c.replace-less.result =

@@ -1,3 +1,0 @@
-pub use Rattle.resolver_root.specs.Names
-pub use Rattle.resolver_demand.specs.Entries
-pub mod Polled

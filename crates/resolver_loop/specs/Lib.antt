@@ -1,0 +1,6 @@
+pub use Rattle.resolver_root.specs.Names
+pub use Rattle.resolver_demand.specs.Entries
+pub mod Verdict
+pub mod Deadlines
+pub mod Endings
+pub mod Polled

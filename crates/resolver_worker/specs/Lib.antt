@@ -1,2 +1,0 @@
-pub mod Deadlines
-pub mod Endings
