@@ -1,14 +1,16 @@
 -- The waiting keys by their dues, through every change of the entries.
 use Rattle.std.proofs.Common.{◌≡◌, refl, ap, sym, ◌∙◌, subst, ℕ, Bool, true, false, cond, List, [], ◌∷◌, Option, None, Some, filter, map, arith, option_map, eq-eqb, ◌^◌, ◌<◌}
 use Rattle.std.proofs.lemmas.Bool.Decides.{nat_tests}
+use Rattle.std.proofs.lemmas.Cmp.{tied_itself}
 use Rattle.std.proofs.lemmas.Grind.{common_steps}
 use Rattle.std.specs.Cmp.{IsEquivalence, IsTotalOrder, Equal-is}
 use Rattle.std.specs.List.Sorted.{IsStrictlySortedBy}
 use Rattle.std.specs.Map.{keys_of, lookup, remove_entry, set_value}
 use Rattle.std.specs.BTreeMap.{insert_entry, is_at}
 use Rattle.std.specs.BTreeSet.{insert_key}
-use Rattle.std.specs.Ordering.{is_eq, nat_cmp}
+use Rattle.std.specs.Ordering.{is_eq, match_ordering, nat_cmp}
 use Rattle.std.specs.declared.cmp.Ordering.{Ordering}
+use Rattle.std.specs.declared.cmp.Ordering.TheVariants.{Less, Equal, Greater}
 use Rattle.resolver_priorities.specs.Priorities.{is_of, pair_order, put, without}
 use Rattle.resolver_priorities.proofs.Priorities.{is_of-same, is_of-other, then-equal, without-none, first_of-none}
 use Rattle.resolver_base.specs.declared.base.fault.Fault.{Fault}
@@ -36,17 +38,53 @@ module _ {K : Type 0} {cmp : K → K → Ordering} (o : IsTotalOrder cmp) where
       let of = is_of-other o x q p in
       grind (arith, common_steps, rest, of)
 
+  -- equal keys have the same pairs
+  pairs-same : (x q : K) (pairs : List (ℕ × K)) → cmp x q ≡ Equal → filter (is_of cmp x) pairs ≡ filter (is_of cmp q) pairs
+  pairs-same x q [] same = refl
+  pairs-same x q (p ∷ pairs) same =
+      ap (λ b. cond b (p ∷ filter (is_of cmp x) pairs) (filter (is_of cmp x) pairs)) (is_of-same o x q p same)
+      ∙ ap (λ (ps : List (ℕ × K)). cond (is_of cmp q p) (p ∷ ps) ps) (pairs-same x q pairs same)
+
+  -- the pairs of a key behind a new one
+  pairs-front : (p : ℕ × K) (q : K) (pairs : List (ℕ × K)) → filter (is_of cmp p.1) pairs ≡ []
+      → filter (is_of cmp q) (p ∷ pairs) ≡ cond (is_eq (cmp p.1 q)) (p ∷ []) (filter (is_of cmp q) pairs)
+  pairs-front p q pairs none =
+      let of = is_of-other o p.1 q p in
+      let here = is_of-same o p.1 q p in
+      let same = pairs-same p.1 q pairs in
+      let itself = tied_itself o p.1 in
+      let tied = Equal-is (cmp p.1 q) in
+      grind (arith, common_steps, of, here, same, itself, tied, none)
+
   -- the pairs of a key after another one was put in
   pairs-insert : (p : ℕ × K) (q : K) (pairs : List (ℕ × K)) → filter (is_of cmp p.1) pairs ≡ []
       → filter (is_of cmp q) (insert_key (pair_order nat_cmp cmp) pairs p) ≡ cond (is_eq (cmp p.1 q)) (p ∷ []) (filter (is_of cmp q) pairs)
-  pairs-insert p q [] none = grind (arith, common_steps)
-  pairs-insert p q (e ∷ pairs) none =
-      let rest = pairs-insert p q pairs in
-      let of = is_of-other o p.1 q e in
-      let here = is_of-same o p.1 q e in
-      let tied = Equal-is (cmp p.1 q) in
-      let both = then-equal (nat_cmp p.0 e.0) (cmp p.1 e.1) in
-      grind (arith, common_steps, rest, of, here, tied, both, none)
+  pairs-insert p q [] none = pairs-front p q [] refl
+  pairs-insert p q (e ∷ pairs) none = at (pairs-insert p q pairs others.1) (pair_order nat_cmp cmp p e) refl
+    where
+      apart : (b : Bool) → cond b (e ∷ filter (is_of cmp p.1) pairs) (filter (is_of cmp p.1) pairs) ≡ [] → (b ≡ false) × (filter (is_of cmp p.1) pairs ≡ [])
+      apart true is = cc
+      apart false is = (refl, is)
+
+      others : (is_eq (cmp p.1 e.1) ≡ false) × (filter (is_of cmp p.1) pairs ≡ [])
+      others = apart (is_eq (cmp p.1 e.1)) none
+
+      never : is_of cmp q e ≡ true → is_eq (cmp p.1 q) ≡ true → ⊥
+      never of same = let clash : true ≡ false = sym same ∙ (sym (is_of-other o p.1 q e of) ∙ others.0) in cc
+
+      behind : (b c : Bool) (fs : List (ℕ × K)) → (b ≡ true → c ≡ true → ⊥) → cond b (e ∷ cond c (p ∷ []) fs) (cond c (p ∷ []) fs) ≡ cond c (p ∷ []) (cond b (e ∷ fs) fs)
+      behind true true fs not_both = absurd (not_both refl refl)
+      behind true false fs not_both = refl
+      behind false c fs not_both = refl
+
+      at : filter (is_of cmp q) (insert_key (pair_order nat_cmp cmp) pairs p) ≡ cond (is_eq (cmp p.1 q)) (p ∷ []) (filter (is_of cmp q) pairs)
+          → (a : Ordering) → pair_order nat_cmp cmp p e ≡ a
+          → filter (is_of cmp q) (match_ordering a (p ∷ e ∷ pairs) (e ∷ pairs) (e ∷ insert_key (pair_order nat_cmp cmp) pairs p)) ≡ cond (is_eq (cmp p.1 q)) (p ∷ []) (filter (is_of cmp q) (e ∷ pairs))
+      at rest Less is = pairs-front p q (e ∷ pairs) none
+      at rest Equal is = let both = then-equal (nat_cmp p.0 e.0) (cmp p.1 e.1) in grind (arith, common_steps, is, both, others.0)
+      at rest Greater is =
+          ap (λ (ps : List (ℕ × K)). cond (is_of cmp q e) (e ∷ ps) ps) rest
+          ∙ behind (is_of cmp q e) (is_eq (cmp p.1 q)) (filter (is_of cmp q) pairs) never
 
   pub pairs-put : (r : ℕ) (x q : K) (pairs : List (ℕ × K)) → filter (is_of cmp x) pairs ≡ []
       → filter (is_of cmp q) (put nat_cmp cmp pairs (r, x)) ≡ cond (is_eq (cmp x q)) ((r, x) ∷ []) (filter (is_of cmp q) pairs)

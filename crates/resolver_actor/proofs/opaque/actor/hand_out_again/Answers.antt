@@ -1,4 +1,4 @@
-use Rattle.std.proofs.Common.{None, ◌≡◌, ◌∙◌, ap, Some, ◌++◌, ◌∷◌, [], subst}
+use Rattle.std.proofs.Common.{None, ◌≡◌, ◌∙◌, ap, refl, Some, ◌++◌, ◌∷◌, [], subst, arith}
 use Rattle.resolver_demand.specs.Entries.{response_of}
 use Rattle.resolver_actor.specs.OpaqueFound.{flagged}
 use Rattle.resolver_actor.proofs.Closing.{keys-flagged, cached-flagged, response-flagged, number-flagged, state-flagged, keys-redelivered, cached-redelivered, some-is, holds-at, some-none, some-same, next-flagged, told-same}
@@ -63,3 +63,29 @@ returns-clause-told g c =
     (c.in_ok-push.ensures.items
     ∙ ap (λ one. c.args.effects.now.items ++ one ∷ [])
     (told-same _ _ _ _ _ _ _ _ number (ap (λ r. r.name) same) (ap (λ copies. copies.0) c.in-Ok.ensures) (ap (λ copies. copies.1) c.in-Ok.ensures ∙ ap (λ r. r.value) same)))
+
+pub note_accepted-requires : goal.note_accepted-requires
+note_accepted-requires g c = record { cached = c.requires.cached }
+
+pub copies-requires : goal.copies-requires
+copies-requires g c = record { keys_clone = c.requires.keys_clone; values_clone = c.requires.values_clone; subscribers_clone = c.requires.subscribers_clone }
+
+pub returns-in-Err-clause-attempts : goal.returns-in-Err-clause-attempts
+returns-in-Err-clause-attempts g c = rw c.note_accepted.ensures refl
+
+pub returns-in-Err-redeliver-clause-attempts : goal.returns-in-Err-redeliver-clause-attempts
+returns-in-Err-redeliver-clause-attempts g c = rw (c.in-Err-redeliver.ensures.err, c.note_accepted.ensures) refl
+
+pub returns-in_err-push-clause-attempts : goal.returns-in_err-push-clause-attempts
+returns-in_err-push-clause-attempts g c = rw (c.in-Ok-redeliver.ensures.ok, c.note_accepted.ensures) refl
+
+pub returns-clause-attempts : goal.returns-clause-attempts
+returns-clause-attempts g c = rw (c.in-Ok-redeliver.ensures.ok, c.note_accepted.ensures) refl
+
+pub returns-clause-ok : goal.returns-clause-ok
+returns-clause-ok g c = rw (c.in-Ok-redeliver.ensures.ok, c.note_accepted.ensures) refl
+
+pub returns-clause-room : goal.returns-clause-room
+returns-clause-room g c =
+    let number = c.in-Ok-redeliver.ensures.number ∙ (ap (λ d. d.next) (ap (λ s. s.entries) c.note_accepted.ensures) ∙ next-flagged g.K.Ord.cmp c.args.accepted c.args.delivery.key c.args.stages.now.entries) in
+    omega (arith, number)

@@ -1,4 +1,5 @@
-use Rattle.std.proofs.Common.{◌≡◌, ◌∙◌, ℕ, List, ◌∷◌, ◌++◌, [], ap, sym, refl, rules}
+use Rattle.std.proofs.Common.{◌≡◌, ◌∙◌, ℕ, List, ◌∷◌, ◌++◌, [], Option, None, Some, ap, sym, refl, arith}
+use Rattle.std.specs.Prelude.{IfSome}
 use Rattle.resolver_root.specs.declared.root.Delivery.{Delivery}
 use Rattle.resolver_actor.specs.declared.opaque.actor.Effect.{Effect}
 use Rattle.resolver_actor.specs.declared.opaque.actor.Effect.TheVariants.{Deliver}
@@ -51,5 +52,22 @@ returns g c =
     rw (← c.self.view_is, ap (λ s. s.next_attempt) c.in-Ok-deliver.ensures.ok)
     (at-idle _ _ idle (λ row found waits.
     hand_out_goes (names g.K.Ord.cmp g.S.Ord.cmp) c.self.inside.demand c.self.inside.stages.entries c.self.invariant.agree c.self.inside.stages.next_attempt c.self.inside.delay (status_of c.self.inside.status) c.args.key row c.in-Ok-Some.subscribers c.args.value c.args.effects.now.items c.push.new.self.items c.deliver.new.self.entries c.in-Ok-deliver.number
-    found wanted c.in-Ok-deliver.ensures.number (search rules) put
+    found wanted c.in-Ok-deliver.ensures.number (omega arith) put
     (told-is _ _ _ _ _ _ c.in_ok-push.ensures.items (ap (λ copies. copies.0) c.in-Ok.ensures))))
+
+-- what holds of whatever is there
+of-any : {R : Type 0} (found : Option R) (P : R → Type 0) → ((row : R) → P row) → IfSome found P
+of-any None P holds = tt
+of-any (Some row) P holds = holds row
+
+pub copies-requires : goal.copies-requires
+copies-requires g c = record { keys_clone = c.requires.keys_clone; values_clone = c.requires.values_clone; subscribers_clone = c.requires.subscribers_clone }
+
+pub invariant_of-self : goal.invariant_of-self
+invariant_of-self g c = rw c.in-Err-deliver.ensures.err c.self.invariant
+
+pub returns-in-Err : goal.returns-in-Err
+returns-in-Err g c = rw c.in-Err.ensures.only (of-any _ _ (λ row. tt))
+
+pub returns-in-Err-copies : goal.returns-in-Err-copies
+returns-in-Err-copies g c = rw c.from.ensures (of-any _ _ (λ row. tt))

@@ -1,4 +1,4 @@
-use Rattle.std.proofs.Common.{◌≡◌, ◌∙◌, ◌+◌, ℕ, Some, None, ap, cond, rules}
+use Rattle.std.proofs.Common.{◌≡◌, ◌∙◌, ◌+◌, ℕ, Some, None, ap, refl, cond, rules}
 use Rattle.std.specs.Map.{lookup}
 use Rattle.std.specs.BTreeMap.{is_at}
 use Rattle.std.specs.Ordering.{nat_cmp}
@@ -31,3 +31,28 @@ invariant_of-self-2 g c =
       led-asked g.met.K.Ord.total (eq_by_cmp_equiv g.met.K.Ord.total) c.args.key c.self.inside.attempts c.self.inside.asked c.insert.new.self c.self.inside.entries.keys c.self.invariant.0 none put,
       due-asked g.met.K.Ord.total (eq_by_cmp_equiv g.met.K.Ord.total) c.args.key c.self.inside.retries c.self.inside.entries.keys c.self.invariant.1 c.self.inside.attempts none,
     )
+
+pub invariant_of-self : goal.invariant_of-self
+invariant_of-self g c = rw c.in_err-insert.ensures.err c.self.invariant
+
+pub insert_new-asked-requires : goal.insert_new-asked-requires
+insert_new-asked-requires g c = record { absent = rw (← c.self.view_is) at c.requires.absent }
+
+pub returns-in-Err : goal.returns-in-Err
+returns-in-Err g c = record {
+  attempt = tt;
+  ok = tt;
+  err = rw c.in-Err.ensures.err c.self.view_is;
+  only = search rules;
+}
+
+pub returns : goal.returns
+returns g c =
+    let is_next : c.in_ok-attempt.attempt ≡ c.self.inside.attempts = search rules in
+    let counted : c.take.new.self ≡ c.self.inside.attempts + 1 = search rules in
+    record {
+      attempt = is_next ∙ ap (λ s. s.next_attempt) c.self.view_is;
+      ok = rw (← c.self.view_is, c.in_default.ensures.ok, counted, is_next) refl;
+      err = tt;
+      only = tt;
+    }

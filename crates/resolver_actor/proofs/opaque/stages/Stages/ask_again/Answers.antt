@@ -1,4 +1,4 @@
-use Rattle.std.proofs.Common.{◌≡◌, ◌∙◌, ◌+◌, ℕ, Some, ap, cond, rules}
+use Rattle.std.proofs.Common.{◌≡◌, ◌∙◌, ◌+◌, ℕ, Some, ap, refl, cond, rules}
 use Rattle.std.specs.Map.{lookup}
 use Rattle.std.specs.BTreeMap.{is_at}
 use Rattle.std.specs.Ordering.{nat_cmp}
@@ -19,3 +19,17 @@ invariant_of-self-2 g c =
       led-again g.met.K.Ord.total (eq_by_cmp_equiv g.met.K.Ord.total) c.args.key.now c.self.inside.attempts c.self.inside.asked c.leave.new.asked c.self.inside.entries.keys c.self.invariant.0 c.insert.new.self own put c.leave.ensures,
       due-again g.met.K.Ord.total (eq_by_cmp_equiv g.met.K.Ord.total) c.args.key.now c.self.inside.retries c.self.inside.entries.keys c.self.invariant.1 c.self.inside.attempts,
     )
+
+pub invariant_of-self : goal.invariant_of-self
+invariant_of-self g c = rw c.in_err-insert.ensures.err c.self.invariant
+
+pub returns : goal.returns
+returns g c =
+    let is_next : c.in_ok-attempt.attempt ≡ c.self.inside.attempts = search rules in
+    let counted : c.take.new.self ≡ c.self.inside.attempts + 1 = search rules in
+    record {
+      attempt = is_next ∙ ap (λ s. s.next_attempt) c.self.view_is;
+      ok = rw (← c.self.view_is, c.set_state.ensures, counted, is_next) refl;
+      err = tt;
+      only = tt;
+    }
