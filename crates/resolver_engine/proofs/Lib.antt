@@ -28,3 +28,4 @@ mod Verdicts
 mod Shown
 mod RunLaws
 mod Settled
+mod Refusals

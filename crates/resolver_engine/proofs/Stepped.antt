@@ -1,5 +1,5 @@
 -- What a step is to the machines that the engine's core matches.
-use Rattle.std.proofs.Common.{◌≡◌, refl, ap, sym, ◌∙◌, subst, ℕ, Bool, true, false, List, [], ◌++◌, map, Result, Ok, Err, if◌then◌else◌}
+use Rattle.std.proofs.Common.{◌≡◌, ◌≢◌, refl, ap, sym, ◌∙◌, subst, ℕ, Bool, true, false, List, [], ◌++◌, map, Result, Ok, Err, if◌then◌else◌}
 use Rattle.resolver_base.specs.declared.base.fault.Fault.{Fault}
 use Rattle.resolver_base.specs.declared.base.fault.Fault.TheVariants as faults
 use Rattle.resolver_peer.specs.Parties.{Parties}
@@ -145,3 +145,12 @@ module _ {K S P : Type 0} (a : Parties K S P) where
 
   pub still-tied : (e : Parts K P S) (code : CodeStatus) → code ≡ statuses.Running → IsTied a e → IsTiedUnlessFailed a (status_of code) e
   still-tied e code is tied = subst (λ code. IsTiedUnlessFailed a (status_of code) e) (sym is) tied
+
+  -- a core that hasn't failed has parts that agree
+  pub was-well : (e : Parts K P S) (code : CodeStatus) (now : Engine K S P) (m : Machine K S P) → core e (status_of code) ≡ now → Matches a now m → m.status ≢ Failed → Agrees a e m
+  was-well e code now m view matched well = at code (subst (λ now. Matches a now m) (sym view) matched)
+    where
+      at : (code : CodeStatus) → Matches a (core e (status_of code)) m → Agrees a e m
+      at statuses.Running is = agrees-of e m is.held
+      at statuses.Ended is = agrees-of e m is.held
+      at statuses.Failed is = absurd (well (sym is.status))

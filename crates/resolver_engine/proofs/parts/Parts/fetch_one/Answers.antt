@@ -2,6 +2,7 @@ use Rattle.std.proofs.Common.{refl, ap, sym, ◌∙◌}
 use Rattle.std.proofs.lemmas.Result.{on_ok_weaker}
 use Rattle.resolver_peer.specs.Parties.{parties}
 use Rattle.resolver_engine.proofs.Fails.{over}
+use Rattle.resolver_engine.proofs.Refusals.{refused, refused-as}
 use Rattle.resolver_engine.proofs.Wanted.{new-agrees, new-not_asked, new-not_waiting, present-agrees}
 use Rattle.resolver_engine.proofs.parts.Parts.fetch_one.Goals as goal
 
@@ -43,3 +44,39 @@ returns-clause-ok g c = λ m is.
     (λ readies. new-agrees a g.met.K.Ord.total m is.sound c.args.item.key c.args.self.now _ is (over a c.args.self.now m is c.requires.closed) c.args.now c.args.item.subscribers c.args.item.metadata
     (sym new) wanted tracked readies refl)
     c.ready.ensures.ok
+
+pub returns-in_err-wanted-clause-ok : goal.returns-in_err-wanted-clause-ok
+returns-in_err-wanted-clause-ok g c = λ m is. refused c.from_residual.result _ _ c.from_residual.ensures.1
+
+pub returns-in_err-wanted-clause-only : goal.returns-in_err-wanted-clause-only
+returns-in_err-wanted-clause-only g c = refused-as c.from_residual.result _ _ c.from_residual.ensures.1 (λ fault same. same)
+
+pub returns-in_err-insert-clause-ok : goal.returns-in_err-insert-clause-ok
+returns-in_err-insert-clause-ok g c = λ m is. refused c.from_residual-in_err-insert.result _ _ c.from_residual-in_err-insert.ensures.1
+
+pub returns-in_err-insert-clause-only : goal.returns-in_err-insert-clause-only
+returns-in_err-insert-clause-only g c = refused-as c.from_residual-in_err-insert.result _ _ c.from_residual-in_err-insert.ensures.1 (λ fault same. same ∙ c.in_err-insert.ensures.only)
+
+pub returns-in_err-tracked-clause-ok : goal.returns-in_err-tracked-clause-ok
+returns-in_err-tracked-clause-ok g c = λ m is. refused c.from_residual-in_err-tracked.result _ _ c.from_residual-in_err-tracked.ensures.1
+
+pub returns-in_err-tracked-clause-only : goal.returns-in_err-tracked-clause-only
+returns-in_err-tracked-clause-only g c = refused-as c.from_residual-in_err-tracked.result _ _ c.from_residual-in_err-tracked.ensures.1 (λ fault same. same)
+
+pub returns-in_err-insert_state-clause-ok : goal.returns-in_err-insert_state-clause-ok
+returns-in_err-insert_state-clause-ok g c = λ m is. refused c.from_residual-in_err-insert_state.result _ _ c.from_residual-in_err-insert_state.ensures.1
+
+pub returns-in_err-insert_state-clause-only : goal.returns-in_err-insert_state-clause-only
+returns-in_err-insert_state-clause-only g c = refused-as c.from_residual-in_err-insert_state.result _ _ c.from_residual-in_err-insert_state.ensures.1 (λ fault same. same ∙ c.in_err-insert_state.ensures.only)
+
+pub aim-requires-clause-peers_clone : goal.aim-requires-clause-peers_clone
+aim-requires-clause-peers_clone g c = c.requires.peers_clone
+
+pub ready-requires-clause-keys_clone : goal.ready-requires-clause-keys_clone
+ready-requires-clause-keys_clone g c = c.requires.keys_clone
+
+pub ready-requires-clause-peers_clone : goal.ready-requires-clause-peers_clone
+ready-requires-clause-peers_clone g c = c.requires.peers_clone
+
+pub ready-requires-clause-moment : goal.ready-requires-clause-moment
+ready-requires-clause-moment g c = c.requires.moment

@@ -3,6 +3,7 @@ use Rattle.resolver_demand.specs.Rows.{AreListed}
 use Rattle.resolver_peer.specs.Parties.{parties}
 use Rattle.resolver_peer.specs.Peer.{row_of}
 use Rattle.resolver_engine.specs.Listed.{listed}
+use Rattle.resolver_engine.proofs.Refusals.{refused, refused-as}
 use Rattle.resolver_engine.proofs.Shown.{Lists, listed-once, listed-ordered, lists-all, lists-none, next-of, some-at, there-wanted}
 use Rattle.resolver_engine.proofs.parts.Parts.rows.Goals as goal
 
@@ -65,3 +66,51 @@ returns-clause-ordered g c =
     let agrees = c.requires.tied.1 in
     let all = lists-all a g.met.K.Ord.total m agrees.sound list (subst (Lists a m list) c.in-None.ensures.steps.0 (c.loop-key.invariant.lists m agrees)) in
     listed-ordered a g.met.K.Ord.total m agrees.sound list all
+
+pub returns-in_err-list-clause-only : goal.returns-in_err-list-clause-only
+returns-in_err-list-clause-only g c = refused-as c.from_residual.result _ _ c.from_residual.ensures.1 (λ fault same. same)
+
+pub returns-in_err-listed-clause-only : goal.returns-in_err-listed-clause-only
+returns-in_err-listed-clause-only g c = refused-as c.from_residual-in_err-listed.result _ _ c.from_residual-in_err-listed.ensures.1 (λ fault same. same ∙ c.in_err-listed.ensures.only)
+
+pub returns-in_err-push-clause-only : goal.returns-in_err-push-clause-only
+returns-in_err-push-clause-only g c = refused-as c.from_residual-in_err-push.result _ _ c.from_residual-in_err-push.ensures.1 (λ fault same. same)
+
+pub returns-in_err-list-clause-rows : goal.returns-in_err-list-clause-rows
+returns-in_err-list-clause-rows g c = λ m agrees. refused c.from_residual.result _ _ c.from_residual.ensures.1
+
+pub returns-in_err-list-clause-once : goal.returns-in_err-list-clause-once
+returns-in_err-list-clause-once g c = refused c.from_residual.result _ _ c.from_residual.ensures.1
+
+pub returns-in_err-list-clause-ordered : goal.returns-in_err-list-clause-ordered
+returns-in_err-list-clause-ordered g c = refused c.from_residual.result _ _ c.from_residual.ensures.1
+
+pub returns-in_err-listed-clause-rows : goal.returns-in_err-listed-clause-rows
+returns-in_err-listed-clause-rows g c = λ m agrees. refused c.from_residual-in_err-listed.result _ _ c.from_residual-in_err-listed.ensures.1
+
+pub returns-in_err-listed-clause-once : goal.returns-in_err-listed-clause-once
+returns-in_err-listed-clause-once g c = refused c.from_residual-in_err-listed.result _ _ c.from_residual-in_err-listed.ensures.1
+
+pub returns-in_err-listed-clause-ordered : goal.returns-in_err-listed-clause-ordered
+returns-in_err-listed-clause-ordered g c = refused c.from_residual-in_err-listed.result _ _ c.from_residual-in_err-listed.ensures.1
+
+pub returns-in_err-push-clause-rows : goal.returns-in_err-push-clause-rows
+returns-in_err-push-clause-rows g c = λ m agrees. refused c.from_residual-in_err-push.result _ _ c.from_residual-in_err-push.ensures.1
+
+pub returns-in_err-push-clause-once : goal.returns-in_err-push-clause-once
+returns-in_err-push-clause-once g c = refused c.from_residual-in_err-push.result _ _ c.from_residual-in_err-push.ensures.1
+
+pub returns-in_err-push-clause-ordered : goal.returns-in_err-push-clause-ordered
+returns-in_err-push-clause-ordered g c = refused c.from_residual-in_err-push.result _ _ c.from_residual-in_err-push.ensures.1
+
+pub listed-requires-clause-keys_clone : goal.listed-requires-clause-keys_clone
+listed-requires-clause-keys_clone g c = c.requires.keys_clone
+
+pub listed-requires-clause-peers_clone : goal.listed-requires-clause-peers_clone
+listed-requires-clause-peers_clone g c = c.requires.peers_clone
+
+pub listed-requires-clause-subscribers_clone : goal.listed-requires-clause-subscribers_clone
+listed-requires-clause-subscribers_clone g c = c.requires.subscribers_clone
+
+pub listed-requires-clause-tied : goal.listed-requires-clause-tied
+listed-requires-clause-tied g c = c.requires.tied
