@@ -1,5 +1,3 @@
-pub mod Filtered
-pub mod Undone
 pub mod Marks
 pub mod Right
 pub mod Items

@@ -10,7 +10,7 @@ use Rattle.std.specs.declared.cmp.Ordering.{Ordering}
 use Rattle.std.proofs.Math.Seq.{drop-append_seam}
 use Rattle.std.proofs.lemmas.Iterator.Adapters.{position_from-zero}
 use Rattle.resolver_ingress.specs.Places.{Grows, IsPlaced}
-use Rattle.resolver_ingress.specs.Undone.{without_each}
+use Rattle.resolver_root.specs.Undone.{without_each}
 use Rattle.resolver_ingress.proofs.Right.{flips-by, follows-by}
 
 module _ {K : Type 0} where

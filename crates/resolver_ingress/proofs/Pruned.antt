@@ -8,7 +8,7 @@ use Rattle.std.specs.declared.cmp.Ordering.{Ordering}
 use Rattle.resolver_root.specs.Names.{Names, same_key}
 use Rattle.resolver_ingress.specs.declared.ingress.FetchKey.{FetchKey}
 use Rattle.resolver_ingress.specs.Backlog.{IsApart, Item, has_subscribers, item_of, kept, keys_kept, keys_of_items, pruned}
-use Rattle.resolver_ingress.proofs.Filtered.{list_any-filter}
+use Rattle.resolver_root.proofs.Filtered.{list_any-filter}
 
 module _ {K S M : Type 0} (keep : K → S → Bool) where
   pub kept-none : (item : Item K S M) → filter (λ (s : S × ℕ). keep item.key s.0) item.subscribers ≡ [] → ◌≡◌ {A = List (Item K S M)} [] (kept keep (item ∷ []))

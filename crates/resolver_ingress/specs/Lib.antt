@@ -1,4 +1,3 @@
 pub mod Backlog
 pub mod Fetched
-pub mod Undone
 pub mod Places

@@ -4,7 +4,7 @@ use Rattle.std.specs.declared.cmp.Ordering.{Ordering}
 use Rattle.std.specs.List.{position_from}
 use Rattle.std.specs.Map.{lookup}
 use Rattle.std.specs.BTreeMap.{is_at}
-use Rattle.resolver_ingress.specs.Undone.{without_each}
+use Rattle.resolver_root.specs.Undone.{without_each}
 
 module _ {K : Type 0} (cmp : K → K → Ordering) where
   -- A key is found exactly where the first equal key stands, and no other key is there.

@@ -6,3 +6,4 @@ pub mod Table
 pub mod Outcomes
 pub mod Joined
 pub mod Targets
+pub mod Undone

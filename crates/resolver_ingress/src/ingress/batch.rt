@@ -9,7 +9,7 @@ ghost use Rattle.std.specs.Option.{option_to_list};
 ghost use Rattle.resolver_root.specs.Names.{names};
 ghost use Rattle.resolver_ingress.specs.Backlog.{IsApart, item_of, kept, keys_kept, keys_of_items, merged_item, queued, queued_all, undone, undone_all};
 ghost use Rattle.resolver_ingress.specs.Places.{Grows, IsPlaced};
-ghost use Rattle.resolver_ingress.specs.Undone.{without_each};
+ghost use Rattle.resolver_root.specs.Undone.{without_each};
 
 use crate::ingress::FetchKey;
 use crate::ingress::metadata::Metadata;

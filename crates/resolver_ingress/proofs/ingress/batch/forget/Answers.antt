@@ -1,7 +1,7 @@
 use Rattle.std.proofs.Common.{◌≡◌, ◌∙◌, sym, ap, ◌∷◌, ◌++◌, []}
 use Rattle.resolver_ingress.specs.Backlog.{keys_of_items}
-use Rattle.resolver_ingress.specs.Undone.{without_each}
-use Rattle.resolver_ingress.proofs.Undone.{without_each-last}
+use Rattle.resolver_root.specs.Undone.{without_each}
+use Rattle.resolver_root.proofs.Undone.{without_each-last}
 use Rattle.resolver_ingress.proofs.Queue.{keys-push}
 use Rattle.resolver_ingress.proofs.ingress.batch.forget.Goals as goal
 

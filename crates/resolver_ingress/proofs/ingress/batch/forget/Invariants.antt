@@ -1,6 +1,6 @@
 use Rattle.std.proofs.Common.{◌≡◌, length}
 use Rattle.resolver_ingress.specs.Backlog.{keys_of_items}
-use Rattle.resolver_ingress.specs.Undone.{without_each}
+use Rattle.resolver_root.specs.Undone.{without_each}
 use Rattle.resolver_ingress.proofs.ingress.batch.forget.Given as goal
 
 -- Without the keys that are left, it is what it is without all.

@@ -3,7 +3,7 @@ use Rattle.std.proofs.lemmas.List.{drop-map}
 use Rattle.std.specs.Vec.Iter.{into_iter_items}
 use Rattle.resolver_root.specs.Names.{names}
 use Rattle.resolver_ingress.specs.Backlog.{item_of, keys_of_items, queued_all, undone_all}
-use Rattle.resolver_ingress.specs.Undone.{without_each}
+use Rattle.resolver_root.specs.Undone.{without_each}
 use Rattle.resolver_ingress.proofs.Places.{grown-back, grown-longer, grows-none, grows-on}
 use Rattle.resolver_ingress.proofs.Queue.{length-keys, undone_all-push}
 use Rattle.resolver_ingress.proofs.ingress.batch.put_all.Goals as goal

@@ -2,7 +2,7 @@ use Rattle.std.proofs.Common.{◌≡◌, ◌∙◌, ◌+◌, ap, rules, length, 
 use Rattle.std.specs.Map.{lookup, remove_entry}
 use Rattle.std.specs.BTreeMap.{is_at}
 use Rattle.resolver_ingress.specs.Places.{IsPlaced}
-use Rattle.resolver_ingress.proofs.Undone.{removed-inserted}
+use Rattle.resolver_root.proofs.Undone.{removed-inserted}
 use Rattle.resolver_ingress.proofs.Places.{placed-last}
 use Rattle.resolver_ingress.proofs.ingress.places.Places.insert.Goals as goal
 

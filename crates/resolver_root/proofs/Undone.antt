@@ -6,7 +6,7 @@ use Rattle.std.specs.BTreeMap.{insert_entry, is_at}
 use Rattle.std.specs.Ordering.{is_eq, match_ordering, ordering_reverse}
 use Rattle.std.specs.declared.cmp.Ordering.{Ordering}
 use Rattle.std.specs.declared.cmp.Ordering.TheVariants.{Less, Equal, Greater}
-use Rattle.resolver_ingress.specs.Undone.{without_each}
+use Rattle.resolver_root.specs.Undone.{without_each}
 
 module _ {S : Type 0} (cmp : S → S → Ordering) where
   same-is-equal : IsTotalOrder cmp → (k : S) → cmp k k ≡ Equal
