@@ -14,11 +14,11 @@ ghost use Rattle.resolver_engine.specs.Tied.{Agrees};
 
 use crate::effects::Effect;
 use crate::inputs::{Event, Input};
-use crate::metrics::{Metrics, Tally, raise};
 use crate::parts::Parts;
 use bytes::Bytes;
 use resolver_base::base::{Fault, Span};
 use resolver_fetch::fetcher::Answer;
+use resolver_metrics::metrics::{Metrics, Tally, raise};
 use resolver_root::{Outcome, Predicate, Resolution};
 
 /// A verdict on an open delivery, as it is before the verdict.
@@ -130,9 +130,9 @@ impl<K: Ord + Drop, P: Ord + Drop, S: Ord + Drop> Parts<K, P, S> {
     fn count(&self, noted: &Noted, metrics: &mut Metrics, effects: &[Effect<K, P, S>]) {
         let again = handed_out(effects);
         match noted {
-            Noted::Verdict(judged) => metrics.count_verdict(judged, again.is_some()),
+            Noted::Verdict(judged) => count_verdict(metrics, judged, again.is_some()),
             Noted::Retain { keys } => {
-                metrics.count_retain(keys.saturating_sub(self.demand.len()) as u64)
+                count_retain(metrics, keys.saturating_sub(self.demand.len()) as u64)
             }
             Noted::Requests { asked } => {
                 if self.fetcher.len_active() < *asked && again.is_none() {
@@ -142,8 +142,8 @@ impl<K: Ord + Drop, P: Ord + Drop, S: Ord + Drop> Parts<K, P, S> {
             Noted::Served {
                 is_answered,
                 elapsed,
-            } => metrics.count_serve(*is_answered, *elapsed),
-            Noted::Sent { is_accepted } => metrics.count_sent(*is_accepted),
+            } => count_serve(metrics, *is_answered, *elapsed),
+            Noted::Sent { is_accepted } => count_sent(metrics, *is_accepted),
             Noted::Nothing => {}
         }
     }
@@ -198,92 +198,88 @@ impl Judged {
     }
 }
 
-impl Metrics {
-    /// Counts a verdict, after which the response was handed out again or not. A key's time is
-    /// counted at its first `Complete`; an `Invalid` that conflicts comes after one.
-    fn count_verdict(&mut self, judged: &Judged, is_again: bool)
-        ensures { self.new.fetch ≡ tallied judged.now.is_live judged.now.is_accepted is_again
-            judged.now.outcome self.old.fetch }
-    {
-        self.fetch.count_outcome(judged, is_again);
-        if judged.is_credited() {
-            self.resolves.measure(judged.elapsed);
-        }
-        if !judged.is_complete() {
-            return;
-        }
-        if let Some(elapsed) = judged.since_start {
-            self.fetch_duration.measure(elapsed);
-        }
+/// Counts a verdict, after which the response was handed out again or not. A key's time is
+/// counted at its first `Complete`; an `Invalid` that conflicts comes after one.
+fn count_verdict(metrics: &mut Metrics, judged: &Judged, is_again: bool)
+    ensures { metrics.new.fetch ≡ tallied judged.now.is_live judged.now.is_accepted is_again
+        judged.now.outcome metrics.old.fetch }
+{
+    count_outcome(&mut metrics.fetch, judged, is_again);
+    if judged.is_credited() {
+        metrics.resolves.measure(judged.elapsed);
     }
-
-    /// Counts a retain that called off so many keys.
-    fn count_retain(&mut self, ended: u64)
-        ensures { self.new ≡ record self.old { cancel = called_off ended self.old.cancel } }
-    {
-        if ended == 0 {
-            raise(&mut self.cancel.dropped, 1);
-        } else {
-            raise(&mut self.cancel.success, ended);
-        }
+    if !judged.is_complete() {
+        return;
     }
-
-    /// Counts a peer's request that the producer had bytes for, after this time, or dropped.
-    fn count_serve(&mut self, is_answered: bool, elapsed: u128)
-        ensures { self.new ≡ record self.old {
-          serve = answered is_answered self.old.serve;
-          serve_duration = measured_if is_answered elapsed self.old.serve_duration;
-        } }
-    {
-        if is_answered {
-            raise(&mut self.serve.success, 1);
-            self.serve_duration.measure(elapsed);
-        } else {
-            raise(&mut self.serve.failure, 1);
-        }
-    }
-
-    /// Counts a request that was accepted to be sent, or refused.
-    fn count_sent(&mut self, is_accepted: bool)
-        ensures { self.new ≡ record self.old {
-          requests_sent = sent is_accepted self.old.requests_sent;
-        } }
-    {
-        if is_accepted {
-            raise(&mut self.requests_sent.success, 1);
-        } else {
-            raise(&mut self.requests_sent.dropped, 1);
-        }
+    if let Some(elapsed) = judged.since_start {
+        metrics.fetch_duration.measure(elapsed);
     }
 }
 
-impl Tally {
-    /// Counts what a verdict is to its fetch.
-    fn count_outcome(&mut self, judged: &Judged, is_again: bool)
-        ensures { self.new ≡ tallied judged.now.is_live judged.now.is_accepted is_again
-            judged.now.outcome self.old }
-    {
-        match judged.outcome {
-            Some(Outcome::Resolved(_)) => {
-                if !judged.is_accepted {
-                    raise(&mut self.success, 1);
-                }
+/// Counts a retain that called off so many keys.
+fn count_retain(metrics: &mut Metrics, ended: u64)
+    ensures { metrics.new ≡ record metrics.old { cancel = called_off ended metrics.old.cancel } }
+{
+    if ended == 0 {
+        raise(&mut metrics.cancel.dropped, 1);
+    } else {
+        raise(&mut metrics.cancel.success, ended);
+    }
+}
+
+/// Counts a peer's request that the producer had bytes for, after this time, or dropped.
+fn count_serve(metrics: &mut Metrics, is_answered: bool, elapsed: u128)
+    ensures { metrics.new ≡ record metrics.old {
+      serve = answered is_answered metrics.old.serve;
+      serve_duration = measured_if is_answered elapsed metrics.old.serve_duration;
+    } }
+{
+    if is_answered {
+        raise(&mut metrics.serve.success, 1);
+        metrics.serve_duration.measure(elapsed);
+    } else {
+        raise(&mut metrics.serve.failure, 1);
+    }
+}
+
+/// Counts a request that was accepted to be sent, or refused.
+fn count_sent(metrics: &mut Metrics, is_accepted: bool)
+    ensures { metrics.new ≡ record metrics.old {
+      requests_sent = sent is_accepted metrics.old.requests_sent;
+    } }
+{
+    if is_accepted {
+        raise(&mut metrics.requests_sent.success, 1);
+    } else {
+        raise(&mut metrics.requests_sent.dropped, 1);
+    }
+}
+
+/// Counts what a verdict is to its fetch.
+fn count_outcome(tally: &mut Tally, judged: &Judged, is_again: bool)
+    ensures { tally.new ≡ tallied judged.now.is_live judged.now.is_accepted is_again
+        judged.now.outcome tally.old }
+{
+    match judged.outcome {
+        Some(Outcome::Resolved(_)) => {
+            if !judged.is_accepted {
+                raise(&mut tally.success, 1);
             }
-            Some(Outcome::Invalid) => raise(&mut self.failure, 1),
-            Some(Outcome::Unresolved) => {
-                if !judged.is_accepted {
-                    raise(&mut self.ambiguous, 1);
-                }
+        }
+        Some(Outcome::Invalid) => raise(&mut tally.failure, 1),
+        Some(Outcome::Unresolved) => {
+            if !judged.is_accepted {
+                raise(&mut tally.ambiguous, 1);
             }
-            Some(Outcome::Ignored) => {
-                if judged.is_live {
-                    raise(&mut self.dropped, 1);
-                }
+        }
+        Some(Outcome::Ignored) => {
+            if judged.is_live {
+                raise(&mut tally.dropped, 1);
             }
-            None => {
-                if judged.is_live && !judged.is_accepted && !is_again {
-                    raise(&mut self.dropped, 1);
-                }
+        }
+        None => {
+            if judged.is_live && !judged.is_accepted && !is_again {
+                raise(&mut tally.dropped, 1);
             }
         }
     }

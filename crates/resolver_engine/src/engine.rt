@@ -20,11 +20,11 @@ ghost use Rattle.resolver_engine.specs.Tied.{fetcher_of};
 
 use crate::effects::Effect;
 use crate::inputs::{Event, Input};
-use crate::metrics::Metrics;
 use crate::parts::Parts;
 use crate::rows::Row;
 use resolver_base::base::{Fault, Span};
 use resolver_fetch::fetcher::Config;
+use resolver_metrics::metrics::Metrics;
 use resolver_root::Predicate;
 use std::alloc::Global;
 use std::marker::{Model, PhantomData};

@@ -14,7 +14,6 @@ mod fetching;
 mod inflight;
 pub mod inputs;
 mod judging;
-pub mod metrics;
 mod parts;
 mod receiving;
 mod retaining;

@@ -8,12 +8,12 @@ ghost use Rattle.resolver_peer.specs.Peer.{Machine, opening, peer_set, block};
 ghost use Rattle.resolver_engine.specs.Tied.{Agrees, fetcher_of};
 
 use crate::inflight::Inflight;
-use crate::metrics::Metrics;
 use crate::serving::OpenServe;
 use resolver_base::base::{Fault, Numbers};
 use resolver_demand::delivery::Entries;
 use resolver_demand::subscribers::Tracker;
 use resolver_fetch::fetcher::{Config, Fetcher};
+use resolver_metrics::metrics::Metrics;
 use std::alloc::Global;
 use std::collections::BTreeMap;
 

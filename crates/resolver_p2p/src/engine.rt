@@ -27,7 +27,6 @@ use resolver_base::base::{Draws, Faithful, Fault, PublicKey, Sender, Span};
 use resolver_engine::effects::Effect;
 use resolver_engine::engine::Core;
 use resolver_engine::inputs::Input;
-use resolver_engine::metrics::Metrics;
 use resolver_engine::rows::Row;
 use resolver_fetch::fetcher;
 use resolver_loop::{
@@ -35,6 +34,7 @@ use resolver_loop::{
 };
 use resolver_mailbox::mailbox;
 use resolver_mailbox::mailbox::Unrecorded;
+use resolver_metrics::metrics::Metrics;
 use resolver_root::Predicate;
 use std::alloc::Global;
 use std::hash::Hash;

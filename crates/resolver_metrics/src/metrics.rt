@@ -1,7 +1,7 @@
 //! What an engine counts.
 
 ghost use Rattle.std.specs.Prelude.{◌≡◌};
-ghost use Rattle.resolver_engine.specs.Counted.{measured, no_tally, raised, uncounted, unmeasured};
+ghost use Rattle.resolver_metrics.specs.Counters.{measured, no_tally, raised, uncounted, unmeasured};
 
 use std::fmt;
 use std::fmt::{Formatter, Write};
@@ -57,7 +57,7 @@ impl Durations {
     }
 
     /// Measures once more.
-    pub(crate) fn measure(&mut self, nanoseconds: u128)
+    pub fn measure(&mut self, nanoseconds: u128)
         ensures { self.new ≡ measured nanoseconds self.old }
     {
         raise(&mut self.count, 1);
@@ -146,7 +146,7 @@ fn expose_gauge<W: Write>(f: &mut Formatter<W>, name: &str, value: u64) -> fmt::
 }
 
 /// Counts some more.
-pub(crate) fn raise(counter: &mut u64, by: u64)
+pub fn raise(counter: &mut u64, by: u64)
     ensures { counter.new ≡ raised by counter.old }
 {
     *counter = counter.saturating_add(by);
