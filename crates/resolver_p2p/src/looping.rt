@@ -22,6 +22,14 @@ use std::alloc::Global;
 use std::hash::Hash;
 use std::sync::Wait;
 
+/// Whether this deadline has come.
+fn is_due(clock: &impl Clock, deadline: Option<u128>) -> bool {
+    match deadline {
+        Some(at) => at <= clock.now(),
+        None => false,
+    }
+}
+
 /// An engine's core with all that it is fed from and that its effects go to.
 ///
 /// In each turn it looks for one input, in this order: the answer that a scan waits for; the end,
@@ -69,14 +77,6 @@ where
     W: Clock + Drop,
     G: Draws + Drop,
 {
-    /// Whether this deadline has come.
-    fn is_due(&self, deadline: Option<u128>) -> bool {
-        match deadline {
-            Some(at) => at <= self.clock.now(),
-            None => false,
-        }
-    }
-
     /// What comes before the mailbox.
     fn poll_first(&mut self, cx: &mut Context<'_>) -> Poll<Event<K, P, S, Q>>
         ensures kept { Keeps cx.old cx.new }
@@ -94,7 +94,7 @@ where
         if let Poll::Ready(peers) = self.peers.poll_blocked(cx) {
             return Poll::Ready(Event::Blocked(peers));
         }
-        if self.is_due(self.core.get_active_deadline()) {
+        if is_due(&self.clock, self.core.get_active_deadline()) {
             return Poll::Ready(Event::ActiveDue);
         }
         match self.judging.poll_verdict(cx) {
@@ -111,7 +111,7 @@ where
         if let Poll::Ready(event) = poll_mail(&mut self.mail, cx) {
             return Poll::Ready(event);
         }
-        if self.is_due(self.core.get_pending_deadline()) {
+        if is_due(&self.clock, self.core.get_pending_deadline()) {
             return Poll::Ready(Event::PendingDue);
         }
         if let Poll::Ready((serve, value)) = self.serving.poll_served(cx) {
@@ -144,39 +144,24 @@ where
         poll_moment(&mut self.clock, cx, earlier(active, pending))
     }
 
-    /// Asks the consumer to judge a value.
-    fn deliver(&mut self, number: u64, delivery: Delivery<K, S>, value: Bytes) {
-        if self.judging.deliver(number, delivery, value).is_err() {
-            self.is_starved = true;
-        }
-    }
-
-    /// Asks the producer for bytes.
-    fn produce(&mut self, serve: u64, key: K) {
-        if self.serving.produce(serve, key).is_err() {
-            self.is_starved = true;
-        }
-    }
-
-    /// Answers what the scan asks. A request that there is no memory for is refused.
-    fn answer(&mut self, ask: Ask<K, P>) {
-        let answer = self.asking.answer(self.alloc, ask);
-        self.is_starved |= answer.is_err();
-        self.answer = Some(answer.unwrap_or(Answer::Sent(false)));
-    }
-
-    /// Carries an effect out.
+    /// Carries an effect out. A request that there is no memory for is refused.
     fn carry_out(&mut self, effect: Effect<K, P, S>) {
         match effect {
-            Effect::Ask(ask) => self.answer(ask),
+            Effect::Ask(ask) => {
+                let answer = self.asking.answer(self.alloc, ask);
+                self.is_starved |= answer.is_err();
+                self.answer = Some(answer.unwrap_or(Answer::Sent(false)));
+            }
             Effect::Deliver {
                 number,
                 response: _,
                 delivery,
                 value,
-            } => self.deliver(number, delivery, value),
+            } => self.is_starved |= self.judging.deliver(number, delivery, value).is_err(),
             Effect::Cancel { number } => self.judging.cancel(number),
-            Effect::Produce { serve, key } => self.produce(serve, key),
+            Effect::Produce { serve, key } => {
+                self.is_starved |= self.serving.produce(serve, key).is_err();
+            }
             Effect::Reply {
                 peer,
                 bytes,
@@ -218,21 +203,16 @@ where
         }
     }
 
-    /// Feeds the answer that the open scan waits for.
-    fn go_on(&mut self, answer: Answer) -> Turn {
-        match self.feed(Input::Answers(answer)) {
-            Some(ending) => Turn::Over(ending),
-            None => Turn::Again,
-        }
-    }
-
     /// Takes the first input that has come.
     fn poll_turn(&mut self, cx: &mut Context<'_>) -> Poll<Turn>
         ensures armed { OnPending result (IsArmed cx.new) }
         ensures kept { Keeps cx.old cx.new }
     {
         if let Some(answer) = self.answer.take() {
-            return Poll::Ready(self.go_on(answer));
+            return Poll::Ready(match self.feed(Input::Answers(answer)) {
+                Some(ending) => Turn::Over(ending),
+                None => Turn::Again,
+            });
         }
         if let Poll::Ready(event) = self.poll_event(cx) {
             return Poll::Ready(self.take(event));
