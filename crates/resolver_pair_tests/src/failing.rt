@@ -50,47 +50,43 @@ fn wrong(first: u64, count: u64, until: Option<u64>) -> Wrong {
     }
 }
 
-/// Three peers, and three keys by one message.
-fn open<R: Wait + Copy + Drop + Send + 'static>(
-    rt: &(impl Abort + Eprint),
-    pair: &mut Pair<R>,
-    is_targeted: bool,
-) -> Result<(), Fail> {
-    pair.act(rt, Act::Peers(1, &[3, 4, 5, 9]))?;
+/// Three keys by one message.
+fn wants(is_targeted: bool) -> Act<'static> {
     if is_targeted {
-        return pair.act(rt, Act::FetchFrom(&[(1, 3), (2, 4), (3, 5)]));
+        Act::FetchFrom(&[(1, 3), (2, 4), (3, 5)])
+    } else {
+        Act::Fetch(&[(1, 10), (2, 10), (3, 10)])
     }
-    pair.act(rt, Act::Fetch(&[(1, 10), (2, 10), (3, 10)]))
 }
 
-/// The key itself, in response to the request for it, if there is one, and its verdict.
-fn complete<R: Wait + Copy + Drop + Send + 'static>(
-    rt: &(impl Abort + Eprint),
-    pair: &mut Pair<R>,
-    key: u8,
-) -> Result<(), Fail> {
-    pair.reply(rt, key, &[1, 1, key])?;
-    pair.act(rt, Act::Judge(Outcome::Resolved(Resolution::Complete)))
+/// The keys that are answered in the tenth moment of this number, and whether the peer has them. Of three, one
+/// is there, and another not, while the third's time runs out. Later all are there, for longer than nine refusals
+/// take.
+fn answers(tenth: u64) -> &'static [(u8, bool)] {
+    match tenth {
+        2 => &[(1, true)],
+        3 => &[(2, false)],
+        10..=21 => &[(1, true), (2, true), (3, true)],
+        _ => &[],
+    }
 }
 
-/// What happens in the tenth moment of this number: a key is answered, another's peer has none, and
-/// the third's runs out of time. Later all are answered, for longer than nine refusals take.
+/// What happens in the tenth moment of this number. What is handed out is complete.
 fn go_on<R: Wait + Copy + Drop + Send + 'static>(
     rt: &(impl Abort + Eprint),
     pair: &mut Pair<R>,
     tenth: u64,
 ) -> Result<(), Fail> {
     pair.act(rt, Act::At(tenth.saturating_mul(10)))?;
-    match tenth {
-        2 => complete(rt, pair, 1),
-        3 => pair.reply(rt, 2, &[2]),
-        10..=21 => {
-            complete(rt, pair, 1)?;
-            complete(rt, pair, 2)?;
-            complete(rt, pair, 3)
+    for &(key, is_there) in answers(tenth) {
+        if is_there {
+            pair.reply(rt, key, &[1, 1, key])?;
+            pair.act(rt, Act::Judge(Outcome::Resolved(Resolution::Complete)))?;
+        } else {
+            pair.reply(rt, key, &[2])?;
         }
-        _ => Ok(()),
     }
+    Ok(())
 }
 
 /// Fails unless every key was delivered once.
@@ -111,7 +107,8 @@ fn play<R: Wait + Copy + Drop + Send + 'static>(
     pair: &mut Pair<R>,
     is_targeted: bool,
 ) -> Result<Counts, Fail> {
-    open(rt, pair, is_targeted)?;
+    pair.act(rt, Act::Peers(1, &[3, 4, 5, 9]))?;
+    pair.act(rt, wants(is_targeted))?;
     for tenth in 1..22_u64 {
         go_on(rt, pair, tenth)?;
     }

@@ -72,6 +72,20 @@ where
     }
 }
 
+/// The twin takes this, and what its fakes are asked and what it awaits is written.
+fn expect(
+    rt: &(impl Abort + Eprint),
+    twin: &mut Twin,
+    act: Act<'_>,
+    expected: &mut String,
+) -> Result<(), Fail> {
+    expected.clear();
+    twin.act(rt, act)?;
+    answered(rt, spell(expected, &mut twin.fakes.seen));
+    write!(expected, "true {:?}", twin.awaited()).expect(rt, "memory");
+    Ok(())
+}
+
 impl<R: Wait + Copy + Drop + Send + 'static> Pair<R> {
     /// The loop takes this, and what its fakes are asked and what it awaits is written.
     fn say(&mut self, rt: &(impl Abort + Eprint), act: Act<'_>) {
@@ -83,20 +97,11 @@ impl<R: Wait + Copy + Drop + Send + 'static> Pair<R> {
         write!(self.said, "{} {awaited:?}", polled.is_pending()).expect(rt, "memory");
     }
 
-    /// So does the twin.
-    fn expect(&mut self, rt: &(impl Abort + Eprint), act: Act<'_>) -> Result<(), Fail> {
-        self.expected.clear();
-        self.twin.act(rt, act)?;
-        answered(rt, spell(&mut self.expected, &mut self.twin.fakes.seen));
-        write!(self.expected, "true {:?}", self.twin.awaited()).expect(rt, "memory");
-        Ok(())
-    }
-
     /// Both take this. Fails where the loop's fakes were asked something else than the twin's, in
     /// another order, or where it waits for another moment.
     pub fn act(&mut self, rt: &(impl Abort + Eprint), act: Act<'_>) -> Result<(), Fail> {
         self.say(rt, act);
-        self.expect(rt, act)?;
+        expect(rt, &mut self.twin, act, &mut self.expected)?;
         if self.said.as_str() == self.expected.as_str() {
             return Ok(());
         }

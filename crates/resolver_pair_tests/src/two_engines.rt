@@ -4,6 +4,7 @@
 use crate::pair::{Pair, make_pair};
 use crate::twin::Twin;
 use resolver::base::{Draws, Fault, Seeded};
+use resolver::p2p::mocks::Key;
 use resolver::{Outcome, Resolution};
 use resolver_fakes::acts::Act;
 use resolver_fakes::seen::Wrong;
@@ -42,7 +43,7 @@ struct Course {
 
 /// The key and the subscriber of the next fetch, if one may be made: each key is wanted by one subscriber, and then
 /// by a second one.
-fn next_fetch(twin: &Twin) -> Option<(u8, u16)> {
+fn next_fetch(twin: &mut Twin) -> Option<(u8, u16)> {
     let fetches = twin.counts.fetches;
     let open = fetches.saturating_sub(twin.delivered.len() as u64);
     if fetches >= FETCHES || open >= OPEN {
@@ -52,81 +53,45 @@ fn next_fetch(twin: &Twin) -> Option<(u8, u16)> {
     let round = fetches / (2 * KEYS) % 4;
     let key = (place / 2 % 256) as u8;
     let subscriber = (10 + 2 * round + place % 2) as u16;
+    twin.counts.fetches = fetches.saturating_add(1);
     Some((key, subscriber))
 }
 
-fn fetch<R: Wait + Copy + Drop + Send + 'static>(
-    rt: &(impl Abort + Eprint),
-    pair: &mut Pair<R>,
-) -> Result<bool, Fail> {
-    let Some(wants) = next_fetch(&pair.twin) else {
-        return Ok(false);
-    };
-    pair.twin.counts.fetches = pair.twin.counts.fetches.saturating_add(1);
-    pair.act(rt, Act::Fetch(&[wants]))?;
-    Ok(true)
-}
-
-/// The producer has the key itself as its value.
-fn serve<R: Wait + Copy + Drop + Send + 'static>(
-    rt: &(impl Abort + Eprint),
-    pair: &mut Pair<R>,
-) -> Result<bool, Fail> {
-    let Some((_, key)) = pair.twin.serves.front() else {
-        return Ok(false);
-    };
-    let value = [key.0];
-    pair.act(rt, Act::Serve(&value))?;
-    Ok(true)
-}
-
-/// The consumer takes what it was handed.
-fn judge<R: Wait + Copy + Drop + Send + 'static>(
-    rt: &(impl Abort + Eprint),
-    pair: &mut Pair<R>,
-) -> Result<bool, Fail> {
-    if pair.twin.deliveries.is_empty() {
-        return Ok(false);
-    }
-    pair.act(rt, Act::Judge(Outcome::Resolved(Resolution::Complete)))?;
-    Ok(true)
-}
-
-/// The next message of one engine is given to the other, if it is for it.
-fn pass<R: Wait + Copy + Drop + Send + 'static>(
-    rt: &(impl Abort + Eprint),
-    from: &mut Pair<R>,
-    to: &mut Pair<R>,
-) -> Result<bool, Fail> {
-    let Some((peer, bytes)) = from.twin.sent.pop_front() else {
-        return Ok(false);
-    };
-    if peer.0 == to.twin.setting.me {
-        to.act(rt, Act::Net(from.twin.setting.me, bytes.as_slice()))?;
-    }
-    Ok(true)
-}
-
-/// One of the two does one thing of this kind, if there is one.
+/// One of the two does one thing of this kind, if there is one: it fetches, takes the next message of the
+/// other, if that is for it, has its producer answer with the key itself, or its consumer judge.
 fn work<R: Wait + Copy + Drop + Send + 'static>(
     rt: &(impl Abort + Eprint),
     me: &mut Pair<R>,
-    other: &mut Pair<R>,
+    other: &mut Twin,
     kind: u128,
 ) -> Result<bool, Fail> {
     match kind {
-        0 => fetch(rt, me),
-        1 | 2 | 3 => pass(rt, other, me),
-        4 | 5 => serve(rt, me),
-        _ => judge(rt, me),
+        0 => match next_fetch(&mut me.twin) {
+            Some(wants) => me.act(rt, Act::Fetch(&[wants]))?,
+            None => return Ok(false),
+        },
+        1 | 2 | 3 => match other.sent.pop_front() {
+            Some((peer, bytes)) if peer.0 == me.twin.setting.me => {
+                me.act(rt, Act::Net(other.setting.me, bytes.as_slice()))?;
+            }
+            Some(_) => {}
+            None => return Ok(false),
+        },
+        4 | 5 => match me.twin.serves.front() {
+            Some(&(_, Key(key))) => me.act(rt, Act::Serve(&[key]))?,
+            None => return Ok(false),
+        },
+        _ if me.twin.deliveries.is_empty() => return Ok(false),
+        _ => me.act(rt, Act::Judge(Outcome::Resolved(Resolution::Complete)))?,
     }
+    Ok(true)
 }
 
 /// One of the two does several things of one kind.
 fn work_on<R: Wait + Copy + Drop + Send + 'static>(
     rt: &(impl Abort + Eprint),
     me: &mut Pair<R>,
-    other: &mut Pair<R>,
+    other: &mut Twin,
     kind: u128,
 ) -> Result<(), Fail> {
     for _ in 0..BATCH {
@@ -135,17 +100,6 @@ fn work_on<R: Wait + Copy + Drop + Send + 'static>(
         }
     }
     Ok(())
-}
-
-/// Both take this.
-fn both<R: Wait + Copy + Drop + Send + 'static>(
-    rt: &(impl Abort + Eprint),
-    one: &mut Pair<R>,
-    two: &mut Pair<R>,
-    act: Act<'_>,
-) -> Result<(), Fail> {
-    one.act(rt, act)?;
-    two.act(rt, act)
 }
 
 /// A number below this one, as a call that promises nothing.
@@ -166,26 +120,29 @@ fn draw_peers(draws: &mut Seeded) -> &'static [u8] {
     }
 }
 
+/// What is done in a step.
+enum Step {
+    /// Both take this.
+    Both(Act<'static>),
+    /// The first one works, on things of this kind.
+    One(u128),
+    Two(u128),
+}
+
 /// A step of the draws. Every tenth changes the peers of both, and in some of the others time goes by.
-fn step<R: Wait + Copy + Drop + Send + 'static>(
-    rt: &(impl Abort + Eprint),
-    one: &mut Pair<R>,
-    two: &mut Pair<R>,
-    course: &mut Course,
-    number: u64,
-) -> Result<(), Fail> {
+fn draw_step(course: &mut Course, number: u64) -> Step {
     if number % 10 == 0 {
         let peers = draw_peers(&mut course.draws);
         course.index = course.index.saturating_add(1);
-        return both(rt, one, two, Act::Peers(course.index, peers));
+        return Step::Both(Act::Peers(course.index, peers));
     }
     match draw(&mut course.draws, 10) {
         0 => {
             course.now = course.now.saturating_add(7);
-            both(rt, one, two, Act::At(course.now))
+            Step::Both(Act::At(course.now))
         }
-        1..=5 => work_on(rt, one, two, draw(&mut course.draws, 8)),
-        _ => work_on(rt, two, one, draw(&mut course.draws, 8)),
+        1..=5 => Step::One(draw(&mut course.draws, 8)),
+        _ => Step::Two(draw(&mut course.draws, 8)),
     }
 }
 
@@ -239,7 +196,14 @@ fn go_all<R: Wait + Copy + Drop + Send + 'static>(
     course: &mut Course,
 ) -> Result<(), Fail> {
     for number in 1..STEPS {
-        step(rt, one, two, course, number)?;
+        match draw_step(course, number) {
+            Step::Both(act) => {
+                one.act(rt, act)?;
+                two.act(rt, act)?;
+            }
+            Step::One(kind) => work_on(rt, one, &mut two.twin, kind)?,
+            Step::Two(kind) => work_on(rt, two, &mut one.twin, kind)?,
+        }
         if is_over(&one.twin) && is_over(&two.twin) {
             break;
         }
