@@ -1,4 +1,5 @@
-//! Tests of what both machines share, from names to deliveries, through public calls.
+//! Tests of what both machines share, from names to deliveries, of requests and of the fetcher, through
+//! public calls.
 //!
 //! They stand in a crate of their own, so that the libraries aren't proved a second time with them.
 #![tactic(auto)]
@@ -6,11 +7,15 @@
 #[cfg(test)]
 mod asserts;
 #[cfg(test)]
+mod calls;
+#[cfg(test)]
 mod completion;
 #[cfg(test)]
 mod consumer;
 #[cfg(test)]
 mod counting;
+#[cfg(test)]
+mod drawing;
 #[cfg(test)]
 mod draws;
 #[cfg(test)]
@@ -18,7 +23,15 @@ mod entries;
 #[cfg(test)]
 mod fault;
 #[cfg(test)]
+mod fetcher;
+#[cfg(test)]
+mod fetching;
+#[cfg(test)]
 mod ingress;
+#[cfg(test)]
+mod keys;
+#[cfg(test)]
+mod laws;
 #[cfg(test)]
 mod names;
 #[cfg(test)]
@@ -38,7 +51,13 @@ mod public_key;
 #[cfg(test)]
 mod quiet;
 #[cfg(test)]
+mod requests;
+#[cfg(test)]
 mod root;
+#[cfg(test)]
+mod sampling;
+#[cfg(test)]
+mod score;
 #[cfg(test)]
 mod seeded;
 #[cfg(test)]
@@ -57,3 +76,5 @@ mod targets;
 mod tracker;
 #[cfg(test)]
 mod unreliable;
+#[cfg(test)]
+mod wire;

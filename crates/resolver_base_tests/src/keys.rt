@@ -3,7 +3,7 @@
 ghost use Rattle.std.specs.Prelude.{◌≡◌, ℕ, List, [], ◌∷◌, replicate, refl};
 ghost use Rattle.std.proofs.Common.{rules};
 ghost use Rattle.std.proofs.lemmas.Bool.{eq-eqb};
-ghost use Rattle.resolver_fetch_tests.specs.TestKeys.{one_byte, one_byte_own, only_key, only_key_own};
+ghost use Rattle.resolver_base_tests.specs.TestKeys.{one_byte, one_byte_own, only_key, only_key_own};
 
 use bytes::BytesMut;
 use resolver_base::base::Span;
