@@ -4,10 +4,12 @@ use crate::letters::{All, Letter};
 use futures::Stream;
 use futures::task::Poll;
 use futures::test::MockTask;
-use resolver_ingress::ingress;
+use resolver_asking::mailbox::Mailbox;
+use resolver_asking::resolver::Resolver;
+use resolver_base::base::Fault;
+use resolver_ingress::ingress::{Message, Metadata};
 use resolver_loop::{Resolver as Asks, TargetedResolver};
-use resolver_mailbox::mailbox::{Naming, Pages, Receiver, new, recorded};
-use resolver_opaque::{Message, Resolver};
+use resolver_mailbox::mailbox::{Naming, Pages, Receiver, Sender, Share, new, recorded};
 use resolver_root::{Fetch, NonEmptyVec};
 use std::alloc::Global;
 use std::fmt::Write;
@@ -16,13 +18,74 @@ use std::panic::Expect;
 use std::process::Abort;
 use std::sync::Wait;
 
-type Handle<N, R> = Resolver<Letter, u16, Letter, All, N, R>;
+// Both handles are asked the same, by the traits that both have.
 
-type Mail<N, R> = Receiver<Letter, u16, (), All, N, R>;
+type Targets = Option<NonEmptyVec<Letter>>;
 
-/// What the calls of `ask_each` put, each call one message.
-const PUT: &str =
-    " 1=10:7\n\n 2=20:7\n 3=30:7 4=40:7 5=50:7\n 6=60:7\n\n 7=70:7\n 8=80:7 9=90:7 10=100:7\n retain\n";
+type Putter<M, N, R> = Sender<Letter, u16, M, All, N, R>;
+
+type Mail<M, N, R> = Receiver<Letter, u16, M, All, N, R>;
+
+/// What the answers to a put and then to the calls of `ask_each` are.
+const OK: &str = "Ok\nOk Ok Ok Ok Ok Ok Ok Ok Ok\n";
+
+/// What the answers to the calls of `ask_each` are, once the mailbox is closed.
+const CLOSED: &str = "Closed Closed Closed Closed Closed Closed Closed Closed Closed\n";
+
+/// What was put of the source's handle, each call one message.
+const PUT: &str = " retain\n 1=10:7\n\n 2=20:7\n 3=30:7 4=40:7 5=50:7\n 6=60:7\n\n 7=70:7\n \
+    8=80:7 9=90:7 10=100:7\n retain\n";
+
+/// What was put of the engine's handle.
+const PUT_TARGETED: &str = " retain\n 1=10:7\n\n 2=20:7\n 3=30:7 4=40:7 5=50:7\n 6=60:7 from \
+    106\n\n 7=70:7 from 107\n 8=80:7 from 108 9=90:7 from 109 10=100:7 from 110\n retain\n";
+
+/// What both handles have besides.
+trait Handle {
+    /// Writes what it has put.
+    fn spell_share(&self, rt: &impl Abort, text: &mut String);
+
+    /// Closes its mailbox.
+    fn shut(&mut self);
+}
+
+impl<N: Naming, R: Wait> Handle for Resolver<Letter, u16, Letter, All, N, R> {
+    fn spell_share(&self, rt: &impl Abort, text: &mut String) {
+        spell_each(rt, text, self.share());
+    }
+
+    fn shut(&mut self) {
+        self.close();
+    }
+}
+
+impl<N: Naming, R: Wait> Handle for Mailbox<Letter, Letter, u16, All, N, R> {
+    fn spell_share(&self, rt: &impl Abort, text: &mut String) {
+        spell_each(rt, text, self.share());
+    }
+
+    fn shut(&mut self) {
+        self.close();
+    }
+}
+
+/// What is said of a fetch, which can be written.
+trait Said {
+    fn spell(&self, rt: &impl Abort, text: &mut String);
+}
+
+impl Said for () {
+    fn spell(&self, _rt: &impl Abort, _text: &mut String) {}
+}
+
+impl Said for Targets {
+    /// The first target.
+    fn spell(&self, rt: &impl Abort, text: &mut String) {
+        if let Some(targets) = self {
+            write!(text, " from {}", targets.first().0).expect(rt, "memory");
+        }
+    }
+}
 
 /// A fetch of a key for the subscriber of ten times its number.
 fn fetch(key: u8) -> Fetch<Letter, u16> {
@@ -106,25 +169,30 @@ where
     writeln!(text, " {feedback:?}").expect(rt, "memory");
 }
 
-/// Writes a message: each key with its subscribers and their marks.
-fn spell(rt: &impl Abort, text: &mut String, message: &Message<Letter, u16, All>) {
+/// Writes a message: each key with its subscribers, their marks, and what else is said of it.
+fn spell<M: Said>(rt: &impl Abort, text: &mut String, message: &Message<Letter, u16, M, All>) {
     match message {
-        ingress::Message::Fetch(items) => {
+        Message::Fetch(items) => {
             for item in items {
                 write!(text, " {}=", item.key.0).expect(rt, "memory");
                 for one in item.subscribers.as_slice() {
                     write!(text, "{}:{}", one.0, one.1).expect(rt, "memory");
                 }
+                item.metadata.spell(rt, text);
             }
         }
-        ingress::Message::Retain(_) => write!(text, " retain").expect(rt, "memory"),
+        Message::Retain(_) => write!(text, " retain").expect(rt, "memory"),
     }
     writeln!(text).expect(rt, "memory");
 }
 
 /// Writes what a handle has put.
-fn spell_share<N: Naming, R>(rt: &impl Abort, text: &mut String, handle: &Handle<N, R>) {
-    let Some(share) = handle.share() else {
+fn spell_each<M: Said, N: Naming>(
+    rt: &impl Abort,
+    text: &mut String,
+    share: Option<&Share<Letter, u16, M, All, N>>,
+) {
+    let Some(share) = share else {
         writeln!(text, "none").expect(rt, "memory");
         return;
     };
@@ -135,13 +203,13 @@ fn spell_share<N: Naming, R>(rt: &impl Abort, text: &mut String, handle: &Handle
 }
 
 /// Writes what the receiver gives, up to the end or where it waits.
-fn spell_taken<N: Naming, R: Wait + Drop>(
+fn spell_taken<M: Metadata + Said + Drop, N: Naming, R: Wait + Drop>(
     rt: &impl Abort,
     text: &mut String,
     task: &MockTask,
-    receiver: &mut Mail<N, R>,
+    receiver: &mut Mail<M, N, R>,
 ) {
-    for _ in 0..10_u64 {
+    for _ in 0..11_u64 {
         match task.enter(|cx| receiver.poll_next(cx)) {
             Poll::Ready(Some(Ok(message))) => spell(rt, text, &message),
             Poll::Ready(Some(Err(fault))) => {
@@ -159,33 +227,88 @@ fn spell_taken<N: Naming, R: Wait + Drop>(
     }
 }
 
-/// Closes the mailbox by a clone of a handle, and writes the share of that.
-fn close_by_clone<N, R>(rt: &impl Abort, text: &mut String, handle: &Handle<N, R>)
-where
-    N: Naming,
-    R: Wait + Copy + Drop,
-{
+/// Closes the mailbox by a clone of a handle, and writes what the clone has put.
+fn close_by_clone<H: Handle + Clone + Drop>(rt: &impl Abort, text: &mut String, handle: &H) {
     let mut other = handle.clone().expect(rt, "memory");
-    spell_share(rt, text, &other);
-    other.close();
+    other.spell_share(rt, text);
+    other.shut();
     drop(other);
 }
 
-/// Asks, and once more after the mailbox was closed.
-fn ask_twice<N, R>(rt: &impl Abort, text: &mut String, handle: &mut Handle<N, R>)
+/// Asks, takes what was put, closes the mailbox, and asks and takes once more.
+fn use_both<H, M: Metadata + Said + Drop, N: Naming, R: Wait + Drop>(
+    rt: &impl Abort,
+    text: &mut String,
+    task: &MockTask,
+    handle: &mut H,
+    receiver: &mut Mail<M, N, R>,
+)
+where
+    H: Asks<Key = Letter, Subscriber = u16, Predicate = All>,
+    H: TargetedResolver<PublicKey = Letter> + Handle + Clone + Drop,
+{
+    ask_each(rt, text, handle);
+    handle.spell_share(rt, text);
+    spell_taken(rt, text, task, receiver);
+    close_by_clone(rt, text, handle);
+    ask_each(rt, text, handle);
+    handle.spell_share(rt, text);
+    spell_taken(rt, text, task, receiver);
+}
+
+/// Puts by a sender of which no handle is made yet, and writes the answer.
+fn put<M: Metadata + Drop, N: Naming, R: Wait>(
+    rt: &impl Abort,
+    text: &mut String,
+    sender: &mut Putter<M, N, R>,
+) {
+    let feedback = sender
+        .enqueue(Message::Retain(All))
+        .expect(rt, "an answer");
+    writeln!(text, "{feedback:?}").expect(rt, "memory");
+}
+
+/// The mailbox of a source that was made is used by a handle of its sender.
+fn use_source<N, R>(
+    rt: &impl Abort,
+    text: &mut String,
+    task: &MockTask,
+    made: Result<(Putter<(), N, R>, Mail<(), N, R>), Fault>,
+)
 where
     N: Naming + Send + Sync + 'static,
     R: Wait + Copy + Drop + Send + 'static,
 {
-    ask_each(rt, text, handle);
-    spell_share(rt, text, handle);
-    close_by_clone(rt, text, handle);
-    ask_each(rt, text, handle);
-    spell_share(rt, text, handle);
+    let (mut sender, mut receiver) = made.expect(rt, "a mailbox");
+    put(rt, text, &mut sender);
+    let mut handle: Resolver<Letter, u16, Letter, All, N, R> =
+        Resolver::over(*text.allocator(), sender);
+    use_both(rt, text, task, &mut handle, &mut receiver);
+    drop(handle);
+    drop(receiver);
 }
 
-/// The same in a recorded mailbox.
-fn recorded_asked<N, R>(rt: R, text: &mut String, pages: Pages)
+/// The mailbox of an engine that was made is used by a handle of its sender.
+fn use_engine<N, R>(
+    rt: &impl Abort,
+    text: &mut String,
+    task: &MockTask,
+    made: Result<(Putter<Targets, N, R>, Mail<Targets, N, R>), Fault>,
+)
+where
+    N: Naming + Send + Sync + 'static,
+    R: Wait + Copy + Drop + Send + 'static,
+{
+    let (mut sender, mut receiver) = made.expect(rt, "a mailbox");
+    put(rt, text, &mut sender);
+    let mut handle: Mailbox<Letter, Letter, u16, All, N, R> =
+        Mailbox::over(*text.allocator(), sender);
+    use_both(rt, text, task, &mut handle, &mut receiver);
+    drop(handle);
+    drop(receiver);
+}
+
+fn recorded_source<N, R>(rt: R, text: &mut String, pages: Pages, task: &MockTask)
 where
     N: Naming + Send + Sync + 'static,
     R: Abort + Wait + Copy + Drop + Send + 'static,
@@ -194,78 +317,66 @@ where
     requires takes { pages.takes.name ≡ N.takes }
 {
     let alloc = *text.allocator();
-    let made = recorded::<Letter, u16, (), All, N, R>(rt, alloc, pages, 9);
-    let (sender, receiver) = made.expect(&rt, "a mailbox");
-    let mut handle: Handle<N, R> = Resolver::over(alloc, sender);
-    ask_twice(&rt, text, &mut handle);
-    drop(handle);
-    drop(receiver);
+    let made = recorded::<Letter, u16, (), All, N, R>(rt, alloc, pages, 10);
+    use_source(&rt, text, task, made);
+}
+
+fn recorded_engine<N, R>(rt: R, text: &mut String, pages: Pages, task: &MockTask)
+where
+    N: Naming + Send + Sync + 'static,
+    R: Abort + Wait + Copy + Drop + Send + 'static,
+    requires recorded { N.is_recorded ≡ true }
+    requires puts { pages.puts.name ≡ N.puts }
+    requires takes { pages.takes.name ≡ N.takes }
+{
+    let alloc = *text.allocator();
+    let made = recorded::<Letter, u16, Targets, All, N, R>(rt, alloc, pages, 10);
+    use_engine(&rt, text, task, made);
+}
+
+/// What is seen of a handle whose share lists what was put.
+fn recorded_sight(rt: &impl Abort, alloc: Global, put: &str) -> String {
+    let mut text = String::new(alloc);
+    write!(
+        text,
+        "{OK}share 0 false\n{put}{put}pending\nnone\n{CLOSED}share 0 true\n{put}end\n"
+    )
+    .expect(rt, "memory");
+    text
+}
+
+/// What is seen of a handle that has no share.
+fn sight(rt: &impl Abort, alloc: Global, put: &str) -> String {
+    let mut text = String::new(alloc);
+    write!(text, "{OK}none\n{put}pending\nnone\n{CLOSED}none\nend\n").expect(rt, "memory");
+    text
 }
 
 #[test]
-fn what_is_asked_stands_in_the_share(rt: HostRuntime) {
-    let alloc = rt.alloc();
-    let mut text = String::new(alloc);
-    recorded_asked::<Brand, _>(rt, &mut text, Pages::new());
-    let mut wanted = String::new(alloc);
-    write!(
-        wanted,
-        "Ok Ok Ok Ok Ok Ok Ok Ok Ok\nshare 0 false\n{PUT}none\n"
-    )
-    .expect(&rt, "memory");
-    write!(
-        wanted,
-        "Closed Closed Closed Closed Closed Closed Closed Closed Closed\nshare 0 true\n{PUT}"
-    )
-    .expect(&rt, "memory");
-    assert_eq!(rt; text.as_str(), wanted.as_str());
+fn what_a_source_is_asked_stands_in_the_share(rt: HostRuntime) {
+    let task = MockTask::new(&rt).expect(&rt, "a task");
+    let mut text = String::new(rt.alloc());
+    recorded_source::<Brand, _>(rt, &mut text, Pages::new(), &task);
+    let seen = recorded_sight(&rt, rt.alloc(), PUT);
+    assert_eq!(rt; text.as_str(), seen.as_str());
 }
 
-/// Asks, and takes what was put, up to the end of the mailbox.
-fn ask_and_take<N, R>(
-    rt: &impl Abort,
-    text: &mut String,
-    task: &MockTask,
-    handle: &mut Handle<N, R>,
-    receiver: &mut Mail<N, R>,
-)
-where
-    N: Naming + Send + Sync + 'static,
-    R: Wait + Copy + Drop + Send + 'static,
-{
-    ask_each(rt, text, handle);
-    spell_share(rt, text, handle);
-    spell_taken(rt, text, task, receiver);
-    handle.close();
-    spell_taken(rt, text, task, receiver);
-}
-
-/// The same in a mailbox that isn't recorded.
-fn unrecorded_asked<R: Abort + Wait + Copy + Drop + Send + 'static>(
-    rt: R,
-    text: &mut String,
-    task: &MockTask,
-) {
-    let alloc = *text.allocator();
-    let made = new::<Letter, u16, (), All, R>(rt, alloc, 9);
-    let (sender, mut receiver) = made.expect(&rt, "a mailbox");
-    let mut handle: Handle<_, R> = Resolver::over(alloc, sender);
-    ask_and_take(&rt, text, task, &mut handle, &mut receiver);
-    drop(handle);
-    drop(receiver);
+#[test]
+fn what_an_engine_is_asked_stands_in_the_share(rt: HostRuntime) {
+    let task = MockTask::new(&rt).expect(&rt, "a task");
+    let mut text = String::new(rt.alloc());
+    recorded_engine::<Brand, _>(rt, &mut text, Pages::new(), &task);
+    let seen = recorded_sight(&rt, rt.alloc(), PUT_TARGETED);
+    assert_eq!(rt; text.as_str(), seen.as_str());
 }
 
 #[test]
 fn what_is_asked_is_taken(rt: HostRuntime) {
-    let alloc = rt.alloc();
-    let task = MockTask::new(&rt).expect(&rt, "a task");
+    let (alloc, task) = (rt.alloc(), MockTask::new(&rt).expect(&rt, "a task"));
     let mut text = String::new(alloc);
-    unrecorded_asked(rt, &mut text, &task);
-    let mut wanted = String::new(alloc);
-    write!(
-        wanted,
-        "Ok Ok Ok Ok Ok Ok Ok Ok Ok\nnone\n{PUT}pending\nend\n"
-    )
-    .expect(&rt, "memory");
-    assert_eq!(rt; text.as_str(), wanted.as_str());
+    use_source(&rt, &mut text, &task, new(rt, alloc, 10));
+    assert_eq!(rt; text.as_str(), sight(&rt, alloc, PUT).as_str());
+    let mut text = String::new(alloc);
+    use_engine(&rt, &mut text, &task, new(rt, alloc, 10));
+    assert_eq!(rt; text.as_str(), sight(&rt, alloc, PUT_TARGETED).as_str());
 }

@@ -6,13 +6,9 @@
 #[cfg(test)]
 mod actor;
 #[cfg(test)]
-mod asking;
-#[cfg(test)]
 mod engine;
 #[cfg(test)]
 mod laws;
-#[cfg(test)]
-mod mailbox;
 #[cfg(test)]
 mod metrics;
 #[cfg(test)]
