@@ -71,24 +71,6 @@ fn answers(tenth: u64) -> &'static [(u8, bool)] {
     }
 }
 
-/// What happens in the tenth moment of this number. What is handed out is complete.
-fn go_on<R: Wait + Copy + Drop + Send + 'static>(
-    rt: &(impl Abort + Eprint),
-    pair: &mut Pair<R>,
-    tenth: u64,
-) -> Result<(), Fail> {
-    pair.act(rt, Act::At(tenth.saturating_mul(10)))?;
-    for &(key, is_there) in answers(tenth) {
-        if is_there {
-            pair.reply(rt, key, &[1, 1, key])?;
-            pair.act(rt, Act::Judge(Outcome::Resolved(Resolution::Complete)))?;
-        } else {
-            pair.reply(rt, key, &[2])?;
-        }
-    }
-    Ok(())
-}
-
 /// Fails unless every key was delivered once.
 fn judge(rt: &impl Abort, twin: &mut Twin) -> Result<(), Fail> {
     twin.delivered.sort().expect(rt, "memory");
@@ -101,7 +83,8 @@ fn judge(rt: &impl Abort, twin: &mut Twin) -> Result<(), Fail> {
     Ok(())
 }
 
-/// The run, after which every key was delivered once. Gives what was counted.
+/// The run, in which what is handed out is complete, and after which every key was delivered once. Gives what was
+/// counted.
 fn play<R: Wait + Copy + Drop + Send + 'static>(
     rt: &(impl Abort + Eprint),
     pair: &mut Pair<R>,
@@ -110,7 +93,15 @@ fn play<R: Wait + Copy + Drop + Send + 'static>(
     pair.act(rt, Act::Peers(1, &[3, 4, 5, 9]))?;
     pair.act(rt, wants(is_targeted))?;
     for tenth in 1..22_u64 {
-        go_on(rt, pair, tenth)?;
+        pair.act(rt, Act::At(tenth.saturating_mul(10)))?;
+        for &(key, is_there) in answers(tenth) {
+            if is_there {
+                pair.reply(rt, key, &[1, 1, key])?;
+                pair.act(rt, Act::Judge(Outcome::Resolved(Resolution::Complete)))?;
+            } else {
+                pair.reply(rt, key, &[2])?;
+            }
+        }
     }
     judge(rt, &mut pair.twin)?;
     Ok(pair.twin.counts)

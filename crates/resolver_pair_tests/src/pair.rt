@@ -6,7 +6,7 @@ use futures::test::MockTask;
 use resolver_fakes::acts::Act;
 use resolver_fakes::seen::spell;
 use resolver_fakes::world::{Looped, Setting, World, make_loop, settle};
-use std::alloc::{AllocGlobal, Global};
+use std::alloc::AllocGlobal;
 use std::fmt::Write;
 use std::io::Eprint;
 use std::panic::Expect;
@@ -38,34 +38,21 @@ impl<R: Drop> Drop for Pair<R> {
     }
 }
 
-/// A world, and the loop of its engine, which is large.
-fn make_boxed<R: Abort + Copy>(
-    rt: R,
-    alloc: Global,
-    setting: Setting,
-) -> (World<R>, Box<Looped<R>>) {
-    match make_loop(rt, alloc, setting) {
-        Ok((world, looped)) => match Box::new(alloc, looped) {
-            Ok(looped) => (world, looped),
-            Err(_) => panic!(rt; "no memory for a loop"),
-        },
-        Err(fault) => panic!(rt; "a loop: {fault:?}"),
-    }
-}
-
-/// A pair whose fakes go by this setting. Scans are judged where the peers of each key are counted.
+/// A pair whose fakes go by this setting. Scans are judged where the peers of each key are counted. The loop is
+/// large, so it is boxed.
 pub fn make_pair<R>(rt: R, setting: Setting, eligible: Option<usize>) -> Pair<R>
 where
     R: Abort + Wait + RandomSource + AllocGlobal + Copy + Drop + Send + 'static,
 {
     let alloc = rt.alloc();
-    let task = MockTask::new(&rt).expect(&rt, "a task");
-    let twin = Twin::new(&rt, alloc, setting, eligible);
-    let (world, looped) = make_boxed(rt, alloc, setting);
+    let (world, looped) = match make_loop(rt, alloc, setting) {
+        Ok(made) => made,
+        Err(fault) => panic!(rt; "a loop: {fault:?}"),
+    };
     Pair {
-        twin,
-        task,
-        looped,
+        twin: Twin::new(&rt, alloc, setting, eligible),
+        task: MockTask::new(&rt).expect(&rt, "a task"),
+        looped: Box::new(alloc, looped).expect(&rt, "memory"),
         world,
         said: String::new(alloc),
         expected: String::new(alloc),

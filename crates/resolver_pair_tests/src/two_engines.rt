@@ -3,6 +3,7 @@
 
 use crate::pair::{Pair, make_pair};
 use crate::twin::Twin;
+use bytes::Bytes;
 use resolver::base::{Draws, Fault, Seeded};
 use resolver::p2p::mocks::Key;
 use resolver::{Outcome, Resolution};
@@ -57,34 +58,38 @@ fn next_fetch(twin: &mut Twin) -> Option<(u8, u16)> {
     Some((key, subscriber))
 }
 
-/// One of the two does one thing of this kind, if there is one: it fetches, takes the next message of the
-/// other, if that is for it, has its producer answer with the key itself, or its consumer judge.
-fn work<R: Wait + Copy + Drop + Send + 'static>(
-    rt: &(impl Abort + Eprint),
-    me: &mut Pair<R>,
-    other: &mut Twin,
-    kind: u128,
-) -> Result<bool, Fail> {
+/// What one of the two does next.
+enum Work {
+    Fetch((u8, u16)),
+    /// The other has sent this.
+    Net(Bytes),
+    Serve(u8),
+    Judge,
+    /// What the other has sent is for neither of the two.
+    Pass,
+    Nothing,
+}
+
+/// What one of the two does next of this kind, if there is such a thing: it fetches, takes the next message of
+/// the other, if that is for it, has its producer answer with the key itself, or its consumer judge.
+fn next_work(me: &mut Twin, other: &mut Twin, kind: u128) -> Work {
     match kind {
-        0 => match next_fetch(&mut me.twin) {
-            Some(wants) => me.act(rt, Act::Fetch(&[wants]))?,
-            None => return Ok(false),
+        0 => match next_fetch(me) {
+            Some(wants) => Work::Fetch(wants),
+            None => Work::Nothing,
         },
         1 | 2 | 3 => match other.sent.pop_front() {
-            Some((peer, bytes)) if peer.0 == me.twin.setting.me => {
-                me.act(rt, Act::Net(other.setting.me, bytes.as_slice()))?;
-            }
-            Some(_) => {}
-            None => return Ok(false),
+            Some((peer, bytes)) if peer.0 == me.setting.me => Work::Net(bytes),
+            Some(_) => Work::Pass,
+            None => Work::Nothing,
         },
-        4 | 5 => match me.twin.serves.front() {
-            Some(&(_, Key(key))) => me.act(rt, Act::Serve(&[key]))?,
-            None => return Ok(false),
+        4 | 5 => match me.serves.front() {
+            Some(&(_, Key(key))) => Work::Serve(key),
+            None => Work::Nothing,
         },
-        _ if me.twin.deliveries.is_empty() => return Ok(false),
-        _ => me.act(rt, Act::Judge(Outcome::Resolved(Resolution::Complete)))?,
+        _ if me.deliveries.is_empty() => Work::Nothing,
+        _ => Work::Judge,
     }
-    Ok(true)
 }
 
 /// One of the two does several things of one kind.
@@ -95,8 +100,13 @@ fn work_on<R: Wait + Copy + Drop + Send + 'static>(
     kind: u128,
 ) -> Result<(), Fail> {
     for _ in 0..BATCH {
-        if !work(rt, me, other, kind)? {
-            return Ok(());
+        match next_work(&mut me.twin, other, kind) {
+            Work::Fetch(wants) => me.act(rt, Act::Fetch(&[wants]))?,
+            Work::Net(bytes) => me.act(rt, Act::Net(other.setting.me, bytes.as_slice()))?,
+            Work::Serve(key) => me.act(rt, Act::Serve(&[key]))?,
+            Work::Judge => me.act(rt, Act::Judge(Outcome::Resolved(Resolution::Complete)))?,
+            Work::Pass => {}
+            Work::Nothing => break,
         }
     }
     Ok(())
@@ -212,16 +222,13 @@ fn go_all<R: Wait + Copy + Drop + Send + 'static>(
     judge_end(rt, &mut two.twin)
 }
 
-fn make_engine<R>(rt: R, me: u8, seed: u64) -> Pair<R>
-where
-    R: Abort + Wait + RandomSource + AllocGlobal + Copy + Drop + Send + 'static,
-{
-    let setting = Setting {
+/// One of the two engines.
+fn setting(me: u8, seed: u64) -> Setting {
+    Setting {
         me,
         wrong: Wrong::Sevenths,
         seed: Some(seed),
-    };
-    make_pair(rt, setting, None)
+    }
 }
 
 /// Prints what a core took, as a script for `resolver-replay`.
@@ -238,30 +245,21 @@ fn print_wrong<R: Abort + Print + Copy + Drop>(rt: R, seed: u64, one: &mut Twin,
     }
 }
 
-/// What both engines do in a run. Where it goes wrong a script is printed.
-fn run_both<R>(rt: R, one: &mut Pair<R>, two: &mut Pair<R>, seed: u64) -> Result<(), Fail>
+/// The rest of a run: the second engine, and what both do. Where it goes wrong a script is printed.
+fn run_beside<R>(rt: R, one: &mut Pair<R>, seed: u64) -> Result<(), Fail>
 where
     R: Abort + Eprint + Print + Wait + RandomSource + AllocGlobal + Copy + Drop + Send + 'static,
 {
+    let mut two = make_pair(rt, setting(2, seed.wrapping_add(1000)), None);
     let mut course = Course {
         now: 0,
         index: 0,
         draws: Seeded::new(seed.wrapping_add(2000)),
     };
-    let ended = go_all(&rt, one, two, &mut course);
+    let ended = go_all(&rt, one, &mut two, &mut course);
     if ended.is_err() {
         print_wrong(rt, seed, &mut one.twin, &two.twin);
     }
-    ended
-}
-
-/// The rest of a run: the second engine, and what both do.
-fn run_beside<R>(rt: R, one: &mut Pair<R>, seed: u64) -> Result<(), Fail>
-where
-    R: Abort + Eprint + Print + Wait + RandomSource + AllocGlobal + Copy + Drop + Send + 'static,
-{
-    let mut two = make_engine(rt, 2, seed.wrapping_add(1000));
-    let ended = run_both(rt, one, &mut two, seed);
     drop(two);
     ended
 }
@@ -270,7 +268,7 @@ fn run<R>(rt: R, seed: u64) -> Result<(), Fail>
 where
     R: Abort + Eprint + Print + Wait + RandomSource + AllocGlobal + Copy + Drop + Send + 'static,
 {
-    let mut one = make_engine(rt, 1, seed);
+    let mut one = make_pair(rt, setting(1, seed), None);
     let ended = run_beside(rt, &mut one, seed);
     drop(one);
     ended
