@@ -42,11 +42,15 @@ fn compares_clones(rt: &impl Abort, completion: &Over) {
     drop(other);
 }
 
+fn has_same_clones(rt: &impl Abort, alloc: Global) {
+    let completion = completed(rt, alloc);
+    compares_clones(rt, &completion);
+    drop(completion);
+}
+
 // A clone keeps the marks, which an equality of deliveries doesn't look at.
 #[test]
 fn a_clone_is_the_same(rt: HostRuntime) {
-    let completion = completed(&rt, rt.alloc());
-    compares_clones(&rt, &completion);
-    drop(completion);
+    has_same_clones(&rt, rt.alloc());
     holds(&rt, copied(&rt, &Aborted {}) == Aborted {});
 }

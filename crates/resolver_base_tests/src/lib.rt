@@ -1,5 +1,5 @@
-//! Tests of what both machines share, from names to deliveries, of requests and of the fetcher, through
-//! public calls.
+//! Tests of what both machines share, from names to deliveries and the mailbox with its handles, of requests
+//! and of the fetcher, through public calls.
 //!
 //! They stand in a crate of their own, so that the libraries aren't proved a second time with them.
 #![tactic(auto)]
@@ -32,6 +32,8 @@ mod ingress;
 mod keys;
 #[cfg(test)]
 mod laws;
+#[cfg(test)]
+mod mail;
 #[cfg(test)]
 mod names;
 #[cfg(test)]

@@ -1,3 +1,9 @@
+//! Deliveries that a consumer judges later.
+//!
+//! A test is a table of calls, and the text of what they answer. A tracker is made, used and dropped in few
+//! places, so that the tests are proved without what a tracker is.
+
+use crate::asserts::equal_texts;
 use crate::names::Letter;
 use crate::slow::Slow;
 use bytes::Bytes;
@@ -16,105 +22,216 @@ use std::process::Abort;
 /// A peer, and what it took: elapsed time and bytes.
 type Source = (Letter, u128, u64);
 
+const SOURCE: Source = (Letter(4), 0, 1);
+
+type Over = Result<Completion<Letter, u8, Source>, Aborted>;
+
 /// What a poll gives.
-type Polled = Poll<Result<Completion<Letter, u8, Source>, Aborted>>;
+type Polled = Poll<Over>;
 
 type Mocked = mocks::Consumer<Letter, Bytes, u8>;
 
+/// A tracker over a consumer that finds every value right at once.
+type Prompt<S> = Tracker<Mocked, Source, S>;
+
 const COMPLETE: Outcome = Outcome::Resolved(Resolution::Complete);
 
-fn delivery(rt: &impl Abort, alloc: Global, key: u8) -> Delivery<Letter, u8> {
-    Delivery {
-        key: Letter(key),
-        subscribers: NonEmptyVec::new(alloc, (10, 7)).expect(rt, "memory"),
-    }
+/// A call of a tracker.
+#[derive(Clone, Copy)]
+enum Call {
+    Insert(u8),
+    Remove(u8),
+    /// The value "v" is handed out for this key.
+    Deliver(u8),
+    /// The response of this key is handed out again.
+    Redeliver(u8),
+    Accept(u8),
+    Discard(u8),
+    Complete(u64, Option<Outcome>),
+    Poll,
+    /// Whether there is the key, whether it has a response, and whether that was accepted.
+    Look(u8),
 }
 
-/// Delivers the value "v" for a key that is free.
-fn deliver<C>(
-    rt: &impl Abort,
-    alloc: Global,
-    tracker: &mut Tracker<C, Source, ()>,
-    key: u8,
-    source: Source,
-) -> u64
+// The calls promise nothing, so that their callers are proved without what a tracker is.
+
+fn insert<C>(rt: &impl Abort, tracker: &mut Tracker<C, Source, ()>, key: u8) -> bool
 where
     C: Consumer<Key = Letter, Value = Bytes, Subscriber = u8> + Drop,
     C::Outcome: Drop,
 {
-    let delivery = delivery(rt, alloc, key);
-    assert!(rt; tracker.contains(&delivery.key));
-    assert!(rt; tracker.entries().number(&delivery.key).is_none());
+    tracker.insert(Letter(key)).expect(rt, "memory")
+}
+
+fn remove<C>(tracker: &mut Tracker<C, Source, ()>, key: u8) -> bool
+where
+    C: Consumer<Key = Letter, Value = Bytes, Subscriber = u8> + Drop,
+    C::Outcome: Drop,
+{
+    tracker.remove(&Letter(key))
+}
+
+fn deliver<C>(rt: &impl Abort, alloc: Global, tracker: &mut Tracker<C, Source, ()>, key: u8) -> u64
+where
+    C: Consumer<Key = Letter, Value = Bytes, Subscriber = u8> + Drop,
+    C::Outcome: Drop,
+{
+    assert!(rt; tracker.contains(&Letter(key)));
+    assert!(rt; tracker.entries().number(&Letter(key)).is_none());
+    let delivery = Delivery {
+        key: Letter(key),
+        subscribers: NonEmptyVec::new(alloc, (10, 7)).expect(rt, "memory"),
+    };
     tracker
-        .deliver(delivery, source, Bytes::from_static(b"v"))
+        .deliver(delivery, SOURCE, Bytes::from_static(b"v"))
         .expect(rt, "a delivery")
 }
 
-/// Delivers the cached value of a key that is free once more.
-fn redeliver<C>(
-    rt: &impl Abort,
-    alloc: Global,
-    tracker: &mut Tracker<C, Source, ()>,
-    key: u8,
-) -> u64
-where
-    C: Consumer<Key = Letter, Value = Bytes, Subscriber = u8> + Drop,
-    C::Outcome: Drop,
-{
-    let delivery = delivery(rt, alloc, key);
+fn redeliver(rt: &impl Abort, alloc: Global, tracker: &mut Prompt<()>, key: u8) -> u64 {
     let entries = tracker.entries();
-    assert!(rt; entries.response(&delivery.key).is_some());
-    assert!(rt; entries.number(&delivery.key).is_none());
+    assert!(rt; entries.response(&Letter(key)).is_some());
+    assert!(rt; entries.number(&Letter(key)).is_none());
+    let delivery = Delivery {
+        key: Letter(key),
+        subscribers: NonEmptyVec::new(alloc, (10, 7)).expect(rt, "memory"),
+    };
     tracker.redeliver(delivery).expect(rt, "a delivery")
+}
+
+fn accept(rt: &impl Abort, tracker: &mut Prompt<()>, key: u8) {
+    assert!(rt; tracker.entries().response(&Letter(key)).is_some());
+    tracker.accept_response(&Letter(key));
+}
+
+fn discard(tracker: &mut Prompt<()>, key: u8) {
+    tracker.discard_response(&Letter(key));
+}
+
+fn complete(tracker: &mut Prompt<()>, number: u64, verdict: Option<Outcome>) -> Over {
+    tracker.completed(number, verdict)
+}
+
+/// What the next poll gives.
+fn polled_prompt(task: &MockTask, tracker: &mut Prompt<()>) -> Polled {
+    task.enter(|cx| tracker.poll_completion(cx))
+}
+
+fn seen(tracker: &Prompt<()>, key: u8) -> [bool; 3] {
+    [
+        tracker.contains(&Letter(key)),
+        tracker.entries().response(&Letter(key)).is_some(),
+        tracker.response_accepted(&Letter(key)),
+    ]
 }
 
 /// Writes what a poll gives.
 fn spell(rt: &impl Abort, text: &mut String, polled: Polled) {
-    let written = match &polled {
-        Poll::Ready(Ok(completion)) => writeln!(
-            text,
-            "{} {:?} canceled {} accepted {}",
-            completion.delivery.key.0,
-            completion.outcome,
-            completion.canceled,
-            completion.previously_accepted
-        ),
-        Poll::Ready(Err(_)) => writeln!(text, "aborted"),
-        Poll::Pending => writeln!(text, "pending"),
-    };
-    drop(polled);
-    written.expect(rt, "memory");
+    match polled {
+        Poll::Ready(Ok(completion)) => {
+            spell_completion(rt, text, &completion);
+            drop(completion);
+        }
+        Poll::Ready(Err(Aborted {})) => writeln!(text, "aborted").expect(rt, "memory"),
+        Poll::Pending => writeln!(text, "pending").expect(rt, "memory"),
+    }
 }
 
-/// Answers the first delivery of a key that was removed meanwhile.
-fn removed_before_its_verdict(
-    rt: &impl Abort,
-    alloc: Global,
-    task: &MockTask,
-    tracker: &mut Tracker<Mocked, Source, ()>,
-) -> Completion<Letter, u8, Source> {
-    assert!(rt; tracker.insert(Letter(1)).expect(rt, "memory"));
-    assert_eq!(rt; deliver(rt, alloc, tracker, 1, (Letter(4), 0, 1)), 0);
-    assert!(rt; tracker.remove(&Letter(1)));
-    match polled_mocked(task, tracker) {
-        Poll::Ready(Ok(completion)) => completion,
-        _ => panic!(rt; "no completion"),
+fn spell_completion(rt: &impl Abort, text: &mut String, over: &Completion<Letter, u8, Source>) {
+    write!(text, "{} {:?}", over.delivery.key.0, over.outcome).expect(rt, "memory");
+    write!(text, " canceled {}", over.canceled).expect(rt, "memory");
+    let accepted = over.previously_accepted;
+    writeln!(text, " accepted {accepted} of {:?}", over.context).expect(rt, "memory");
+}
+
+fn spell_flag(rt: &impl Abort, text: &mut String, flag: bool) {
+    writeln!(text, "{flag}").expect(rt, "memory");
+}
+
+fn spell_number(rt: &impl Abort, text: &mut String, number: u64) {
+    writeln!(text, "delivery {number}").expect(rt, "memory");
+}
+
+fn spell_seen(rt: &impl Abort, text: &mut String, seen: [bool; 3]) {
+    writeln!(text, "{seen:?}").expect(rt, "memory");
+}
+
+/// Makes a call, and writes what it answers.
+fn make(rt: &impl Abort, text: &mut String, task: &MockTask, tracker: &mut Prompt<()>, call: Call) {
+    let alloc = *text.allocator();
+    match call {
+        Call::Insert(key) => spell_flag(rt, text, insert(rt, tracker, key)),
+        Call::Remove(key) => spell_flag(rt, text, remove(tracker, key)),
+        Call::Deliver(key) => spell_number(rt, text, deliver(rt, alloc, tracker, key)),
+        Call::Redeliver(key) => spell_number(rt, text, redeliver(rt, alloc, tracker, key)),
+        Call::Accept(key) => accept(rt, tracker, key),
+        Call::Discard(key) => discard(tracker, key),
+        Call::Complete(number, verdict) => {
+            spell(rt, text, Poll::Ready(complete(tracker, number, verdict)));
+        }
+        Call::Poll => spell(rt, text, polled_prompt(task, tracker)),
+        Call::Look(key) => spell_seen(rt, text, seen(tracker, key)),
     }
+}
+
+fn make_all(
+    rt: &impl Abort,
+    text: &mut String,
+    task: &MockTask,
+    tracker: &mut Prompt<()>,
+    calls: &[Call],
+) {
+    for call in calls {
+        make(rt, text, task, tracker, *call);
+    }
+}
+
+/// What the calls of a new tracker answer, each on its line.
+fn told(rt: &impl Abort, alloc: Global, task: &MockTask, calls: &[Call]) -> String {
+    let mut text = String::new(alloc);
+    let mut tracker = Tracker::new(alloc, Mocked::dummy(alloc).expect(rt, "memory"));
+    make_all(rt, &mut text, task, &mut tracker, calls);
+    drop(tracker);
+    text
 }
 
 #[test]
 fn inflight_completion(rt: HostRuntime) {
-    let alloc = rt.alloc();
+    const CALLS: &[Call] = &[
+        Call::Insert(1),
+        Call::Deliver(1),
+        Call::Remove(1),
+        Call::Poll,
+        Call::Look(1),
+    ];
     let task = MockTask::new(&rt).expect(&rt, "a task");
-    let mut tracker = Tracker::new(alloc, Mocked::dummy(alloc).expect(&rt, "memory"));
-    let completion = removed_before_its_verdict(&rt, alloc, &task, &mut tracker);
-    let is_tracked = tracker.contains(&Letter(1));
-    drop(tracker);
-    assert!(rt; completion.canceled);
-    assert_eq!(rt; completion.context, (Letter(4), 0, 1));
-    assert_eq!(rt; completion.outcome, Some(COMPLETE));
-    assert!(rt; !completion.previously_accepted);
-    assert!(rt; !is_tracked);
+    equal_texts(
+        &rt,
+        told(&rt, rt.alloc(), &task, CALLS).as_str(),
+        "true\ndelivery 0\ntrue\n1 Some(Resolved(Complete)) canceled true accepted false of (Letter(4), 0, 1)\n[false, false, false]\n",
+    );
+}
+
+#[test]
+fn an_accepted_response_is_handed_out_again(rt: HostRuntime) {
+    const CALLS: &[Call] = &[
+        Call::Insert(1),
+        Call::Deliver(1),
+        Call::Poll,
+        Call::Look(1),
+        Call::Accept(1),
+        Call::Look(1),
+        Call::Redeliver(1),
+        Call::Complete(1, Some(Outcome::Ignored)),
+        Call::Poll,
+        Call::Discard(1),
+        Call::Look(1),
+    ];
+    let task = MockTask::new(&rt).expect(&rt, "a task");
+    equal_texts(
+        &rt,
+        told(&rt, rt.alloc(), &task, CALLS).as_str(),
+        "true\ndelivery 0\n1 Some(Resolved(Complete)) canceled false accepted false of (Letter(4), 0, 1)\n[true, true, false]\n[true, true, true]\ndelivery 1\n1 Some(Ignored) canceled false accepted true of (Letter(4), 0, 1)\npending\n[true, false, false]\n",
+    );
 }
 
 /// The next one-shot that the consumer was asked to answer by.
@@ -132,18 +249,13 @@ fn next_judge(
 /// Has three keys delivered.
 fn deliver_three(rt: &impl Abort, alloc: Global, tracker: &mut Tracker<Slow, Source, ()>) {
     for key in 1..4 {
-        tracker.insert(Letter(key)).expect(rt, "memory");
-        let _ = deliver(rt, alloc, tracker, key, (Letter(4), 0, 1));
+        insert(rt, tracker, key);
+        deliver(rt, alloc, tracker, key);
     }
 }
 
 /// What the next poll gives.
 fn polled_slow(task: &MockTask, tracker: &mut Tracker<Slow, Source, ()>) -> Polled {
-    task.enter(|cx| tracker.poll_completion(cx))
-}
-
-/// What the next poll gives.
-fn polled_mocked(task: &MockTask, tracker: &mut Tracker<Mocked, Source, ()>) -> Polled {
     task.enter(|cx| tracker.poll_completion(cx))
 }
 
@@ -164,104 +276,88 @@ fn judge_three(
     spell(rt, text, polled_slow(task, tracker));
     drop(first);
     spell(rt, text, polled_slow(task, tracker));
-    tracker.remove(&Letter(3));
+    remove(tracker, 3);
     spell(rt, text, polled_slow(task, tracker));
-    writeln!(text, "third canceled {}", third.is_canceled()).expect(rt, "memory");
+    spell_flag(rt, text, third.is_canceled());
     spell(rt, text, polled_slow(task, tracker));
 }
 
-#[test]
-fn verdicts_come_in_any_order(rt: HostRuntime) {
-    let alloc = rt.alloc();
-    let task = MockTask::new(&rt).expect(&rt, "a task");
+/// What a tracker tells whose consumer is asked by these.
+fn told_of_three(
+    rt: &impl Abort,
+    alloc: Global,
+    task: &MockTask,
+    sender: mpsc::UnboundedSender<oneshot::Sender<Outcome>>,
+    judges: &mut mpsc::UnboundedReceiver<oneshot::Sender<Outcome>>,
+) -> String {
     let mut text = String::new(alloc);
-    let (sender, mut judges) = mpsc::unbounded(alloc).expect(&rt, "memory");
     let slow = Slow {
         alloc,
         judges: sender,
     };
     let mut tracker = Tracker::new(alloc, slow);
-    judge_three(&rt, &mut text, &task, &mut judges, &mut tracker);
+    judge_three(rt, &mut text, task, judges, &mut tracker);
     drop(tracker);
-    drop(judges);
-    assert_eq!(rt;
-        text.as_str(),
-        "pending\n2 Some(Resolved(Complete)) canceled false accepted false\n1 None canceled false accepted false\naborted\nthird canceled true\npending\n"
-    );
-}
-
-/// Delivers the value of key 1, accepts it, hands it out again and discards it, and writes what is answered.
-fn accept_and_redeliver(
-    rt: &impl Abort,
-    alloc: Global,
-    text: &mut String,
-    task: &MockTask,
-    tracker: &mut Tracker<Mocked, Source, ()>,
-) {
-    tracker.insert(Letter(1)).expect(rt, "memory");
-    let number = deliver(rt, alloc, tracker, 1, (Letter(4), 0, 1));
-    writeln!(text, "delivery {number}").expect(rt, "memory");
-    spell(rt, text, polled_mocked(task, tracker));
-    spell_response(rt, text, tracker);
-    accept(rt, tracker);
-    spell_response(rt, text, tracker);
-    let number = redeliver(rt, alloc, tracker, 1);
-    writeln!(text, "delivery {number}").expect(rt, "memory");
-    let completed = tracker.completed(1, Some(Outcome::Ignored));
-    spell(rt, text, Poll::Ready(completed));
-    spell(rt, text, polled_mocked(task, tracker));
-    tracker.discard_response(&Letter(1));
-    spell_response(rt, text, tracker);
-}
-
-/// Accepts the response of key 1.
-fn accept(rt: &impl Abort, tracker: &mut Tracker<Mocked, Source, ()>) {
-    assert!(rt; tracker.entries().response(&Letter(1)).is_some());
-    tracker.accept_response(&Letter(1));
-}
-
-/// Writes whether key 1 has a response, and whether that was accepted.
-fn spell_response(rt: &impl Abort, text: &mut String, tracker: &Tracker<Mocked, Source, ()>) {
-    let has = tracker.entries().response(&Letter(1)).is_some();
-    let accepted = tracker.response_accepted(&Letter(1));
-    writeln!(text, "response {has} accepted {accepted}").expect(rt, "memory");
+    text
 }
 
 #[test]
-fn an_accepted_response_is_handed_out_again(rt: HostRuntime) {
-    let alloc = rt.alloc();
+fn verdicts_come_in_any_order(rt: HostRuntime) {
     let task = MockTask::new(&rt).expect(&rt, "a task");
-    let mut text = String::new(alloc);
-    let mut tracker = Tracker::new(alloc, Mocked::dummy(alloc).expect(&rt, "memory"));
-    accept_and_redeliver(&rt, alloc, &mut text, &task, &mut tracker);
-    drop(tracker);
-    assert_eq!(rt;
+    let (sender, mut judges) = mpsc::unbounded(rt.alloc()).expect(&rt, "memory");
+    let text = told_of_three(&rt, rt.alloc(), &task, sender, &mut judges);
+    drop(judges);
+    equal_texts(
+        &rt,
         text.as_str(),
-        "delivery 0\n1 Some(Resolved(Complete)) canceled false accepted false\nresponse true accepted false\nresponse true accepted true\ndelivery 1\n1 Some(Ignored) canceled false accepted true\npending\nresponse false accepted false\n"
+        "pending\n2 Some(Resolved(Complete)) canceled false accepted false of (Letter(4), 0, 1)\n1 None canceled false accepted false of (Letter(4), 0, 1)\naborted\ntrue\npending\n",
     );
 }
 
+/// Puts a key with a state: whether it was new, and its state then.
+fn put_state(rt: &impl Abort, tracker: &mut Prompt<u32>, key: u8, state: u32) -> (bool, u32) {
+    let is_new = tracker
+        .insert_state(Letter(key), state)
+        .expect(rt, "memory");
+    let state = tracker.state(&Letter(key)).copied();
+    (is_new, state.expect(rt, "a state"))
+}
+
+/// How many keys go as those but this one are kept, and whether it stays.
+fn drop_one(tracker: &mut Prompt<u32>, key: u8) -> (usize, bool) {
+    let gone = tracker.retain(|one| one.0 != key);
+    (gone, tracker.contains(&Letter(key)))
+}
+
+/// How many keys go as all do, and whether this one stays.
+fn drop_all(tracker: &mut Prompt<u32>, key: u8) -> (usize, bool) {
+    let gone = tracker.drain();
+    (gone, tracker.contains(&Letter(key)))
+}
+
 /// Gives keys states, and writes what is answered.
-fn give_states(rt: &impl Abort, text: &mut String, tracker: &mut Tracker<Mocked, Source, u32>) {
-    let first = tracker.insert_state(Letter(1), 20).expect(rt, "memory");
-    let second = tracker.insert_state(Letter(1), 30).expect(rt, "memory");
-    let state = tracker.state(&Letter(1)).copied();
-    writeln!(text, "{first} {second} {state:?}").expect(rt, "memory");
-    for key in 2..5 {
-        tracker.insert_state(Letter(key), 40).expect(rt, "memory");
+fn give_states(rt: &impl Abort, text: &mut String, tracker: &mut Prompt<u32>) {
+    for (key, state) in [(1, 20), (1, 30), (2, 40), (3, 40), (4, 40)] {
+        let put = put_state(rt, tracker, key, state);
+        write!(text, "{put:?} ").expect(rt, "memory");
     }
-    let kept = tracker.retain(|key| key.0 != 2);
-    writeln!(text, "{kept} {}", tracker.contains(&Letter(2))).expect(rt, "memory");
-    let drained = tracker.drain();
-    writeln!(text, "{drained} {}", tracker.contains(&Letter(1))).expect(rt, "memory");
+    let (one, all) = (drop_one(tracker, 2), drop_all(tracker, 1));
+    write!(text, "{one:?} {all:?}").expect(rt, "memory");
+}
+
+fn told_of_states(rt: &impl Abort, alloc: Global) -> String {
+    let mut text = String::new(alloc);
+    let mut tracker = Tracker::new(alloc, Mocked::dummy(alloc).expect(rt, "memory"));
+    give_states(rt, &mut text, &mut tracker);
+    drop(tracker);
+    text
 }
 
 #[test]
 fn keys_have_a_state(rt: HostRuntime) {
-    let alloc = rt.alloc();
-    let mut text = String::new(alloc);
-    let mut tracker = Tracker::new(alloc, Mocked::dummy(alloc).expect(&rt, "memory"));
-    give_states(&rt, &mut text, &mut tracker);
-    drop(tracker);
-    assert_eq!(rt; text.as_str(), "true false Some(20)\n1 false\n3 false\n");
+    equal_texts(
+        &rt,
+        told_of_states(&rt, rt.alloc()).as_str(),
+        "(true, 20) (false, 20) (true, 40) (true, 40) (true, 40) (1, false) (3, false)",
+    );
 }

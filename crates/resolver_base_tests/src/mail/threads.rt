@@ -2,8 +2,8 @@
 
 ghost use Rattle.std.specs.Prelude.{◌≡◌, ◌<◌, true};
 
-use crate::calls::{All, Told, fetch};
-use crate::mailbox::{next, puts_in, shares_of};
+use crate::mail::calls::{All, Told, fetch};
+use crate::mail::mailbox::{next, puts_in, shares_of};
 use futures::task::Poll;
 use futures::test::MockTask;
 use resolver_base::base::{Fault, Feedback};

@@ -1,5 +1,5 @@
 use Rattle.std.proofs.Common.{true}
-use Rattle.resolver_mailbox_tests.proofs.mailbox.mailbox_book.Given as goal
+use Rattle.resolver_base_tests.proofs.mail.mailbox.mailbox_book.Given as goal
 
 abbrev pub ghosts-recorded_row-N-Names : goal.ghosts-recorded_row-N-Names
 ghosts-recorded_row-N-Names g a = record { puts = a.pages.puts.name; takes = a.pages.takes.name }

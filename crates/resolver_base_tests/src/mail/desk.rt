@@ -1,4 +1,4 @@
-use crate::calls::{All, fetch, spell, spell_book};
+use crate::mail::calls::{All, fetch, spell, spell_book};
 use resolver_mailbox::mailbox::Desk;
 use std::alloc::{AllocError, Global};
 use std::fmt::Write;

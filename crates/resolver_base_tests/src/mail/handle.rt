@@ -1,6 +1,6 @@
 ghost use Rattle.std.specs.Prelude.{◌≡◌, true};
 
-use crate::letters::{All, Letter};
+use crate::mail::letters::{All, Letter};
 use futures::Stream;
 use futures::task::Poll;
 use futures::test::MockTask;
@@ -262,9 +262,7 @@ fn put<M: Metadata + Drop, N: Naming, R: Wait>(
     text: &mut String,
     sender: &mut Putter<M, N, R>,
 ) {
-    let feedback = sender
-        .enqueue(Message::Retain(All))
-        .expect(rt, "an answer");
+    let feedback = sender.enqueue(Message::Retain(All)).expect(rt, "an answer");
     writeln!(text, "{feedback:?}").expect(rt, "memory");
 }
 
@@ -281,8 +279,10 @@ where
 {
     let (mut sender, mut receiver) = made.expect(rt, "a mailbox");
     put(rt, text, &mut sender);
-    let mut handle: Resolver<Letter, u16, Letter, All, N, R> =
-        Resolver::over(*text.allocator(), sender);
+    let mut handle: Resolver<Letter, u16, Letter, All, N, R> = Resolver::over(
+        *text.allocator(),
+        sender,
+    );
     use_both(rt, text, task, &mut handle, &mut receiver);
     drop(handle);
     drop(receiver);
@@ -301,8 +301,10 @@ where
 {
     let (mut sender, mut receiver) = made.expect(rt, "a mailbox");
     put(rt, text, &mut sender);
-    let mut handle: Mailbox<Letter, Letter, u16, All, N, R> =
-        Mailbox::over(*text.allocator(), sender);
+    let mut handle: Mailbox<Letter, Letter, u16, All, N, R> = Mailbox::over(
+        *text.allocator(),
+        sender,
+    );
     use_both(rt, text, task, &mut handle, &mut receiver);
     drop(handle);
     drop(receiver);

@@ -1,6 +1,6 @@
 ghost use Rattle.std.specs.Prelude.{◌≡◌, ◌<◌, true};
 
-use crate::calls::{All, Told, fetch, spell, spell_all, spell_book};
+use crate::mail::calls::{All, Told, fetch, spell, spell_all, spell_book};
 use futures::Stream;
 use futures::task::Poll;
 use futures::test::MockTask;
