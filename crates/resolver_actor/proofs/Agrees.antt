@@ -15,7 +15,9 @@ use Rattle.resolver_root.specs.Names.{Names, same_key}
 use Rattle.resolver_root.specs.Table as tables
 use Rattle.resolver_demand.specs.Entries.{changed_at}
 use Rattle.resolver_actor.specs.Opaque.{Row, kept, unkept, called_off, all_called_off}
-use Rattle.resolver_actor.specs.OpaqueActor.{Kept, phase_of, rows_of, has_cached, AreCached, Agree}
+use Rattle.resolver_stages.specs.OpaqueStages.{Kept}
+use Rattle.resolver_stages.specs.OpaquePhased.{phase_of}
+use Rattle.resolver_actor.specs.OpaqueActor.{rows_of, has_cached, AreCached, Agree}
 use Rattle.resolver_actor.specs.OpaqueFound.{each_called_off, without_each}
 use Rattle.std.specs.Prelude.{Result, Ok, Err, IfOk, OnOk}
 use Rattle.std.specs.declared.vec.Vec.{Vec}

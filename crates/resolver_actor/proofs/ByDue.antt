@@ -6,9 +6,12 @@ use Rattle.std.specs.Map.{lookup, set_value, keys_of}
 use Rattle.std.specs.List.{AllByRecursion, IsDistinct}
 use Rattle.std.specs.Cmp.{IsEquivalence}
 use Rattle.resolver_root.specs.Names.{Names, same_key}
-use Rattle.resolver_actor.specs.Opaque.{Machine, Row, Phase, Waiting, Asked, Judged, Done, and_then, row_of, start_again, start_all, placed, placed_if_due, waiting_by_due, least_due, next_retry}
-use Rattle.resolver_actor.specs.OpaqueActor.{Kept, phase_of, rows_of, row_of as code_row_of}
-use Rattle.resolver_actor.specs.OpaqueFound.{IsIdle, IsIdlePhase, first_due}
+use Rattle.resolver_actor.specs.Opaque.{Machine, Row, Done, and_then, row_of, start_again, start_all, placed, placed_if_due, waiting_by_due, next_retry}
+use Rattle.resolver_stages.specs.OpaquePhases.{Phase, Waiting, Asked, Judged, least_due}
+use Rattle.resolver_stages.specs.OpaqueStages.{Kept}
+use Rattle.resolver_stages.specs.OpaquePhased.{phase_of, first_due}
+use Rattle.resolver_actor.specs.OpaqueActor.{rows_of, row_of as code_row_of}
+use Rattle.resolver_actor.specs.OpaqueFound.{IsIdle, IsIdlePhase}
 use Rattle.resolver_actor.proofs.Joined.{head_key, tail_keys}
 use Rattle.resolver_machine.specs.Lawful.{Each}
 use Rattle.resolver_machine.proofs.Rows.{each_found}
@@ -22,7 +25,7 @@ use Rattle.resolver_base.specs.declared.base.fault.Fault.{Fault}
 use Rattle.resolver_base.specs.declared.base.fault.Fault.TheVariants as faults
 use Rattle.resolver_actor.specs.OpaqueActor.{Agree}
 use Rattle.resolver_actor.proofs.Agrees.{distinct-rows}
-use Rattle.resolver_actor.specs.OpaqueOverdue.{Overdue, with_due, due_of, by_due, first_key, placed as placed_by}
+use Rattle.resolver_stages.specs.OpaqueOverdue.{Overdue, with_due, due_of, by_due, first_key, placed as placed_by}
 
 not-empty : (m : ℕ) → (suc m == 0) ≡ false
 not-empty m = grind (arith, nat_tests)

@@ -27,19 +27,22 @@ use Rattle.std.specs.declared.cmp.Ordering.{Ordering}
 use Rattle.resolver_demand.specs.declared.delivery.completion.Completion.{Completion}
 use Rattle.resolver_demand.specs.declared.delivery.completion.Aborted.{Aborted}
 use Rattle.resolver_machine.specs.declared.ruling.Ruling.TheVariants.{Serve, Retry, Retire}
-use Rattle.resolver_actor.specs.declared.opaque.rows.Stage.{Stage}
-use Rattle.resolver_actor.specs.declared.opaque.rows.Stage.TheVariants as stages
+use Rattle.resolver_stages.specs.declared.phase.Stage.{Stage}
+use Rattle.resolver_stages.specs.declared.phase.Stage.TheVariants as stages
 use Rattle.resolver_actor.specs.declared.opaque.actor.Effect.{Effect}
 use Rattle.resolver_actor.specs.declared.opaque.actor.Effect.TheVariants.{Deliver}
 use Rattle.resolver_machine.specs.Account.{Handed}
 use Rattle.resolver_machine.specs.Verdicts.{ruling}
-use Rattle.resolver_actor.specs.Opaque.{Machine, Row, Judged, Judging, Done, Status, quiet, hand_out, row_of, without_row, served, ruled, verdict, verdict_on, verdict_at, verdict_in}
-use Rattle.resolver_actor.specs.OpaqueActor.{Kept, phase_in, phase_of, has_cached, AreCached, Agree, rows_of, row_of as code_row_of, handed_of, machine_with}
+use Rattle.resolver_actor.specs.Opaque.{Machine, Row, Done, Status, quiet, hand_out, row_of, without_row, served, ruled, verdict, verdict_on, verdict_at, verdict_in}
+use Rattle.resolver_stages.specs.OpaquePhases.{Judged, Judging}
+use Rattle.resolver_stages.specs.OpaqueStages.{Kept, resting}
+use Rattle.resolver_stages.specs.OpaquePhased.{phase_in, phase_of}
+use Rattle.resolver_actor.specs.OpaqueActor.{has_cached, AreCached, Agree, rows_of, row_of as code_row_of, handed_of, machine_with}
 use Rattle.resolver_actor.specs.OpaqueFound.{IsRefusal, flagged, handed_again}
-use Rattle.resolver_actor.specs.OpaqueStages.{resting}
 use Rattle.resolver_actor.specs.OpaqueSteps.{onto, Goes}
 use Rattle.resolver_machine.proofs.Mapped.{insert_entry-seen, remove_entry-seen}
-use Rattle.resolver_actor.proofs.Joined.{same_found, rows-found, rows-set_demand, rows-set_keys, rows-removed, set-set, remove-set, lookup-set_self}
+use Rattle.resolver_actor.proofs.Joined.{same_found, rows-found, rows-set_demand, rows-set_keys, rows-removed}
+use Rattle.resolver_stages.proofs.Written.{set-set, remove-set, lookup-set_self}
 use Rattle.resolver_actor.proofs.Agrees.{cached-at, cached-set, cached-changed, keys-changed, agree-removed, agree-demand, agree-keys}
 use Rattle.std.specs.Cmp.{IsEquivalence}
 use Rattle.std.proofs.Common.{◌||◌}

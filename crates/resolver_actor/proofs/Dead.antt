@@ -7,7 +7,8 @@ use Rattle.resolver_root.specs.Names.{Names}
 use Rattle.resolver_root.specs.declared.root.Outcome.{Outcome}
 use Rattle.resolver_machine.specs.Account.{Handed}
 use Rattle.resolver_machine.specs.Verdicts.{ruling}
-use Rattle.resolver_actor.specs.Opaque.{Machine, Row, Phase, Waiting, Asked, Judged, Verdict, step_in, step_done, quiet, closed, ruled, row_of, verdict, verdict_on, verdict_at, verdict_in}
+use Rattle.resolver_actor.specs.Opaque.{Machine, Row, Verdict, step_in, step_done, quiet, closed, ruled, row_of, verdict, verdict_on, verdict_at, verdict_in}
+use Rattle.resolver_stages.specs.OpaquePhases.{Phase, Waiting, Asked, Judged}
 use Rattle.resolver_actor.specs.OpaqueLaws.{is_judged_under, row_judged_under, is_live_as, is_live, DeadVerdictsPass}
 use Rattle.resolver_machine.proofs.Tallies.{remove_entry-absent}
 

@@ -15,14 +15,16 @@ use Rattle.resolver_base.specs.declared.base.fault.Fault.{Fault}
 use Rattle.resolver_base.specs.declared.base.fault.Fault.TheVariants as faults
 use Rattle.resolver_demand.specs.Entries.{Numbered, changed, changed_at, with_state, with_response, numbered, inserted, fresh, delivered}
 use Rattle.resolver_demand.specs.declared.delivery.entry.Response.{Response}
-use Rattle.resolver_actor.specs.declared.opaque.rows.Stage.{Stage}
-use Rattle.resolver_actor.specs.declared.opaque.rows.Stage.TheVariants as stages
+use Rattle.resolver_stages.specs.declared.phase.Stage.{Stage}
+use Rattle.resolver_stages.specs.declared.phase.Stage.TheVariants as stages
 use Rattle.resolver_actor.specs.declared.opaque.actor.Effect.{Effect}
 use Rattle.resolver_actor.specs.declared.opaque.actor.Effect.TheVariants.{Start, Deliver}
-use Rattle.resolver_actor.specs.Opaque.{Machine, Row, Phase, Asked, Waiting, Judged, Done, Status, Item, quiet, retry, is_asked_by, hand_out, fetch_one, row_of, start_new, start_again, retain, end, Ended, all_called_off, called_off}
-use Rattle.resolver_actor.specs.OpaqueActor.{Kept, staged, phase_in, phase_of, has_cached, Agree, rows_of, row_of as code_row_of, handed_of, machine_with}
-use Rattle.resolver_actor.specs.OpaqueFound.{asked_key, all_kept_called_off, each_called_off, without_each, IsIdle, IsIdlePhase, IsAskedFor, IsAskedPhase}
-use Rattle.resolver_actor.specs.OpaqueStages.{IsAsked, Staged, resting}
+use Rattle.resolver_actor.specs.Opaque.{Machine, Row, Done, Status, Item, quiet, retry, hand_out, fetch_one, row_of, start_new, start_again, retain, end, Ended, all_called_off, called_off}
+use Rattle.resolver_stages.specs.OpaquePhases.{Phase, Asked, Waiting, Judged, is_asked_by}
+use Rattle.resolver_stages.specs.OpaqueStages.{Kept, IsAsked, Staged, resting}
+use Rattle.resolver_stages.specs.OpaquePhased.{staged, phase_in, phase_of, asked_key}
+use Rattle.resolver_actor.specs.OpaqueActor.{has_cached, Agree, rows_of, row_of as code_row_of, handed_of, machine_with}
+use Rattle.resolver_actor.specs.OpaqueFound.{all_kept_called_off, each_called_off, without_each, IsIdle, IsIdlePhase, IsAskedFor, IsAskedPhase}
 use Rattle.resolver_actor.specs.OpaqueSteps.{onto, Goes}
 use Rattle.resolver_machine.proofs.Mapped.{insert_entry-seen}
 use Rattle.resolver_actor.proofs.Joined.{same_found, rows-found, rows-none, keys-rows, rows-set_demand, rows-set_keys, rows-inserted, head_key, tail_keys}

@@ -1,9 +1,5 @@
-pub mod Led
-pub mod Hashed
-pub mod DueFirst
 pub mod Going
 pub mod Running
-pub mod Dues
 pub mod Joined
 pub mod Inserted
 pub mod Agrees

@@ -18,7 +18,8 @@ use Rattle.resolver_actor.specs.declared.opaque.actor.Effect.TheVariants.{Start,
 use Rattle.resolver_machine.specs.Verdicts.{ruling}
 use Rattle.resolver_machine.specs.Account.{Account, Handed, Watched, Change, Adds, Keeps, Judges, Empties, Leaves, account_after, account_of}
 use Rattle.resolver_machine.specs.Standing.{served_again, Standing, Held, Judgment, asks, asks_one, keeps, prunes, has_any, hands, closes, serves, ends, rules, ruled_out}
-use Rattle.resolver_actor.specs.Opaque.{Machine, Row, Phase, Waiting, Asked, Judged, Judging, Done, Item, Event, Fetch, Retain, Fetched, Verdict, RetriesDue, End, quiet, and_then, called_off, all_called_off, pruned, has_subscribers, retain, closed, placed, placed_if_due, waiting_by_due, end, start_again, hand_out, fetch_one, fetch, fetched_for, fetched, served, ruled, verdict_in, verdict_at, verdict_on, verdict, start_all, does, row_of, is_asked_by, with_row, with_new_row}
+use Rattle.resolver_actor.specs.Opaque.{Machine, Row, Done, Item, Event, Fetch, Retain, Fetched, Verdict, RetriesDue, End, quiet, and_then, called_off, all_called_off, pruned, has_subscribers, retain, closed, placed, placed_if_due, waiting_by_due, end, start_again, hand_out, fetch_one, fetch, fetched_for, fetched, served, ruled, verdict_in, verdict_at, verdict_on, verdict, start_all, does, row_of, with_row, with_new_row}
+use Rattle.resolver_stages.specs.OpaquePhases.{Phase, Waiting, Asked, Judged, Judging, is_asked_by}
 use Rattle.resolver_actor.specs.OpaqueStanding.{judgment_of, held_of, standing_of}
 use Rattle.resolver_actor.specs.OpaqueLaws.{change_of, handed_out}
 use Rattle.std.proofs.Common.{Result, Ok, Err}

@@ -3,12 +3,10 @@ pub use Rattle.resolver_root.specs.Demand
 pub use Rattle.resolver_root.specs.Subscribers
 pub mod Opaque
 pub mod OpaqueActor
-pub mod OpaqueStages
 pub mod OpaqueSteps
 pub mod OpaqueInputs
 pub mod OpaqueRows
 pub mod OpaqueStanding
 pub mod OpaqueLaws
 pub mod OpaqueListed
-pub mod OpaqueOverdue
 pub mod OpaqueFound

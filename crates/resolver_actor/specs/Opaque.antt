@@ -1,5 +1,5 @@
 -- The opaque machine: one map from key to row.
-use Rattle.std.specs.Prelude.{ℕ, ◌+◌, ◌^◌, Bool, false, not, ◌==◌, nat_lt, nat_le, List, [], ◌∷◌, ◌++◌, Option, None, Some, if◌then◌else◌, option_and_then, filter, map, find, min, length}
+use Rattle.std.specs.Prelude.{ℕ, ◌+◌, ◌^◌, Bool, false, not, ◌==◌, nat_lt, nat_le, List, [], ◌∷◌, ◌++◌, Option, None, Some, if◌then◌else◌, option_and_then, filter, map, find, length}
 use Rattle.std.specs.Map.{lookup, set_value, remove_entry}
 use Rattle.std.specs.Prelude.{Result, Ok, Err}
 use Rattle.std.specs.Ordering.{nat_cmp}
@@ -15,19 +15,7 @@ use Rattle.resolver_actor.specs.declared.opaque.actor.Effect.TheVariants.{Start,
 use Rattle.resolver_root.specs.Names.{Names, same_key}
 use Rattle.resolver_root.specs.Subscribers.{attached_all, without}
 use Rattle.resolver_machine.specs.Account.{Handed}
-
--- a response at its consumer, under the number of the delivery in progress. `accepted`: it was judged Complete before
-pub record Judging (V : Type 0) : Type 0 where
-  pub number : ℕ
-  pub response : ℕ
-  pub value : V
-  pub accepted : Bool
-
--- what is being done for a demanded key
-pub data Phase (V : Type 0) : Type 0 where
-  Waiting : (due : ℕ) → Phase V
-  Asked : (attempt : ℕ) → Phase V
-  Judged : Judging V → Phase V
+use Rattle.resolver_stages.specs.OpaquePhases.{Judging, Phase, Waiting, Asked, Judged, is_asked_by, least_due}
 
 pub record Row (V S : Type 0) : Type 0 where
   -- in their order, with their marks
@@ -71,11 +59,6 @@ pub data Event (K V S : Type 0) : Type 0 where
 pub record Done (K V S : Type 0) : Type 0 where
   pub machine : Machine K V S
   pub effects : List (Effect K V S)
-
--- whether a key is asked for by this attempt
-abbrev pub is_asked_by : {V : Type 0} → ℕ → Phase V → Bool
-is_asked_by attempt (Asked a) = attempt == a
-is_asked_by attempt phase = false
 
 module _ {K V S : Type 0} where
   -- nothing happens. (Where a number is needed and none is left, the answer is `None`.)
@@ -248,14 +231,6 @@ module _ {K V S : Type 0} (n : Names K S) where
 
   abbrev pub step : Machine K V S → (now : ℕ) → Event K V S → Result (List (Effect K V S)) Fault × Machine K V S
   step m now event = step_in m.status m now event
-
-abbrev pub least : ℕ → Option ℕ → Option ℕ
-least due None = Some due
-least due (Some other) = Some (min due other)
-
-abbrev pub least_due : {V : Type 0} → Phase V → Option ℕ → Option ℕ
-least_due (Waiting due) later = least due later
-least_due phase later = later
 
 -- the least due
 abbrev pub next_retry : {K V S : Type 0} → List (K × Row V S) → Option ℕ

@@ -7,32 +7,16 @@ use Rattle.std.specs.declared.cmp.Ordering.{Ordering}
 use Rattle.resolver_demand.specs.declared.delivery.entry.Open.{Open}
 use Rattle.resolver_demand.specs.declared.delivery.entry.Response.{Response}
 use Rattle.resolver_demand.specs.Entries.{Numbered}
-use Rattle.resolver_actor.specs.declared.opaque.rows.Stage.{Stage}
-use Rattle.resolver_actor.specs.declared.opaque.rows.Stage.TheVariants as stages
+use Rattle.resolver_stages.specs.declared.phase.Stage.{Stage}
 use Rattle.resolver_actor.specs.declared.opaque.actor.Status.{Status as CodeStatus}
 use Rattle.resolver_actor.specs.declared.opaque.actor.Status.TheVariants as statuses
 use Rattle.resolver_actor.specs.declared.opaque.actor.Actor.TheInside.{Inside}
 use Rattle.resolver_machine.specs.Account.{Handed}
-use Rattle.resolver_actor.specs.Opaque.{Machine, Row, Phase, Waiting, Asked, Judged, Status, Running, Ended, Failed}
-pub use Rattle.resolver_actor.specs.OpaqueStages.{Kept}
-
-abbrev pub staged : {V : Type 0} → Stage → Phase V
-staged (stages.Waiting due) = Waiting due
-staged (stages.Asked attempt) = Asked attempt
+use Rattle.resolver_actor.specs.Opaque.{Machine, Row, Status, Running, Ended, Failed}
+use Rattle.resolver_stages.specs.OpaqueStages.{Kept}
+use Rattle.resolver_stages.specs.OpaquePhased.{phase_of}
 
 module _ {V : Type 0} where
-  abbrev pub judged_in : Stage → (number : ℕ) → Option (Response V (Unit {0})) → Phase V
-  judged_in stage number None = staged stage
-  judged_in stage number (Some r) = Judged (record { number = number; response = r.name; value = r.value; accepted = r.accepted })
-
-  abbrev pub phase_in : Stage → Option ℕ → Option (Response V (Unit {0})) → Phase V
-  phase_in stage None response = staged stage
-  phase_in stage (Some number) response = judged_in stage number response
-
-  -- A key with a delivery in progress is judged. Another one is at its stage.
-  abbrev pub phase_of : Kept V → Phase V
-  phase_of e = phase_in e.state e.number e.response
-
   abbrev pub has_cached : Option ℕ → Option (Response V (Unit {0})) → Type 0
   has_cached None response = Unit {0}
   has_cached (Some number) None = ⊥

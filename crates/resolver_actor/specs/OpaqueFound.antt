@@ -1,5 +1,5 @@
 -- What is found of the rows by the entries alone.
-use Rattle.std.specs.Prelude.{Bool, false, nat_lt, ◌^◌, if◌then◌else◌, ◌≡◌, ℕ, List, [], ◌∷◌, ◌++◌, Option, None, Some, find, option_map}
+use Rattle.std.specs.Prelude.{Bool, false, nat_lt, ◌^◌, if◌then◌else◌, ◌≡◌, ℕ, List, [], ◌∷◌, ◌++◌, Option, None, Some}
 use Rattle.std.specs.Map.{lookup, remove_entry}
 use Rattle.std.specs.BTreeMap.{is_at}
 use Rattle.std.specs.declared.cmp.Ordering.{Ordering}
@@ -7,20 +7,12 @@ use Rattle.resolver_base.specs.declared.base.fault.Fault.{Fault}
 use Rattle.resolver_base.specs.declared.base.fault.Fault.TheVariants as faults
 use Rattle.resolver_root.specs.declared.root.Delivery.{Delivery}
 use Rattle.resolver_demand.specs.Entries.{Numbered, accepted, redelivered, response_changed}
-use Rattle.resolver_actor.specs.declared.opaque.rows.Stage.{Stage}
+use Rattle.resolver_stages.specs.declared.phase.Stage.{Stage}
 use Rattle.resolver_actor.specs.declared.opaque.actor.Effect.{Effect}
-use Rattle.resolver_actor.specs.Opaque.{Row, Phase, Asked, Judged, is_asked_by, called_off, least_due}
-use Rattle.resolver_actor.specs.OpaqueActor.{Kept, phase_of}
-
-module _ {K V : Type 0} where
-  -- the least due
-  abbrev pub first_due : List (K × Kept V) → Option ℕ
-  first_due [] = None
-  first_due (e ∷ es) = least_due (phase_of e.1) (first_due es)
-
-  -- the key that is asked for by this attempt
-  abbrev pub asked_key : (attempt : ℕ) → List (K × Kept V) → Option K
-  asked_key attempt es = option_map (λ e. e.0) (find (λ e. is_asked_by attempt (phase_of e.1)) es)
+use Rattle.resolver_actor.specs.Opaque.{Row, called_off}
+use Rattle.resolver_stages.specs.OpaquePhases.{Phase, Asked, Judged}
+use Rattle.resolver_stages.specs.OpaqueStages.{Kept}
+use Rattle.resolver_stages.specs.OpaquePhased.{phase_of}
 
 module _ {K V S : Type 0} where
   abbrev pub called_off_at : Option (Kept V) → List (Effect K V S)

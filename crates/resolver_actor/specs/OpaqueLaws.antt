@@ -10,7 +10,8 @@ use Rattle.resolver_root.specs.Demand.{all_pairs_of, IsSameDemand}
 use Rattle.resolver_actor.specs.declared.opaque.actor.Effect.{Effect}
 use Rattle.resolver_actor.specs.declared.opaque.actor.Effect.TheVariants.{Deliver}
 use Rattle.resolver_machine.specs.Account.{Change, Adds, Keeps, Judges, Empties, Leaves, Handed, pairs, nothing_asked, account_of}
-use Rattle.resolver_actor.specs.Opaque.{Machine, Row, Phase, Judged, Event, Fetch, Retain, Verdict, End, Running, Failed, opening, row_of, closed, step}
+use Rattle.resolver_actor.specs.Opaque.{Machine, Row, Event, Fetch, Retain, Verdict, End, Running, Failed, opening, row_of, closed, step}
+use Rattle.resolver_stages.specs.OpaquePhases.{Phase, Judged}
 use Rattle.resolver_actor.specs.OpaqueSteps.{Input, Runs}
 use Rattle.resolver_machine.specs.Lawful.{Each, IsLawful}
 

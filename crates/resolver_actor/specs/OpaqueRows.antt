@@ -11,7 +11,8 @@ use Rattle.resolver_root.specs.Demand.{Pair}
 use Rattle.resolver_actor.specs.declared.opaque.actor.Effect.{Effect}
 use Rattle.resolver_actor.specs.declared.opaque.actor.Effect.TheVariants.{Start, Abort, Deliver, Cancel}
 use Rattle.resolver_machine.specs.Account.{pairs, nothing_asked, account_of}
-use Rattle.resolver_actor.specs.Opaque.{Machine, Row, Event, Fetch, Retain, Fetched, Verdict, RetriesDue, End, Asked, Waiting, opening, step, next_retry}
+use Rattle.resolver_actor.specs.Opaque.{Machine, Row, Event, Fetch, Retain, Fetched, Verdict, RetriesDue, End, opening, step, next_retry}
+use Rattle.resolver_stages.specs.OpaquePhases.{Asked, Waiting}
 use Rattle.resolver_actor.specs.OpaqueSteps.{Input}
 use Rattle.resolver_actor.specs.OpaqueLaws.{taken}
 

@@ -1,7 +1,8 @@
 -- What the opaque machine stands at.
 use Rattle.std.specs.Prelude.{Option, None, Some, map}
 use Rattle.resolver_machine.specs.Standing.{Judgment, Held, Standing}
-use Rattle.resolver_actor.specs.Opaque.{Machine, Row, Phase, Waiting, Asked, Judged}
+use Rattle.resolver_actor.specs.Opaque.{Machine, Row}
+use Rattle.resolver_stages.specs.OpaquePhases.{Phase, Waiting, Asked, Judged}
 
 abbrev pub judgment_of : {V : Type 0} → Phase V → Option Judgment
 judgment_of (Waiting due) = None

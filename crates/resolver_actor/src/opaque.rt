@@ -3,9 +3,8 @@
 //! `Actor` is the machine: it takes inputs with their moments and answers with effects.
 
 mod actor;
-mod by_attempt;
 mod rows;
-mod stages;
 
 pub use actor::{Actor, Effect, Event, Input};
-pub use rows::{Phase, Row};
+pub use resolver_stages::Phase;
+pub use rows::Row;

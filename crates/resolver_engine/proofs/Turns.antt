@@ -15,7 +15,7 @@ use Rattle.resolver_base.specs.declared.base.check.Check.TheVariants.{Clear, Unt
 use Rattle.resolver_base.specs.declared.base.fault.Fault.{Fault}
 use Rattle.resolver_base.specs.declared.base.fault.Fault.TheVariants.{OutOfRange}
 use Rattle.resolver_request.specs.declared.requests.request.Request.{Request}
-use Rattle.resolver_request.specs.Choice.{means_weighted}
+use Rattle.resolver_request.specs.Modes.{means_weighted}
 use Rattle.resolver_request.specs.Ids.{is_held}
 use Rattle.resolver_request.specs.Requests.{by_id}
 use Rattle.resolver_fetch.specs.declared.fetcher.place.Place.{Place}

@@ -6,10 +6,10 @@ use Rattle.std.proofs.lemmas.Bool.{lt-ltb, le-ltb, ltb-true}
 use Rattle.std.proofs.lemmas.List.{length-map}
 use Rattle.resolver_request.specs.declared.score.Averages.{Averages}
 use Rattle.resolver_request.specs.Scores.{weight_of}
-use Rattle.resolver_request.specs.Choice.{chosen}
+use Rattle.resolver_trees.specs.Choice.{chosen}
 use Rattle.resolver_fetch.specs.Scan.{weights, by_place}
 use Rattle.resolver_fetch.specs.FetcherLaws.{ChoosesBelow}
-use Rattle.resolver_request.proofs.Choices.{chosen-within}
+use Rattle.resolver_trees.proofs.Choices.{chosen-within}
 
 -- a look-up by place finds something exactly below the length
 some-below : {X : Type 0} (xs : List X) (n : ℕ) → is_some (slice_get xs n) ≡ nat_lt n (length xs)

@@ -10,10 +10,12 @@ use Rattle.std.proofs.lemmas.List.{length-map}
 use Rattle.std.proofs.lemmas.Map.Keys.{IsDistinct-head, IsDistinct-tail}
 use Rattle.std.proofs.lemmas.Map.Made.{IsDistinct-keys_filter}
 use Rattle.resolver_request.specs.declared.score.Averages.{Averages}
-use Rattle.resolver_request.specs.Choice.{chosen, count_below, means_weighted}
+use Rattle.resolver_trees.specs.Choice.{chosen, count_below}
+use Rattle.resolver_request.specs.Modes.{means_weighted}
 use Rattle.resolver_request.specs.Scores.{weight_of}
-use Rattle.resolver_request.proofs.ChoiceCounts.{chooses_by_weight, four_mean_weighted}
-use Rattle.resolver_request.proofs.Counts.{count_from-same, count_from-one}
+use Rattle.resolver_trees.proofs.ChoiceCounts.{chooses_by_weight}
+use Rattle.resolver_request.proofs.Modes.{four_mean_weighted}
+use Rattle.resolver_trees.proofs.Counts.{count_from-same, count_from-one}
 use Rattle.resolver_fetch.specs.declared.fetcher.scan.Answer.TheVariants.{Drawn}
 use Rattle.resolver_fetch.specs.declared.fetcher.trail.Expected.TheVariants.{Mode, ByWeight, ByPlace}
 use Rattle.resolver_fetch.specs.declared.fetcher.trail.Try.{Try}

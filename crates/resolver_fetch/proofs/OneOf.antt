@@ -2,7 +2,7 @@
 use Rattle.std.proofs.Common.{◌≡◌, refl, ap, ◌∙◌, sym, inl, inr, ℕ, zero, suc, Bool, true, false, cond, List, [], ◌∷◌, Some, None, filter, if◌then◌else◌}
 use Rattle.std.specs.Prelude.{find, nat_lt, sum}
 use Rattle.resolver_request.specs.declared.score.Averages.{Averages}
-use Rattle.resolver_request.specs.Choice as choice
+use Rattle.resolver_trees.specs.Choice as choice
 use Rattle.resolver_fetch.specs.FetcherLaws.{IsAmong}
 use Rattle.resolver_fetch.specs.Scan.{by_place, by_weight, weights}
 

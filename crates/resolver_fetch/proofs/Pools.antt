@@ -19,11 +19,11 @@ use Rattle.std.proofs.lemmas.List.Elements.{All-nil, All-push}
 use Rattle.std.proofs.lemmas.List.Sums.{sum_by-cons, sum_by-set}
 use Rattle.std.proofs.lemmas.Map.Keys.{sorted_head, sorted_tail}
 use Rattle.std.proofs.lemmas.Option.{slice_get_past}
-use Rattle.resolver_request.specs.Choice.{chosen}
+use Rattle.resolver_trees.specs.Choice.{chosen}
 use Rattle.resolver_request.specs.Left.{restored}
-use Rattle.resolver_request.specs.SumTrees.{mark}
-use Rattle.resolver_request.proofs.Choices.{chosen-first, chosen-later}
-use Rattle.resolver_request.proofs.Positive.{marks-set, marks-stay}
+use Rattle.resolver_trees.specs.SumTrees.{mark}
+use Rattle.resolver_trees.proofs.Choices.{chosen-first, chosen-later}
+use Rattle.resolver_trees.proofs.Marks.{marks-set, marks-stay}
 use Rattle.resolver_request.proofs.Restored.{restored-last, restored-length}
 use Rattle.resolver_fetch.specs.Pools.{IsNamed, IsPool, is_named, weighing}
 use Rattle.resolver_fetch.specs.Trying.{apart_from, at_place, at_weight, weights_of}

@@ -21,7 +21,8 @@ use Rattle.resolver_fetch.specs.declared.fetcher.trail.Expected.TheVariants.{Mod
 use Rattle.resolver_fetch.specs.declared.fetcher.trail.Reason.{Reason}
 use Rattle.resolver_fetch.specs.declared.fetcher.trail.Reason.TheVariants.{Limited, Refused}
 use Rattle.resolver_fetch.specs.declared.fetcher.trail.Try.{Try}
-use Rattle.resolver_request.specs.Choice.{chosen, means_weighted}
+use Rattle.resolver_trees.specs.Choice.{chosen}
+use Rattle.resolver_request.specs.Modes.{means_weighted}
 use Rattle.resolver_fetch.specs.Fetcher.{Fetcher, answered as answered_with, asked_by, question, scan_answer, scan_begin, scan_taken, snapshot, turned}
 use Rattle.resolver_fetch.specs.Orders.{Orders, same_key, same_peer}
 use Rattle.resolver_fetch.specs.Progress.{ExpectsLeft, Fits, IsAnswerable, IsSound, IsSoundWith, IsTrying, Keeps, answers_left, answers_with, is_left, pairs_left, stage}

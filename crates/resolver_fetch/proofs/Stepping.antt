@@ -16,7 +16,8 @@ use Rattle.resolver_fetch.specs.declared.fetcher.trail.Reason.{Reason}
 use Rattle.resolver_fetch.specs.declared.fetcher.trail.Try.{Try}
 use Rattle.resolver_fetch.specs.declared.fetcher.trail.Expected.{Expected}
 use Rattle.resolver_fetch.specs.declared.fetcher.trail.Expected.TheVariants.{Mode, ByWeight, ByPlace, Checking, FirstId, Sending}
-use Rattle.resolver_request.specs.Choice.{chosen, means_weighted}
+use Rattle.resolver_trees.specs.Choice.{chosen}
+use Rattle.resolver_request.specs.Modes.{means_weighted}
 use Rattle.resolver_request.specs.declared.requests.request.Request.{Request}
 use Rattle.resolver_fetch.specs.declared.fetcher.cursor.Cursor.{Cursor}
 use Rattle.resolver_fetch.specs.Cursor.{ExpectsNewId, TakesNewId, scan_of}

@@ -11,7 +11,7 @@ use Rattle.resolver_fetch.specs.declared.fetcher.trail.Expected.TheVariants.{Mod
 use Rattle.resolver_fetch.specs.declared.fetcher.trail.Reason.{Reason}
 use Rattle.resolver_fetch.specs.declared.fetcher.trail.Reason.TheVariants.{Limited, Refused}
 use Rattle.resolver_fetch.specs.declared.fetcher.trail.Try.{Try}
-use Rattle.resolver_request.specs.Choice.{count_below}
+use Rattle.resolver_trees.specs.Choice.{count_below}
 use Rattle.resolver_request.specs.Scores.{weight_of}
 use Rattle.resolver_request.specs.Times.{never}
 use Rattle.resolver_fetch.specs.Orders.{Orders, same_peer}

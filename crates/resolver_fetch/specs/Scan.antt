@@ -17,7 +17,8 @@ use Rattle.resolver_fetch.specs.declared.fetcher.trail.Reason.TheVariants.{Limit
 use Rattle.resolver_fetch.specs.declared.fetcher.trail.Try.{Try}
 use Rattle.resolver_fetch.specs.Orders.{Orders, same_key, same_peer}
 use Rattle.resolver_request.specs.Scores.{weight_of}
-use Rattle.resolver_request.specs.Choice.{chosen, means_weighted}
+use Rattle.resolver_trees.specs.Choice.{chosen}
+use Rattle.resolver_request.specs.Modes.{means_weighted}
 use Rattle.resolver_request.specs.Times.{never}
 use Rattle.resolver_fetch.specs.Waiting.{Waiting}
 use Rattle.resolver_fetch.specs.Snapshot.{Snapshot, eligible}

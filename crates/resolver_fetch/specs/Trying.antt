@@ -6,7 +6,7 @@ use Rattle.std.specs.declared.cmp.Ordering.{Ordering}
 use Rattle.resolver_fetch.specs.declared.fetcher.place.Place.{Place}
 use Rattle.resolver_fetch.specs.declared.fetcher.trail.Try.{Try}
 use Rattle.resolver_request.specs.declared.score.Averages.{Averages}
-use Rattle.resolver_request.specs.Choice.{chosen}
+use Rattle.resolver_trees.specs.Choice.{chosen}
 use Rattle.resolver_fetch.specs.Orders.{Orders}
 use Rattle.resolver_request.specs.Scores.{weight_of}
 use Rattle.resolver_fetch.specs.Waiting.{Waiting}

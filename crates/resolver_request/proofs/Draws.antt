@@ -3,13 +3,13 @@ use Rattle.std.proofs.Common.{◌≡◌, ◌≢◌, sym, ◌∙◌, ap, ℕ, ◌
 use Rattle.std.specs.Prelude.{sum}
 use Rattle.std.proofs.lemmas.Bool.{eq-eqb, ne_eqb, cases_eq}
 use Rattle.std.proofs.lemmas.List.{get_or-map, get_or_default, length-map}
-use Rattle.resolver_request.specs.Choice.{chosen}
+use Rattle.resolver_trees.specs.Choice.{chosen}
 use Rattle.resolver_request.specs.Left.{AreAscending}
 use Rattle.resolver_request.specs.Selections.{Remaining, weights_left, by_weight, by_count, DrawsByWeight, DrawsEachOnce}
 use Rattle.resolver_request.proofs.Ascending.{same-index}
-use Rattle.resolver_request.proofs.Choices.{chosen-within}
-use Rattle.resolver_request.proofs.ChoiceCounts.{chooses_by_weight}
-use Rattle.resolver_request.proofs.Counts.{count_from-same, count_from-one}
+use Rattle.resolver_trees.proofs.Choices.{chosen-within}
+use Rattle.resolver_trees.proofs.ChoiceCounts.{chooses_by_weight}
+use Rattle.resolver_trees.proofs.Counts.{count_from-same, count_from-one}
 
 -- The place at one index is a place exactly where the index is that of the place.
 place-index : (ws left : List ℕ) (i k place : ℕ) → AreAscending ws 0 left → i < length left → k < length left

@@ -6,12 +6,7 @@ pub mod Varints
 pub mod RoundTrip
 pub mod IdleScores
 pub mod Fades
-pub mod Counts
-pub mod Choices
-pub mod SumTrees
-pub mod SumSteps
-pub mod Powers
-pub mod ChoiceCounts
+pub mod Modes
 pub mod Ascending
 pub mod Draws
 pub mod Takes
@@ -22,4 +17,3 @@ pub mod Timed
 pub mod NextIds
 pub mod NewIds
 pub mod Names
-pub mod Leaves

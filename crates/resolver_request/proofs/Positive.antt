@@ -1,13 +1,14 @@
 -- The places of positive weight, as the trees of sums and of counts find them.
-use Rattle.std.proofs.Common.{◌≡◌, refl, sym, ◌∙◌, ap, ℕ, suc, zero, ◌+◌, ◌-◌, ◌^◌, ◌<◌, ◌≤◌, Bool, true, false, not, ◌==◌, List, [], ◌∷◌, length, slice_index, slice_set, map, inl, inr, arith}
+use Rattle.std.proofs.Common.{◌≡◌, refl, sym, ◌∙◌, ap, ℕ, suc, zero, ◌+◌, ◌-◌, ◌<◌, ◌≤◌, Bool, true, false, not, ◌==◌, List, [], ◌∷◌, length, slice_index, slice_set, map, inl, inr, arith}
 use Rattle.std.specs.Prelude.{sum, filter, nat_lt}
 use Rattle.std.proofs.lemmas.Bool.{lt-ltb, le-ltb, eq-eqb, ne_eqb, cases_lt}
 use Rattle.std.proofs.lemmas.List.Sums.{sum_by-cons}
-use Rattle.resolver_request.specs.Choice.{chosen}
+use Rattle.resolver_trees.specs.Choice.{chosen}
 use Rattle.resolver_request.specs.Left.{AreAscending}
 use Rattle.resolver_request.specs.Selections.{positive_from}
-use Rattle.resolver_request.specs.SumTrees.{AreWeights, mark}
-use Rattle.resolver_request.proofs.Choices.{chosen-first, chosen-later}
+use Rattle.resolver_trees.specs.SumTrees.{mark}
+use Rattle.resolver_trees.proofs.Choices.{chosen-first, chosen-later}
+use Rattle.resolver_trees.proofs.Marks.{no-mark, some-mark}
 
 sum-cons : (w : ℕ) (ws : List ℕ) → sum (w ∷ ws) ≡ w + sum ws
 sum-cons w ws = sum_by-cons (λ x. x) w ws
@@ -19,12 +20,6 @@ left-out : (p : ℕ → Bool) (x : ℕ) (xs : List ℕ) → p x ≡ false → fi
 left-out p x xs is = rw is refl
 
 -- a positive weight before others, and one that is zero
-some-mark : (w : ℕ) → 0 < w → mark w ≡ 1
-some-mark w some = rw (lt-ltb 0 w some) refl
-
-no-mark : (w : ℕ) → w ≤ 0 → mark w ≡ 0
-no-mark w none = rw (le-ltb 0 w none) refl
-
 some-place : (first w : ℕ) (ws : List ℕ) → 0 < w → positive_from first (w ∷ ws) ≡ first ∷ positive_from (first + 1) ws
 some-place first w ws some = rw (lt-ltb 0 w some) refl
 
@@ -36,18 +31,6 @@ some-weight w ws some = kept (nat_lt 0) w ws (lt-ltb 0 w some)
 
 no-weight : (w : ℕ) (ws : List ℕ) → w ≤ 0 → filter (nat_lt 0) (w ∷ ws) ≡ filter (nat_lt 0) ws
 no-weight w ws none = left-out (nat_lt 0) w ws (le-ltb 0 w none)
-
-mark-small : (w : ℕ) → mark w < 2 ^ 64
-mark-small w =
-    elim (cases_lt 0 w) [
-      | inl some ↦ omega (arith, some-mark w some)
-      | inr none ↦ omega (arith, no-mark w none)
-    ]
-
-pub marks-small : (ws : List ℕ) → AreWeights (map mark ws)
-marks-small [] place = omega arith
-marks-small (w ∷ ws) zero = mark-small w
-marks-small (w ∷ ws) (suc place) = marks-small ws place
 
 -- the marks add up to the count of the places
 pub marks-count : (ws : List ℕ) (first : ℕ) → sum (map mark ws) ≡ length (positive_from first ws)
@@ -71,18 +54,6 @@ positive-few (w ∷ ws) first =
       | inl some ↦ omega (arith, ap length (some-place first w ws some), positive-few ws (first + 1))
       | inr none ↦ omega (arith, ap length (no-place first w ws none), positive-few ws (first + 1))
     ]
-
--- the mark of a place changes with its weight
-pub marks-set : (ws : List ℕ) (place weight : ℕ) → map mark (slice_set ws place weight) ≡ slice_set (map mark ws) place (mark weight)
-marks-set [] place weight = refl
-marks-set (w ∷ ws) zero weight = refl
-marks-set (w ∷ ws) (suc place) weight = ap (λ (ms : List ℕ). mark w ∷ ms) (marks-set ws place weight)
-
-pub marks-stay : (ws : List ℕ) (place weight : ℕ) → place < length ws → mark (slice_index ws place) ≡ mark weight
-    → map mark (slice_set ws place weight) ≡ map mark ws
-marks-stay [] place weight within same = refl
-marks-stay (w ∷ ws) zero weight within same = ap (λ (m : ℕ). m ∷ map mark ws) (sym same)
-marks-stay (w ∷ ws) (suc place) weight within same = ap (λ (ms : List ℕ). mark w ∷ ms) (marks-stay ws place weight (omega (arith, within)) same)
 
 -- a number chooses among the marks as it does among the places
 marks-first : (ws : List ℕ) (first w n : ℕ) → 0 < w → n < 1 + sum (map mark ws)

@@ -4,10 +4,10 @@ use Rattle.std.specs.Prelude.{All, Contains, filter, nat_lt, remove, sum}
 use Rattle.std.proofs.lemmas.List.{get_or-set_other, get_or-set_same, get_or_default, length-map, length-set, set-set, set-get_or, length-append}
 use Rattle.std.proofs.lemmas.List.Elements.{All-cons, All-head, All-nil, All-push, All-tail}
 use Rattle.std.proofs.lemmas.Bool.{cases_eq}
-use Rattle.resolver_request.specs.Choice.{chosen}
+use Rattle.resolver_trees.specs.Choice.{chosen}
 use Rattle.resolver_request.specs.Left.{AreAscending, IsTaken, restored}
 use Rattle.resolver_request.specs.Selections.{Remaining, Takes, positive_places, weights_left, by_weight}
-use Rattle.resolver_request.proofs.Choices.{chosen-within}
+use Rattle.resolver_trees.proofs.Choices.{chosen-within}
 use Rattle.resolver_request.proofs.Ascending.{positive_places-ascending, remove-all-but}
 use Rattle.resolver_request.proofs.Positive.{ascending-other, positive-chosen, positive-sum, positive-weights, positive-without}
 use Rattle.resolver_request.proofs.Takes.{takes}

@@ -5,10 +5,7 @@ pub mod Times
 pub mod Scores
 pub mod Bounded
 pub mod ScoreLaws
-pub mod Choice
-pub mod ChoiceLaws
-pub mod Visits
-pub mod SumTrees
+pub mod Modes
 pub mod Left
 pub mod Selections
 pub mod Requests

@@ -1,7 +1,7 @@
 -- Draws without replacement.
 use Rattle.std.specs.Prelude.{◌≡◌, ℕ, ◌+◌, ◌<◌, not, ◌==◌, nat_lt, List, map, filter, length, sum, slice_index, Contains}
 use Rattle.std.specs.List.{enumerate_from}
-use Rattle.resolver_request.specs.Choice.{chosen, count_below}
+use Rattle.resolver_trees.specs.Choice.{chosen, count_below}
 
 -- some weights, and those of their places that are left to draw
 pub record Remaining : Type 0 where

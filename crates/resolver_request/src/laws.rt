@@ -1,7 +1,8 @@
 //! Laws over lists, which no single call states. They are no part of the surface.
 
 ghost use Rattle.std.specs.Prelude.{◌≡◌, map};
-ghost use Rattle.resolver_request.specs.ChoiceLaws.{ChoosesOne, ChoosesByWeight, FourMeanWeighted};
+ghost use Rattle.resolver_trees.specs.ChoiceLaws.{ChoosesOne, ChoosesByWeight};
+ghost use Rattle.resolver_request.specs.Modes.{FourMeanWeighted};
 ghost use Rattle.resolver_request.specs.Scores.{averages_of, observation};
 ghost use Rattle.resolver_request.specs.ScoreLaws.{FadesIn96};
 

@@ -5,16 +5,13 @@
 //! `Visits` counts what a draw costs.
 
 ghost use Rattle.std.specs.Prelude.{◌≡◌};
-ghost use Rattle.resolver_request.specs.Choice.{means_weighted};
+ghost use Rattle.resolver_request.specs.Modes.{means_weighted};
 
 pub mod selection;
-mod stored;
-mod tree;
-pub mod visits;
 pub mod weighted_index;
 
+pub use resolver_trees::{Visits, visits};
 pub use selection::Selection;
-pub use visits::Visits;
 pub use weighted_index::WeightedIndex;
 
 /// Whether a number below 4 and a key's retries means a weighted draw. The others mean a uniform

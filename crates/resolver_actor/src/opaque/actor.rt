@@ -6,17 +6,17 @@ ghost use Rattle.resolver_demand.specs.Entries.{is_accepted, number_of, response
 ghost use Rattle.resolver_actor.specs.declared.opaque.actor.Effect.TheVariants.{Deliver};
 ghost use Rattle.resolver_actor.specs.OpaqueActor.{AreCached};
 ghost use Rattle.resolver_actor.specs.OpaqueFound.{IsRefusal, flagged, handed_again};
-ghost use Rattle.resolver_actor.specs.OpaqueStages.{IsAsked};
+ghost use Rattle.resolver_stages.specs.OpaqueStages.{IsAsked};
 ghost use Rattle.resolver_machine.specs.Steps.{stops};
 ghost use Rattle.resolver_machine.specs.Verdicts.{ruling};
 
 use super::rows::{Row, call_off_all, call_off_each, forget_each, listed};
-use super::stages::Stages;
 use resolver_base::base::{Fault, Numbers};
 use resolver_demand::subscribers::Tracker;
 use resolver_ingress::ingress::FetchKey;
 use resolver_machine::ruling::{Ruling, rule_on};
 use resolver_root::{Delivery, NonEmptyVec, Outcome, Predicate};
+use resolver_stages::Stages;
 use std::alloc::{AllocError, Global};
 use std::marker::{Model, PhantomData};
 

@@ -5,28 +5,18 @@ ghost use Rattle.std.specs.List.Sorted.{IsStrictlySortedBy};
 ghost use Rattle.std.specs.Map.{keys_of};
 ghost use Rattle.resolver_base.specs.declared.base.fault.Fault.TheVariants.{OutOfMemory};
 ghost use Rattle.resolver_actor.specs.Opaque.{called_off};
-ghost use Rattle.resolver_actor.specs.OpaqueActor.{phase_of, row_of, rows_of};
+ghost use Rattle.resolver_actor.specs.OpaqueActor.{row_of, rows_of};
 ghost use Rattle.resolver_actor.specs.OpaqueFound.{all_kept_called_off, each_called_off, without_each};
-ghost use Rattle.resolver_actor.specs.OpaqueListed.{listed, listed_phase};
+ghost use Rattle.resolver_actor.specs.OpaqueListed.{listed};
+ghost use Rattle.resolver_stages.specs.OpaquePhased.{phase_of};
 
 use super::actor::Effect;
-use super::stages::Stages;
 use resolver_base::base::Fault;
-use resolver_demand::delivery::{Entries, Entry};
+use resolver_demand::delivery::Entry;
 use resolver_demand::subscribers::{Subscribers, Tracker};
 use resolver_root::NonEmptyVec;
+use resolver_stages::{Keys, Phase, Stage, Stages, listed_phase};
 use std::alloc::{AllocError, Global};
-
-/// What is being done for a demanded key.
-#[derive(Clone, Copy, Debug, PartialEq, Eq)]
-pub enum Phase {
-    /// It is asked for again once this moment has come, in nanoseconds.
-    Waiting { due: u128 },
-    /// The source was asked for it, under this attempt.
-    Asked { attempt: u64 },
-    /// A value was handed out under this number, and has no verdict yet.
-    Judged { number: u64 },
-}
 
 /// A demanded key.
 #[derive(Debug, Drop)]
@@ -38,16 +28,6 @@ pub struct Row<K, S> {
     /// What is being done for it.
     pub phase: Phase,
 }
-
-/// What was done last for a key, before any value was handed out for it.
-#[derive(Clone, Copy, Debug)]
-pub enum Stage {
-    Waiting { due: u128 },
-    Asked { attempt: u64 },
-}
-
-/// What is kept of the keys beside their subscribers.
-pub type Keys<K, S, V> = Entries<K, S, V, (), Stage>;
 
 /// The rows as the actor's callers see them.
 pub fn listed<K: Ord + Clone + Drop, V: Drop, S: Ord + Clone + Drop>(
@@ -98,21 +78,6 @@ fn row_at<K: Clone + Drop, V, S: Ord + Clone + Drop>(
         subscribers,
         phase: listed_phase(entry),
     })
-}
-
-/// What is being done for a key.
-pub fn listed_phase<V>(entry: &Entry<V, (), Stage>) -> Phase
-    ensures { result ≡ listed_phase (phase_of entry.now) }
-{
-    if let Some(number) = entry.number {
-        if entry.response.is_some() {
-            return Phase::Judged { number };
-        }
-    }
-    match entry.state {
-        Stage::Waiting { due } => Phase::Waiting { due },
-        Stage::Asked { attempt } => Phase::Asked { attempt },
-    }
 }
 
 /// Calls off what is being done for each key.

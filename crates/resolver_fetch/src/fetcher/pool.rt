@@ -7,7 +7,7 @@ ghost use Rattle.std.specs.Map.{keys_of, set_value};
 ghost use Rattle.std.specs.Option.{option_copied};
 ghost use Rattle.resolver_base.specs.declared.base.fault.Fault.TheVariants.{OutOfMemory};
 ghost use Rattle.resolver_request.specs.Left.{restored};
-ghost use Rattle.resolver_request.specs.SumTrees.{mark};
+ghost use Rattle.resolver_trees.specs.SumTrees.{mark};
 ghost use Rattle.resolver_fetch.specs.Pools.{IsFound, weighing, whole};
 ghost use Rattle.resolver_fetch.specs.Trying.{apart_from, at_place, at_weight, weights_of};
 

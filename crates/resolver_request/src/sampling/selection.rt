@@ -2,7 +2,7 @@
 
 ghost use Rattle.std.specs.Prelude.{◌≡◌, ◌<◌, ◌↔◌, length, sum, Contains, IsTrue, IfOk, IfErr};
 ghost use Rattle.resolver_request.specs.Selections.{Remaining, begun, weights_left, by_weight, by_count, Takes, DrawsByWeight, DrawsEachOnce};
-ghost use Rattle.resolver_request.specs.Visits.{VisitsAtMost};
+ghost use Rattle.resolver_trees.specs.Visits.{VisitsAtMost};
 
 use crate::sampling::{Visits, WeightedIndex};
 use std::alloc::{AllocFailed, Global};

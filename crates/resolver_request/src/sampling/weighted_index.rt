@@ -2,14 +2,14 @@
 
 ghost use Rattle.std.specs.Prelude.{◌≡◌, ◌<◌, length, sum, map, slice_index, slice_set, All, IfOk, IfErr};
 ghost use Rattle.resolver_base.specs.declared.base.fault.Fault.TheVariants.{OutOfMemory};
-ghost use Rattle.resolver_request.specs.Choice.{IsIn, changed, chosen};
+ghost use Rattle.resolver_trees.specs.Choice.{IsIn, changed, chosen};
 ghost use Rattle.resolver_request.specs.Selections.{begun, positive_places, weights_left};
-ghost use Rattle.resolver_request.specs.SumTrees.{mark};
-ghost use Rattle.resolver_request.specs.Visits.{VisitsAtMost};
+ghost use Rattle.resolver_trees.specs.SumTrees.{mark};
+ghost use Rattle.resolver_trees.specs.Visits.{VisitsAtMost};
 
-use crate::sampling::tree::{Tree, mark};
 use crate::sampling::{Selection, Visits};
 use resolver_base::base::Fault;
+use resolver_trees::{Tree, mark};
 use std::alloc::{AllocFailed, Global};
 use std::marker::Model;
 
@@ -26,7 +26,7 @@ pub struct WeightedIndex {
 
 impl Model for WeightedIndex {
     ghost use Rattle.std.specs.Prelude.{◌≡◌, ℕ, List, map};
-    ghost use Rattle.resolver_request.specs.SumTrees.{mark};
+    ghost use Rattle.resolver_trees.specs.SumTrees.{mark};
 
     ghost Value = { List ℕ };
 

@@ -1,4 +1,4 @@
-use Rattle.resolver_request.proofs.ChoiceCounts.{chooses_by_weight}
+use Rattle.resolver_trees.proofs.ChoiceCounts.{chooses_by_weight}
 use Rattle.resolver_request.proofs.laws.chooses_by_weight.Goals as goal
 
 pub returns : goal.returns

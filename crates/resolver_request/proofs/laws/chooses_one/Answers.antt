@@ -1,4 +1,4 @@
-use Rattle.resolver_request.proofs.Choices.{chooses_one}
+use Rattle.resolver_trees.proofs.Choices.{chooses_one}
 use Rattle.resolver_request.proofs.laws.chooses_one.Goals as goal
 
 pub returns : goal.returns

@@ -1,4 +1,4 @@
-use Rattle.resolver_request.proofs.ChoiceCounts.{four_mean_weighted}
+use Rattle.resolver_request.proofs.Modes.{four_mean_weighted}
 use Rattle.resolver_request.proofs.laws.four_mean_weighted.Goals as goal
 
 pub returns : goal.returns

@@ -1,7 +1,7 @@
 use Rattle.std.proofs.Common.{◌∙◌, [], ◌∷◌, ap, sym, map, take, get_or}
 use Rattle.std.proofs.lemmas.Grind.{take_at_read}
 use Rattle.std.proofs.lemmas.List.{map-append, take_all}
-use Rattle.resolver_request.specs.SumTrees.{mark}
+use Rattle.resolver_trees.specs.SumTrees.{mark}
 use Rattle.resolver_fetch.proofs.fetcher.pool.marks_of.Goals as goal
 
 pub loop-weight-init : goal.loop-weight-init

@@ -2,8 +2,8 @@ use Rattle.std.proofs.Common.{◌≡◌, ◌<◌, ◌∙◌, ◌++◌, [], ◌�
 use Rattle.std.specs.Prelude.{All}
 use Rattle.std.proofs.lemmas.List.{length-map, length-set}
 use Rattle.resolver_request.specs.Left.{restored}
-use Rattle.resolver_request.specs.SumTrees.{mark}
-use Rattle.resolver_request.proofs.Positive.{marks-set}
+use Rattle.resolver_trees.specs.SumTrees.{mark}
+use Rattle.resolver_trees.proofs.Marks.{marks-set}
 use Rattle.resolver_request.proofs.Restored.{all-front, all-last, restored-last}
 use Rattle.resolver_fetch.proofs.fetcher.pool.restore.Goals as goal
 

@@ -2,7 +2,7 @@ use Rattle.std.proofs.Common.{◌≡◌, ◌<◌, length, map}
 use Rattle.std.specs.Prelude.{All}
 use Rattle.std.specs.Vec.{vec_len}
 use Rattle.resolver_request.specs.Left.{restored}
-use Rattle.resolver_request.specs.SumTrees.{mark}
+use Rattle.resolver_trees.specs.SumTrees.{mark}
 use Rattle.resolver_fetch.proofs.fetcher.pool.restore.Given as goal
 
 abbrev pub decreases-loop-place : goal.decreases-loop-place

@@ -1,7 +1,7 @@
 use Rattle.std.proofs.Common.{◌≡◌, ◌∙◌, ap, sym, map, slice_get, ℕ, List, arith}
 use Rattle.std.specs.Prelude.{sum}
-use Rattle.resolver_request.specs.Choice.{chosen}
-use Rattle.resolver_request.specs.SumTrees.{mark}
+use Rattle.resolver_trees.specs.Choice.{chosen}
+use Rattle.resolver_trees.specs.SumTrees.{mark}
 use Rattle.resolver_fetch.proofs.Pools.{chosen-by-place, got, none-by-place}
 use Rattle.resolver_fetch.proofs.fetcher.pool.Pool.by_place.Goals as goal
 

@@ -1,6 +1,6 @@
 use Rattle.std.proofs.Common.{◌≡◌, ◌+◌, ◌∙◌, ◌==◌, refl, ap, sym, length, map, slice_index, ℕ, List, false, rules}
 use Rattle.std.specs.Prelude.{sum}
-use Rattle.resolver_request.specs.SumTrees.{mark}
+use Rattle.resolver_trees.specs.SumTrees.{mark}
 use Rattle.resolver_fetch.specs.Pools.{IsNamed, is_named, weighing}
 use Rattle.resolver_fetch.specs.Trying.{apart_from}
 use Rattle.resolver_fetch.proofs.Pools.{all-others, count-others, last-mark, marks-within, same-count}

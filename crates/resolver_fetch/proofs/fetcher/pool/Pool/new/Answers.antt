@@ -1,7 +1,7 @@
 use Rattle.std.proofs.Common.{◌<◌, ◌∙◌, ap, sym, map, length, ℕ, refl}
 use Rattle.std.proofs.lemmas.List.{length-map}
 use Rattle.std.proofs.lemmas.List.Elements.{All-nil}
-use Rattle.resolver_request.specs.SumTrees.{mark}
+use Rattle.resolver_trees.specs.SumTrees.{mark}
 use Rattle.resolver_fetch.specs.Trying.{weights_of}
 use Rattle.resolver_fetch.proofs.fetcher.pool.Pool.new.Goals as goal
 

@@ -1,6 +1,6 @@
 use Rattle.std.proofs.Common.{◌≡◌, ◌<◌, ◌≤◌, [], ◌∙◌, ap, sym, map, slice_index, List, ℕ, false}
 use Rattle.resolver_request.specs.Left.{restored}
-use Rattle.resolver_request.specs.SumTrees.{mark}
+use Rattle.resolver_trees.specs.SumTrees.{mark}
 use Rattle.resolver_fetch.specs.Pools.{IsNamed, is_named, whole}
 use Rattle.resolver_fetch.proofs.Pools.{gives-back, marked, marks-within, set-here, set-none, set-weightless, weighs-else, weighs-marked, weighs-within, weightless-unmarked}
 use Rattle.resolver_fetch.proofs.fetcher.pool.Pool.set.Goals as goal

@@ -1,6 +1,6 @@
 use Rattle.std.proofs.Common.{◌<◌}
 use Rattle.std.specs.Prelude.{sum}
-use Rattle.resolver_request.proofs.Choices.{chosen-within, in_interval}
+use Rattle.resolver_trees.proofs.Choices.{chosen-within, in_interval}
 use Rattle.resolver_request.proofs.sampling.weighted_index.WeightedIndex.pick_counted.Goals as goal
 
 pub returns-clause-interval : goal.returns-clause-interval

@@ -1,8 +1,8 @@
 use Rattle.std.proofs.Common.{◌<◌, ◌∙◌, sym, ap, map, length, arith}
 use Rattle.std.specs.Prelude.{sum}
-use Rattle.resolver_request.specs.Choice.{chosen}
+use Rattle.resolver_trees.specs.Choice.{chosen}
 use Rattle.resolver_request.specs.Selections.{positive_places}
-use Rattle.resolver_request.specs.SumTrees.{mark}
+use Rattle.resolver_trees.specs.SumTrees.{mark}
 use Rattle.resolver_request.proofs.Positive.{marks-count, marks-chosen}
 use Rattle.resolver_request.proofs.sampling.weighted_index.WeightedIndex.pick_positive.Goals as goal
 

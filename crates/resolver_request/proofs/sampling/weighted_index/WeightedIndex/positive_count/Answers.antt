@@ -2,7 +2,7 @@ use Rattle.std.proofs.Common.{◌≡◌, ◌∙◌, ap, length, arith}
 use Rattle.std.specs.Prelude.{sum}
 use Rattle.std.proofs.lemmas.List.{length-map}
 use Rattle.resolver_request.specs.Selections.{positive_places}
-use Rattle.resolver_request.specs.SumTrees.{mark}
+use Rattle.resolver_trees.specs.SumTrees.{mark}
 use Rattle.resolver_request.proofs.Positive.{marks-count, positive-few}
 use Rattle.resolver_request.proofs.sampling.weighted_index.WeightedIndex.positive_count.Goals as goal
 

@@ -1,6 +1,6 @@
 use Rattle.std.proofs.Common.{◌≡◌, ◌∙◌, sym, ap, slice_index}
-use Rattle.resolver_request.specs.SumTrees.{mark}
-use Rattle.resolver_request.proofs.Positive.{marks-set, marks-stay}
+use Rattle.resolver_trees.specs.SumTrees.{mark}
+use Rattle.resolver_trees.proofs.Marks.{marks-set, marks-stay}
 use Rattle.resolver_request.proofs.sampling.weighted_index.WeightedIndex.replace.Goals as goal
 
 pub invariant_of-self : goal.invariant_of-self

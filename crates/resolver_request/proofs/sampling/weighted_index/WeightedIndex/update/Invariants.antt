@@ -1,5 +1,5 @@
 use Rattle.std.proofs.Common.{◌≡◌, length, take}
-use Rattle.resolver_request.specs.Choice.{changed}
+use Rattle.resolver_trees.specs.Choice.{changed}
 use Rattle.resolver_request.proofs.sampling.weighted_index.WeightedIndex.update.Given as goal
 
 abbrev pub invariant-loop-place : goal.invariant-loop-place

@@ -1,0 +1,5 @@
+pub mod Written
+pub mod Led
+pub mod Hashed
+pub mod DueFirst
+pub mod Dues

@@ -1,0 +1,4 @@
+pub mod OpaquePhases
+pub mod OpaqueStages
+pub mod OpaquePhased
+pub mod OpaqueOverdue

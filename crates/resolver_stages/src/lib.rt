@@ -1,0 +1,12 @@
+//! The keys of an actor over one opaque source, by what was done last for them: each waits, was asked
+//! for, or is judged.
+//!
+//! `Stages` has them with what is kept of each, by their attempts and by their dues.
+#![tactic(auto)]
+
+mod by_attempt;
+pub mod phase;
+pub mod stages;
+
+pub use phase::{Keys, Phase, Stage, listed_phase};
+pub use stages::Stages;

@@ -1,0 +1,4 @@
+pub mod Choice
+pub mod ChoiceLaws
+pub mod Visits
+pub mod SumTrees
