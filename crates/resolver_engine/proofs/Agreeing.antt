@@ -4,7 +4,7 @@ use Rattle.std.specs.Prelude.{is_none, is_some}
 use Rattle.std.specs.Result.{IfErr, OnOk}
 use Rattle.resolver_base.specs.declared.base.fault.Fault.{Fault}
 use Rattle.resolver_base.specs.declared.base.fault.Fault.TheVariants.{OutOfMemory}
-use Rattle.resolver_fetch.specs.declared.fetcher.trail.Expected.{Expected}
+use Rattle.resolver_trying.specs.declared.trail.Expected.{Expected}
 use Rattle.resolver_fetch.specs.Fetcher.{Fetcher}
 use Rattle.resolver_peer.specs.Parties.{Parties}
 use Rattle.resolver_peer.specs.Peer.{Done, Machine, quiet}

@@ -7,12 +7,12 @@ use Rattle.std.specs.Map.{keys_of}
 use Rattle.resolver_request.specs.declared.requests.request.Request.{Request}
 use Rattle.resolver_request.specs.Requests.{by_id, matching, overdue, without_request}
 use Rattle.resolver_request.specs.Times.{elapsed_since}
-use Rattle.resolver_fetch.specs.declared.fetcher.place.Place.{Place}
-use Rattle.resolver_fetch.specs.declared.fetcher.trail.Expected.{Expected}
+use Rattle.resolver_trying.specs.declared.place.Place.{Place}
+use Rattle.resolver_trying.specs.declared.trail.Expected.{Expected}
 use Rattle.resolver_fetch.specs.Fetcher as fetchers
 use Rattle.resolver_fetch.specs.Fetcher.{Fetcher, unless_over}
 use Rattle.resolver_fetch.specs.FetcherLaws.{IsAmong}
-use Rattle.resolver_fetch.specs.Waiting.{retry_at}
+use Rattle.resolver_trying.specs.Waiting.{retry_at}
 use Rattle.resolver_peer.specs.Parties.{Parties, orders_of}
 use Rattle.resolver_peer.specs.PeerRows.{Asked, Row, request_in, request_of}
 use Rattle.resolver_peer.specs.Peer.{Machine, answered, fails, misses, snapshot, times_out}

@@ -8,9 +8,9 @@ use Rattle.resolver_base.specs.declared.base.fault.Fault.{Fault}
 use Rattle.resolver_base.specs.declared.base.fault.Fault.TheVariants.{OutOfMemory, Exhausted}
 use Rattle.resolver_request.specs.declared.requests.request.Request.{Request}
 use Rattle.resolver_request.specs.Requests.{overdue}
-use Rattle.resolver_fetch.specs.declared.fetcher.scan.Answer.{Answer}
+use Rattle.resolver_trying.specs.declared.scan.Answer.{Answer}
 use Rattle.resolver_fetch.specs.Fetcher.{Fetcher, unless_over}
-use Rattle.resolver_fetch.specs.Scan.{is_over, takes}
+use Rattle.resolver_trying.specs.Scan.{is_over, takes}
 use Rattle.resolver_peer.specs.declared.named.Serve.{Serve}
 use Rattle.resolver_peer.specs.Parties.{Parties, orders_of}
 use Rattle.resolver_peer.specs.Peer.{Done, Event, Fetch, Retain, PeerSet, Blocked, ActiveDue, PendingDue, Verdict, Served, Net, End, Happens, Answers, Machine, Open, and_then, asking, does, happen, is_due, quiet, scanned, served_by, snapshot, step_of, step_running, times_out, turned, verdict_on, wake_up}

@@ -11,7 +11,7 @@ use Rattle.resolver_request.specs.declared.requests.request.Request.{Request}
 use Rattle.resolver_request.specs.declared.wire.Payload.{Payload}
 use Rattle.resolver_request.specs.declared.wire.Payload.TheVariants as payloads
 use Rattle.resolver_request.specs.Requests.{overdue}
-use Rattle.resolver_fetch.specs.Scan.{Turn, begins, is_over, takes}
+use Rattle.resolver_trying.specs.Scan.{Turn, begins, is_over, takes}
 use Rattle.resolver_machine.specs.declared.ruling.Ruling.{Ruling}
 use Rattle.resolver_machine.specs.declared.ruling.Ruling.TheVariants as rulings
 use Rattle.resolver_machine.specs.Verdicts.{ruling}

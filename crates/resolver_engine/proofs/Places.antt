@@ -12,11 +12,11 @@ use Rattle.std.specs.declared.cmp.Ordering.TheVariants.{Less, Greater}
 use Rattle.resolver_priorities.specs.Priorities.{has_item}
 use Rattle.resolver_request.specs.declared.requests.request.Request.{Request}
 use Rattle.resolver_request.specs.Requests.{by_id, is_asked, is_for}
-use Rattle.resolver_fetch.specs.declared.fetcher.place.Place.{Place}
+use Rattle.resolver_trying.specs.declared.place.Place.{Place}
 use Rattle.resolver_fetch.specs.Fetcher.{AsksNewId, Fetcher}
-use Rattle.resolver_fetch.specs.Scan.{Scan, next, question_of}
-use Rattle.resolver_fetch.specs.Snapshot.{Snapshot}
-use Rattle.resolver_fetch.specs.Waiting.{Waiting}
+use Rattle.resolver_trying.specs.Scan.{Scan, next, question_of}
+use Rattle.resolver_trying.specs.Snapshot.{Snapshot}
+use Rattle.resolver_trying.specs.Waiting.{Waiting}
 use Rattle.resolver_peer.specs.Parties.{Parties, orders_of}
 use Rattle.resolver_peer.specs.PeerRows.{Row, Phase, Waits, Asked, Judged, request_in, request_of}
 use Rattle.resolver_peer.specs.Peer.{Machine, Open, question, snapshot}

@@ -15,8 +15,8 @@ use Rattle.resolver_priorities.specs.Priorities.{has_item, pair_order, prioritie
 use Rattle.resolver_priorities.proofs.Priorities.{first_of-none, pair_order-total, then-equal, without-none}
 use Rattle.resolver_request.specs.declared.requests.request.Request.{Request}
 use Rattle.resolver_request.specs.Requests.{by_id, is_asked, is_for, without_request}
-use Rattle.resolver_fetch.specs.declared.fetcher.place.Place.{Place}
-use Rattle.resolver_fetch.specs.Waiting.{place_order}
+use Rattle.resolver_trying.specs.declared.place.Place.{Place}
+use Rattle.resolver_trying.specs.Waiting.{place_order}
 use Rattle.resolver_fetch.proofs.Entries.{removed-inserted}
 use Rattle.resolver_peer.specs.Parties.{Parties}
 use Rattle.resolver_engine.specs.Tied.{same_id, sorted}

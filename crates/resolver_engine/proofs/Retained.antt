@@ -24,11 +24,11 @@ use Rattle.resolver_demand.specs.Entries.{Numbered, number_of}
 use Rattle.resolver_demand.specs.Entries.{retained as keeping}
 use Rattle.resolver_request.specs.declared.requests.request.Request.{Request}
 use Rattle.resolver_request.specs.Requests.{by_id}
-use Rattle.resolver_fetch.specs.declared.fetcher.place.Place.{Place}
+use Rattle.resolver_trying.specs.declared.place.Place.{Place}
 use Rattle.resolver_fetch.specs.Fetcher as calls
 use Rattle.resolver_fetch.specs.Fetcher.{Fetcher, unless_over}
-use Rattle.resolver_fetch.specs.Scan.{Scan}
-use Rattle.resolver_fetch.specs.Waiting.{place_order}
+use Rattle.resolver_trying.specs.Scan.{Scan}
+use Rattle.resolver_trying.specs.Waiting.{place_order}
 use Rattle.resolver_machine.proofs.Rows.{each_found}
 use Rattle.resolver_peer.specs.declared.named.Serve.{Serve}
 use Rattle.resolver_peer.specs.declared.named.Source.{Source}

@@ -10,9 +10,9 @@ use Rattle.std.specs.BTreeMap.{insert_entry, is_at}
 use Rattle.resolver_priorities.specs.Priorities.{put}
 use Rattle.resolver_request.specs.declared.requests.request.Request.{Request}
 use Rattle.resolver_request.specs.Requests.{by_id, without_request}
-use Rattle.resolver_fetch.specs.declared.fetcher.place.Place.{Place}
+use Rattle.resolver_trying.specs.declared.place.Place.{Place}
 use Rattle.resolver_fetch.specs.FetcherLaws.{IsAmong}
-use Rattle.resolver_fetch.specs.Waiting.{once_more, place_order}
+use Rattle.resolver_trying.specs.Waiting.{once_more, place_order}
 use Rattle.resolver_peer.specs.Parties.{Parties}
 use Rattle.resolver_peer.specs.PeerRows.{Row, Phase, Waits, Asked, Judged, change_entry, request_in, request_of}
 use Rattle.resolver_peer.specs.Peer.{Machine, Open, is_key}

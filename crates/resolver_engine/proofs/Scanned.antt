@@ -7,15 +7,15 @@ use Rattle.std.specs.Result.{IfErr, OnOk}
 use Rattle.std.specs.Cmp.{IsTotalOrder}
 use Rattle.resolver_base.specs.declared.base.fault.Fault.{Fault}
 use Rattle.resolver_base.specs.declared.base.fault.Fault.TheVariants.{OutOfMemory, Unasked}
-use Rattle.resolver_fetch.specs.declared.fetcher.scan.Answer.{Answer}
-use Rattle.resolver_fetch.specs.declared.fetcher.scan.Ask.{Ask}
-use Rattle.resolver_fetch.specs.declared.fetcher.trail.Expected.{Expected}
-use Rattle.resolver_fetch.specs.declared.fetcher.trail.Expected.TheVariants.{Mode}
+use Rattle.resolver_trying.specs.declared.scan.Answer.{Answer}
+use Rattle.resolver_trying.specs.declared.scan.Ask.{Ask}
+use Rattle.resolver_trying.specs.declared.trail.Expected.{Expected}
+use Rattle.resolver_trying.specs.declared.trail.Expected.TheVariants.{Mode}
 use Rattle.resolver_fetch.specs.Fetcher as fetchers
 use Rattle.resolver_fetch.specs.Fetcher.{AsksNewId, Fetcher, unless_over}
-use Rattle.resolver_fetch.specs.Scan.{Scan, Turn, begins, goes_on_with, next, question_of, takes, takes_for}
-use Rattle.resolver_fetch.specs.Snapshot.{Snapshot}
-use Rattle.resolver_fetch.specs.Waiting.{Waiting}
+use Rattle.resolver_trying.specs.Scan.{Scan, Turn, begins, goes_on_with, next, question_of, takes, takes_for}
+use Rattle.resolver_trying.specs.Snapshot.{Snapshot}
+use Rattle.resolver_trying.specs.Waiting.{Waiting}
 use Rattle.resolver_peer.specs.Parties.{Parties, orders_of}
 use Rattle.resolver_peer.specs.Peer.{Effect, Machine, asking, is_due, scanned, snapshot, turned, wake_up}
 use Rattle.resolver_peer.specs.Peer as machines

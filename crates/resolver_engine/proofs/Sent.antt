@@ -9,14 +9,14 @@ use Rattle.std.specs.Ordering.{nat_cmp}
 use Rattle.resolver_priorities.specs.Priorities.{without}
 use Rattle.resolver_request.specs.declared.requests.request.Request.{Request}
 use Rattle.resolver_request.specs.Requests.{by_id}
-use Rattle.resolver_fetch.specs.declared.fetcher.place.Place.{Place}
-use Rattle.resolver_fetch.specs.declared.fetcher.scan.Ask.{Ask}
-use Rattle.resolver_fetch.specs.declared.fetcher.trail.Expected.{Expected}
+use Rattle.resolver_trying.specs.declared.place.Place.{Place}
+use Rattle.resolver_trying.specs.declared.scan.Ask.{Ask}
+use Rattle.resolver_trying.specs.declared.trail.Expected.{Expected}
 use Rattle.resolver_fetch.specs.Fetcher as fetchers
 use Rattle.resolver_fetch.specs.Fetcher.{AsksNewId, Fetcher, unless_over}
-use Rattle.resolver_fetch.specs.Scan.{Scan, Turn, next, question as question_by, question_of}
-use Rattle.resolver_fetch.specs.Snapshot.{Snapshot}
-use Rattle.resolver_fetch.specs.Waiting.{Waiting}
+use Rattle.resolver_trying.specs.Scan.{Scan, Turn, next, question as question_by, question_of}
+use Rattle.resolver_trying.specs.Snapshot.{Snapshot}
+use Rattle.resolver_trying.specs.Waiting.{Waiting}
 use Rattle.resolver_peer.specs.Parties.{Parties, orders_of}
 use Rattle.resolver_peer.specs.PeerRows.{Row, Waits, Asked, change_entry, request_of}
 use Rattle.resolver_peer.specs.Peer.{Machine, Open, is_key, question, snapshot, turned, with_sent}

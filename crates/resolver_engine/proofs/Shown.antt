@@ -19,7 +19,7 @@ use Rattle.resolver_root.specs.Table.{is_asked}
 use Rattle.resolver_demand.specs.Entries.{Numbered, number_of}
 use Rattle.resolver_request.specs.declared.requests.request.Request.{Request}
 use Rattle.resolver_request.specs.Requests.{is_for, request_for}
-use Rattle.resolver_fetch.specs.declared.fetcher.place.Place.{Place}
+use Rattle.resolver_trying.specs.declared.place.Place.{Place}
 use Rattle.resolver_fetch.specs.Fetcher as calls
 use Rattle.resolver_machine.proofs.Rows.{each_found}
 use Rattle.resolver_peer.specs.declared.named.Source.{Source}

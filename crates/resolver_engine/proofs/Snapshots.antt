@@ -13,13 +13,13 @@ use Rattle.std.specs.Ordering.{match_ordering}
 use Rattle.std.specs.declared.cmp.Ordering.{Ordering}
 use Rattle.std.specs.declared.cmp.Ordering.TheVariants.{Less, Equal, Greater}
 use Rattle.resolver_priorities.specs.Priorities.{pair_order}
-use Rattle.resolver_fetch.specs.declared.fetcher.place.Place.{Place}
+use Rattle.resolver_trying.specs.declared.place.Place.{Place}
 use Rattle.resolver_fetch.specs.Fetcher as fetchers
 use Rattle.resolver_fetch.specs.Fetcher.{Fetcher}
-use Rattle.resolver_fetch.specs.Orders.{same_key}
-use Rattle.resolver_fetch.specs.Snapshot.{Snapshot}
-use Rattle.resolver_fetch.specs.Waiting as waits
-use Rattle.resolver_fetch.specs.Waiting.{in_order, waiting_order, place_order}
+use Rattle.resolver_trying.specs.Orders.{same_key}
+use Rattle.resolver_trying.specs.Snapshot.{Snapshot}
+use Rattle.resolver_trying.specs.Waiting as waits
+use Rattle.resolver_trying.specs.Waiting.{in_order, waiting_order, place_order}
 use Rattle.resolver_peer.specs.Parties.{Parties, names_of, orders_of}
 use Rattle.resolver_peer.specs.PeerRows.{Row, Phase, Waits, Asked, Judged, waiting_in, waiting_of}
 use Rattle.resolver_peer.specs.Peer.{Machine, snapshot, wake_up}

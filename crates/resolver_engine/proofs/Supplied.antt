@@ -5,7 +5,7 @@ use Rattle.std.specs.Prelude.{is_some, nat_lt}
 use Rattle.resolver_fetch.specs.Fetcher as fetchers
 use Rattle.resolver_peer.specs.Parties.{Parties, orders_of}
 use Rattle.resolver_peer.specs.Peer.{Machine, is_newer, peer_set}
-use Rattle.resolver_fetch.specs.Peers.{replaced}
+use Rattle.resolver_trying.specs.Peers.{replaced}
 use Rattle.resolver_engine.specs.declared.parts.Parts.{Parts}
 use Rattle.resolver_engine.specs.Tied.{Agrees, fetcher_of, held_of, open_of}
 use Rattle.resolver_engine.proofs.Agreeing.{closed-over}

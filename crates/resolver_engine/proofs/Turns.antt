@@ -18,17 +18,17 @@ use Rattle.resolver_request.specs.declared.requests.request.Request.{Request}
 use Rattle.resolver_request.specs.Modes.{means_weighted}
 use Rattle.resolver_request.specs.Ids.{is_held}
 use Rattle.resolver_request.specs.Requests.{by_id}
-use Rattle.resolver_fetch.specs.declared.fetcher.place.Place.{Place}
-use Rattle.resolver_fetch.specs.declared.fetcher.scan.Answer.{Answer}
-use Rattle.resolver_fetch.specs.declared.fetcher.scan.Answer.TheVariants.{Drawn, Checked, Sent}
-use Rattle.resolver_fetch.specs.declared.fetcher.trail.Expected.{Expected}
-use Rattle.resolver_fetch.specs.declared.fetcher.trail.Expected.TheVariants.{Mode, ByWeight, ByPlace, Checking, FirstId, Sending}
-use Rattle.resolver_fetch.specs.declared.fetcher.trail.Reason.{Reason}
-use Rattle.resolver_fetch.specs.declared.fetcher.trail.Reason.TheVariants.{Limited, Refused}
+use Rattle.resolver_trying.specs.declared.place.Place.{Place}
+use Rattle.resolver_trying.specs.declared.scan.Answer.{Answer}
+use Rattle.resolver_trying.specs.declared.scan.Answer.TheVariants.{Drawn, Checked, Sent}
+use Rattle.resolver_trying.specs.declared.trail.Expected.{Expected}
+use Rattle.resolver_trying.specs.declared.trail.Expected.TheVariants.{Mode, ByWeight, ByPlace, Checking, FirstId, Sending}
+use Rattle.resolver_trying.specs.declared.trail.Reason.{Reason}
+use Rattle.resolver_trying.specs.declared.trail.Reason.TheVariants.{Limited, Refused}
 use Rattle.resolver_fetch.specs.Fetcher.{AsksNewId}
 use Rattle.resolver_fetch.specs.FetcherLaws.{IsAmong}
-use Rattle.resolver_fetch.specs.Scan.{Scan, Turn, answered, asks_for, begins, by_place, by_weight, can_be_tried, clears, draws, fails, goes_on, goes_on_with, left, next, question_for, question_of, sends, takes, takes_for}
-use Rattle.resolver_fetch.specs.Waiting.{Waiting, in_order, waiting_order}
+use Rattle.resolver_trying.specs.Scan.{Scan, Turn, answered, asks_for, begins, by_place, by_weight, can_be_tried, clears, draws, fails, goes_on, goes_on_with, left, next, question_for, question_of, sends, takes, takes_for}
+use Rattle.resolver_trying.specs.Waiting.{Waiting, in_order, waiting_order}
 use Rattle.resolver_fetch.proofs.OneOf.{found-among}
 use Rattle.resolver_peer.specs.Parties.{Parties, orders_of}
 use Rattle.resolver_peer.specs.PeerRows.{Row, Phase, Waits, Asked, Judged, request_of, waiting_in, waiting_of}

@@ -17,8 +17,8 @@ use Rattle.resolver_demand.specs.Entries.{fresh, inserted}
 use Rattle.resolver_request.specs.Requests.{by_id, is_asked}
 use Rattle.resolver_fetch.specs.Fetcher as fetchers
 use Rattle.resolver_fetch.specs.Fetcher.{Fetcher, unless_over}
-use Rattle.resolver_fetch.specs.Peers.{with_targets}
-use Rattle.resolver_fetch.specs.Waiting.{fresh_at, place_order}
+use Rattle.resolver_trying.specs.Peers.{with_targets}
+use Rattle.resolver_trying.specs.Waiting.{fresh_at, place_order}
 use Rattle.resolver_machine.proofs.Mapped.{insert_entry-seen}
 use Rattle.resolver_peer.specs.Parties.{Parties, names_of, orders_of}
 use Rattle.resolver_peer.specs.PeerRows.{Row, Waits, change_entry, request_of}

@@ -1,7 +1,7 @@
 -- What a fetch makes of the fetcher.
 use Rattle.std.specs.Prelude.{ℕ, List, Option, None, Some, is_some, if◌then◌else◌}
 use Rattle.resolver_fetch.specs.Fetcher.{Fetcher, add_ready, add_targets, clear_targets, targets_of}
-use Rattle.resolver_fetch.specs.Orders.{Orders}
+use Rattle.resolver_trying.specs.Orders.{Orders}
 
 module _ {K P : Type 0} (o : Orders K P) where
   -- a key that is there may be asked of more peers, or of any; one that may be asked of any stays so

@@ -2,8 +2,8 @@
 use Rattle.std.specs.Prelude.{◌≡◌, false, List, Some, Result, Ok, Err, is_err}
 use Rattle.resolver_base.specs.declared.base.fault.Fault.{Fault}
 use Rattle.resolver_base.specs.declared.base.fault.Fault.TheVariants as faults
-use Rattle.resolver_fetch.specs.declared.fetcher.scan.Answer.{Answer}
-use Rattle.resolver_fetch.specs.Scan.{Turn, takes}
+use Rattle.resolver_trying.specs.declared.scan.Answer.{Answer}
+use Rattle.resolver_trying.specs.Scan.{Turn, takes}
 use Rattle.resolver_engine.specs.declared.effects.Effect.{Effect as Told}
 use Rattle.resolver_engine.specs.declared.parts.Parts.{Parts}
 use Rattle.resolver_engine.specs.Going.{Went}

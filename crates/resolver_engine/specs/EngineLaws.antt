@@ -1,7 +1,7 @@
 -- What holds of every run of an engine, in the words of its machine.
 use Rattle.std.specs.Prelude.{◌≡◌, Bool, List, map, Result}
 use Rattle.resolver_base.specs.declared.base.fault.Fault.{Fault}
-use Rattle.resolver_fetch.specs.declared.fetcher.config.Config.{Config}
+use Rattle.resolver_trying.specs.declared.config.Config.{Config}
 use Rattle.resolver_peer.specs.Parties.{Parties}
 use Rattle.resolver_peer.specs.Peer.{Machine, Effect, opening}
 use Rattle.resolver_peer.specs.PeerRun.{Fed}

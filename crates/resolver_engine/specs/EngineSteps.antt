@@ -2,7 +2,7 @@
 use Rattle.std.specs.Prelude.{◌≡◌, ℕ, Bool, false, ◌++◌, List, [], ◌∷◌, map, Result, Ok, Err}
 use Rattle.resolver_base.specs.declared.base.fault.Fault.{Fault}
 use Rattle.resolver_base.specs.declared.base.fault.Fault.TheVariants as faults
-use Rattle.resolver_fetch.specs.Scan.{is_over}
+use Rattle.resolver_trying.specs.Scan.{is_over}
 use Rattle.resolver_machine.specs.Steps as steps
 use Rattle.resolver_peer.specs.Parties.{Parties}
 use Rattle.resolver_peer.specs.Peer.{Machine, Effect, Failed, step_running}

@@ -9,7 +9,7 @@ use Rattle.resolver_root.specs.declared.root.Outcome.{Outcome}
 use Rattle.resolver_root.specs.declared.root.Outcome.TheVariants.{Invalid, Resolved}
 use Rattle.resolver_demand.specs.Entries.{Numbered, accepted, redelivered, response_changed}
 use Rattle.resolver_fetch.specs.Fetcher.{Fetcher, record_response}
-use Rattle.resolver_fetch.specs.Orders.{Orders}
+use Rattle.resolver_trying.specs.Orders.{Orders}
 use Rattle.resolver_peer.specs.declared.named.Source.{Source}
 use Rattle.resolver_peer.specs.Parties.{Parties}
 use Rattle.resolver_peer.specs.PeerRows.{Row, Judged, Judging, request_of}

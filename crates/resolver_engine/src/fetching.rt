@@ -4,7 +4,7 @@ ghost use Rattle.std.specs.Prelude.{◌≡◌, ◌<◌, ◌^◌, false, is_some,
 ghost use Rattle.resolver_priorities.specs.Priorities.{has_item};
 ghost use Rattle.resolver_base.specs.declared.base.fault.Fault.TheVariants.{OutOfMemory};
 ghost use Rattle.resolver_request.specs.Requests.{is_asked};
-ghost use Rattle.resolver_fetch.specs.Orders.{orders};
+ghost use Rattle.resolver_trying.specs.Orders.{orders};
 ghost use Rattle.resolver_peer.specs.Parties.{parties};
 ghost use Rattle.resolver_peer.specs.Peer.{Machine, fetch, fetch_one, row_of};
 ghost use Rattle.resolver_engine.specs.Aiming.{aimed, readied};

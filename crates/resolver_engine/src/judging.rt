@@ -7,7 +7,7 @@ ghost use Rattle.resolver_base.specs.declared.base.fault.Fault.TheVariants.{OutO
 ghost use Rattle.resolver_request.specs.Requests.{is_asked};
 ghost use Rattle.resolver_demand.specs.Entries.{number_of, removed, response_of};
 ghost use Rattle.resolver_fetch.specs.Fetcher as calls;
-ghost use Rattle.resolver_fetch.specs.Orders.{orders};
+ghost use Rattle.resolver_trying.specs.Orders.{orders};
 ghost use Rattle.resolver_machine.specs.Verdicts.{ruling};
 ghost use Rattle.resolver_peer.specs.Parties.{parties};
 ghost use Rattle.resolver_peer.specs.PeerRows.{Row};

@@ -6,7 +6,7 @@ ghost use Rattle.resolver_root.specs.Table.{is_asked};
 ghost use Rattle.resolver_base.specs.declared.base.fault.Fault.TheVariants.{OutOfMemory};
 ghost use Rattle.resolver_demand.specs.Entries.{retained};
 ghost use Rattle.resolver_fetch.specs.Fetcher as calls;
-ghost use Rattle.resolver_fetch.specs.Orders.{orders};
+ghost use Rattle.resolver_trying.specs.Orders.{orders};
 ghost use Rattle.resolver_peer.specs.Parties.{parties};
 ghost use Rattle.resolver_peer.specs.Peer.{Machine, end, retain};
 ghost use Rattle.resolver_engine.specs.Canceled.{all_canceled, each_canceled};

@@ -3,7 +3,7 @@
 ghost use Rattle.std.specs.Prelude.{◌≡◌, ◌<◌, ◌^◌, ◌++◌, false, true, not, None, Ok, Err, Some, is_some, map, option_map, IfErr, OnOk};
 ghost use Rattle.std.specs.Option.{option_to_list};
 ghost use Rattle.resolver_base.specs.declared.base.fault.Fault.TheVariants.{OutOfMemory};
-ghost use Rattle.resolver_fetch.specs.Scan.{is_over};
+ghost use Rattle.resolver_trying.specs.Scan.{is_over};
 ghost use Rattle.resolver_peer.specs.Parties.{parties};
 ghost use Rattle.resolver_peer.specs.Peer.{Machine, active_deadline, is_due, scanned, wake_up};
 ghost use Rattle.resolver_engine.specs.declared.effects.Effect.TheVariants as told;

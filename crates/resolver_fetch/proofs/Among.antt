@@ -11,10 +11,10 @@ use Rattle.std.specs.Map.{keys_of, lookup, lookup_key}
 use Rattle.std.specs.Ordering.{is_eq, ordering_reverse}
 use Rattle.std.specs.declared.cmp.Ordering.{Ordering}
 use Rattle.std.specs.declared.cmp.Ordering.TheVariants.{Less, Equal}
-use Rattle.resolver_fetch.specs.Orders.{is_one_of}
-use Rattle.resolver_fetch.specs.Known.{Known, askable_at, eligible, may_be_asked}
+use Rattle.resolver_trying.specs.Orders.{is_one_of}
+use Rattle.resolver_trying.specs.Known.{Known, askable_at, eligible, may_be_asked}
 use Rattle.resolver_request.specs.declared.score.Averages.{Averages}
-use Rattle.resolver_fetch.proofs.Tried.{equal-is}
+use Rattle.resolver_trying.proofs.Tried.{equal-is}
 
 module _ {X : Type 0} (test other : X → Bool) where
   same-filter : ((x : X) → test x ≡ other x) → (xs : List X) → filter test xs ≡ filter other xs

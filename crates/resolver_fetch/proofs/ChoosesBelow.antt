@@ -7,7 +7,7 @@ use Rattle.std.proofs.lemmas.List.{length-map}
 use Rattle.resolver_request.specs.declared.score.Averages.{Averages}
 use Rattle.resolver_request.specs.Scores.{weight_of}
 use Rattle.resolver_trees.specs.Choice.{chosen}
-use Rattle.resolver_fetch.specs.Scan.{weights, by_place}
+use Rattle.resolver_trying.specs.Scan.{weights, by_place}
 use Rattle.resolver_fetch.specs.FetcherLaws.{ChoosesBelow}
 use Rattle.resolver_trees.proofs.Choices.{chosen-within}
 

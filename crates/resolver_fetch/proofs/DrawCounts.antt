@@ -16,14 +16,14 @@ use Rattle.resolver_request.specs.Scores.{weight_of}
 use Rattle.resolver_trees.proofs.ChoiceCounts.{chooses_by_weight}
 use Rattle.resolver_request.proofs.Modes.{four_mean_weighted}
 use Rattle.resolver_trees.proofs.Counts.{count_from-same, count_from-one}
-use Rattle.resolver_fetch.specs.declared.fetcher.scan.Answer.TheVariants.{Drawn}
-use Rattle.resolver_fetch.specs.declared.fetcher.trail.Expected.TheVariants.{Mode, ByWeight, ByPlace}
-use Rattle.resolver_fetch.specs.declared.fetcher.trail.Try.{Try}
-use Rattle.resolver_fetch.specs.Orders.{Orders}
-use Rattle.resolver_fetch.specs.Waiting.{Waiting}
-use Rattle.resolver_fetch.specs.Known.{is_eligible}
-use Rattle.resolver_fetch.specs.Snapshot.{Snapshot, eligible, known}
-use Rattle.resolver_fetch.specs.Scan.{Scan, weights, by_place, by_weight, left, was_tried, draws, answered}
+use Rattle.resolver_trying.specs.declared.scan.Answer.TheVariants.{Drawn}
+use Rattle.resolver_trying.specs.declared.trail.Expected.TheVariants.{Mode, ByWeight, ByPlace}
+use Rattle.resolver_trying.specs.declared.trail.Try.{Try}
+use Rattle.resolver_trying.specs.Orders.{Orders}
+use Rattle.resolver_trying.specs.Waiting.{Waiting}
+use Rattle.resolver_trying.specs.Known.{is_eligible}
+use Rattle.resolver_trying.specs.Snapshot.{Snapshot, eligible, known}
+use Rattle.resolver_trying.specs.Scan.{Scan, weights, by_place, by_weight, left, was_tried, draws, answered}
 use Rattle.resolver_fetch.specs.FetcherLaws.{IsAmong, DrawCounts, leads_to, is_weighted, is_check}
 
 eqb-suc : (m n : ℕ) → (suc m == suc n) ≡ (m == n)

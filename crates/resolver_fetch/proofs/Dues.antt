@@ -11,13 +11,13 @@ use Rattle.std.specs.Prelude.{find, nat_le, nat_lt}
 use Rattle.std.specs.declared.cmp.Ordering.{Ordering}
 use Rattle.std.specs.declared.cmp.Ordering.TheVariants.{Less}
 use Rattle.resolver_priorities.specs.Priorities.{from, pair_order}
-use Rattle.resolver_fetch.specs.declared.fetcher.place.Place.{Place}
-use Rattle.resolver_fetch.specs.declared.fetcher.trail.Try.{Try}
+use Rattle.resolver_trying.specs.declared.place.Place.{Place}
+use Rattle.resolver_trying.specs.declared.trail.Try.{Try}
 use Rattle.resolver_fetch.specs.Fetcher.{Fetcher, waiting_of}
-use Rattle.resolver_fetch.specs.Orders.{Orders}
+use Rattle.resolver_trying.specs.Orders.{Orders}
 use Rattle.resolver_fetch.specs.Pending.{later_due}
 use Rattle.resolver_fetch.specs.Queues.{placed}
-use Rattle.resolver_fetch.specs.Scan.{least, next_due}
+use Rattle.resolver_trying.specs.Scan.{least, next_due}
 use Rattle.resolver_fetch.specs.Seeking.{first_until, trying_key}
 
 -- what is behind a due past a moment is past it

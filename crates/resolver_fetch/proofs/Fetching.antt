@@ -1,13 +1,13 @@
 -- A scan that takes one answer more.
 use Rattle.std.proofs.Common.{◌≡◌, refl, ap, subst, ◌∙◌, List, [], ◌∷◌, ◌++◌, Option, None, Some, Result, Ok, Err}
 use Rattle.std.specs.Prelude.{OnErr}
-use Rattle.resolver_fetch.specs.declared.fetcher.scan.Answer.{Answer}
-use Rattle.resolver_fetch.specs.declared.fetcher.scan.Ask.{Ask}
+use Rattle.resolver_trying.specs.declared.scan.Answer.{Answer}
+use Rattle.resolver_trying.specs.declared.scan.Ask.{Ask}
 use Rattle.resolver_fetch.specs.Fetcher.{Fetcher, asked_by, question}
 use Rattle.resolver_fetch.specs.Fetching.{GoesOn, Lent, Outside, TakesAll, TakesOne}
-use Rattle.resolver_fetch.specs.Orders.{Orders}
+use Rattle.resolver_trying.specs.Orders.{Orders}
 use Rattle.resolver_fetch.specs.Progress.{Keeps, KeepsWith}
-use Rattle.resolver_fetch.specs.Scan.{Scan}
+use Rattle.resolver_trying.specs.Scan.{Scan}
 
 module _ {K P S D : Type 0} (o : Orders K P) (out : Outside K P S D) where
   takes-one-more : (answers : List Answer) (answer : Answer) (before then after : Lent K P S D) → TakesAll o out answers before then → TakesOne o out answer then after

@@ -4,15 +4,15 @@ use Rattle.std.specs.Prelude.{nat_lt, ⊤}
 use Rattle.resolver_base.specs.declared.base.check.Check.TheVariants.{Clear, Until}
 use Rattle.resolver_base.specs.declared.base.fault.Fault.{Fault}
 use Rattle.resolver_base.specs.declared.base.fault.Fault.TheVariants.{OutOfRange}
-use Rattle.resolver_fetch.specs.declared.fetcher.scan.Answer.{Answer}
-use Rattle.resolver_fetch.specs.declared.fetcher.scan.Answer.TheVariants.{Drawn, Checked, Sent}
-use Rattle.resolver_fetch.specs.declared.fetcher.trail.Expected.{Expected}
-use Rattle.resolver_fetch.specs.declared.fetcher.trail.Expected.TheVariants.{Mode, ByWeight, ByPlace, Checking, FirstId, Sending}
-use Rattle.resolver_fetch.specs.declared.fetcher.trail.Reason.TheVariants.{Limited, Refused}
-use Rattle.resolver_fetch.specs.Orders.{Orders}
-use Rattle.resolver_fetch.specs.Waiting.{Waiting}
-use Rattle.resolver_fetch.specs.Snapshot.{Snapshot}
-use Rattle.resolver_fetch.specs.Scan.{Scan, Turn, mode_of, by_weight, by_place, next, left, takes, takes_for, draws, ends, goes_on_with, goes_on, clears, sends, asks_for, answered}
+use Rattle.resolver_trying.specs.declared.scan.Answer.{Answer}
+use Rattle.resolver_trying.specs.declared.scan.Answer.TheVariants.{Drawn, Checked, Sent}
+use Rattle.resolver_trying.specs.declared.trail.Expected.{Expected}
+use Rattle.resolver_trying.specs.declared.trail.Expected.TheVariants.{Mode, ByWeight, ByPlace, Checking, FirstId, Sending}
+use Rattle.resolver_trying.specs.declared.trail.Reason.TheVariants.{Limited, Refused}
+use Rattle.resolver_trying.specs.Orders.{Orders}
+use Rattle.resolver_trying.specs.Waiting.{Waiting}
+use Rattle.resolver_trying.specs.Snapshot.{Snapshot}
+use Rattle.resolver_trying.specs.Scan.{Scan, Turn, mode_of, by_weight, by_place, next, left, takes, takes_for, draws, ends, goes_on_with, goes_on, clears, sends, asks_for, answered}
 use Rattle.resolver_fetch.specs.FetcherLaws.{IsInVain}
 
 -- what is so of each end without a key to try is so of each end in vain

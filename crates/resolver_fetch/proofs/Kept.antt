@@ -9,10 +9,10 @@ use Rattle.resolver_priorities.specs.Priorities.{priorities_of, put, without}
 use Rattle.resolver_request.specs.declared.requests.request.Request.{Request}
 use Rattle.resolver_request.specs.Ids.{is_held}
 use Rattle.resolver_request.specs.Requests.{IsTaken, ids_of, is_asked, without_request}
-use Rattle.resolver_fetch.specs.declared.fetcher.cursor.Cursor.{Cursor}
-use Rattle.resolver_fetch.specs.declared.fetcher.place.Place.{Place}
+use Rattle.resolver_trying.specs.declared.cursor.Cursor.{Cursor}
+use Rattle.resolver_trying.specs.declared.place.Place.{Place}
 use Rattle.resolver_fetch.specs.Cursor.{IsKept, scan_of}
-use Rattle.resolver_fetch.specs.Waiting.{place_order}
+use Rattle.resolver_trying.specs.Waiting.{place_order}
 use Rattle.resolver_fetch.proofs.Phases.{fewer-without, once-put, once-sent}
 
 -- where no scan is open, what is asked of an open one is so

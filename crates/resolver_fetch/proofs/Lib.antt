@@ -13,7 +13,6 @@ pub mod Queues
 pub mod Dues
 pub mod Pending
 pub mod Seeking
-pub mod Tried
 pub mod Entries
 pub mod Stepping
 pub mod Nexts
@@ -23,6 +22,4 @@ pub mod Progress
 pub mod Fetching
 pub mod Phases
 pub mod Kept
-pub mod Searched
-pub mod Pools
 pub mod Weighing

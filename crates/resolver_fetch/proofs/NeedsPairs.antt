@@ -5,19 +5,19 @@ use Rattle.std.specs.List.{list_any}
 use Rattle.resolver_base.specs.declared.base.check.Check.TheVariants.{Clear, Until}
 use Rattle.resolver_base.specs.declared.base.fault.Fault.TheVariants.{OutOfRange}
 use Rattle.resolver_request.specs.declared.score.Averages.{Averages}
-use Rattle.resolver_fetch.specs.declared.fetcher.scan.Answer.{Answer}
-use Rattle.resolver_fetch.specs.declared.fetcher.scan.Answer.TheVariants.{Drawn, Checked, Sent}
-use Rattle.resolver_fetch.specs.declared.fetcher.scan.Ask.TheVariants.{Draw}
-use Rattle.resolver_fetch.specs.Orders.{Orders, same_key, same_peer}
+use Rattle.resolver_trying.specs.declared.scan.Answer.{Answer}
+use Rattle.resolver_trying.specs.declared.scan.Answer.TheVariants.{Drawn, Checked, Sent}
+use Rattle.resolver_trying.specs.declared.scan.Ask.TheVariants.{Draw}
+use Rattle.resolver_trying.specs.Orders.{Orders, same_key, same_peer}
 use Rattle.resolver_request.specs.Times.{never}
-use Rattle.resolver_fetch.specs.Waiting.{Waiting}
-use Rattle.resolver_fetch.specs.Snapshot.{Snapshot, eligible}
-use Rattle.resolver_fetch.specs.declared.fetcher.trail.Expected.{Expected}
-use Rattle.resolver_fetch.specs.declared.fetcher.trail.Expected.TheVariants.{Mode, ByWeight, ByPlace, Checking, FirstId, Sending}
-use Rattle.resolver_fetch.specs.declared.fetcher.trail.Reason.{Reason}
-use Rattle.resolver_fetch.specs.declared.fetcher.trail.Reason.TheVariants.{Limited, Refused}
-use Rattle.resolver_fetch.specs.declared.fetcher.trail.Try.{Try}
-use Rattle.resolver_fetch.specs.Scan.{Scan, Turn, next, left, was_tried, is_due, mode_of, weights, by_weight, by_place, takes, takes_for, draws, goes_on_with, goes_on, clears, sends, asks_for, fails, answered, least, least_until, limit_of, trail_moment, next_due, question_of}
+use Rattle.resolver_trying.specs.Waiting.{Waiting}
+use Rattle.resolver_trying.specs.Snapshot.{Snapshot, eligible}
+use Rattle.resolver_trying.specs.declared.trail.Expected.{Expected}
+use Rattle.resolver_trying.specs.declared.trail.Expected.TheVariants.{Mode, ByWeight, ByPlace, Checking, FirstId, Sending}
+use Rattle.resolver_trying.specs.declared.trail.Reason.{Reason}
+use Rattle.resolver_trying.specs.declared.trail.Reason.TheVariants.{Limited, Refused}
+use Rattle.resolver_trying.specs.declared.trail.Try.{Try}
+use Rattle.resolver_trying.specs.Scan.{Scan, Turn, next, left, was_tried, is_due, mode_of, weights, by_weight, by_place, takes, takes_for, draws, goes_on_with, goes_on, clears, sends, asks_for, fails, answered, least, least_until, limit_of, trail_moment, next_due, question_of}
 use Rattle.resolver_fetch.specs.FetcherLaws.{is_empty, IsLikeTrail, IsLikeTurn, IsLikeResult, NeedsPairs}
 
 least-assoc : (a b c : Option ℕ) → least a (least b c) ≡ least (least a b) c

@@ -4,7 +4,7 @@ use Rattle.std.specs.Prelude.{find, nat_lt, sum}
 use Rattle.resolver_request.specs.declared.score.Averages.{Averages}
 use Rattle.resolver_trees.specs.Choice as choice
 use Rattle.resolver_fetch.specs.FetcherLaws.{IsAmong}
-use Rattle.resolver_fetch.specs.Scan.{by_place, by_weight, weights}
+use Rattle.resolver_trying.specs.Scan.{by_place, by_weight, weights}
 
 module _ {X : Type 0} where
   among-if : (b : Bool) (x y : X) (xs ys : List X) → (IsAmong x xs → IsAmong x ys) → IsAmong x (cond b (y ∷ xs) xs) → IsAmong x (y ∷ ys)

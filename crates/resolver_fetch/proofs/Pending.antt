@@ -14,11 +14,11 @@ use Rattle.std.specs.Prelude.{nat_le}
 use Rattle.std.specs.declared.cmp.Ordering.{Ordering}
 use Rattle.std.specs.declared.cmp.Ordering.TheVariants.{Less, Equal, Greater}
 use Rattle.resolver_priorities.specs.Priorities.{first_of, pair_order, put, without}
-use Rattle.resolver_fetch.specs.declared.fetcher.place.Place.{Place}
+use Rattle.resolver_trying.specs.declared.place.Place.{Place}
 use Rattle.resolver_fetch.specs.Pending.{IsBound, due_behind, later_due, raised}
 use Rattle.resolver_fetch.specs.Queues.{IsQueued, fresh_queue, placed, retry_queue}
-use Rattle.resolver_fetch.specs.Scan.{least}
-use Rattle.resolver_fetch.specs.Waiting.{place_order}
+use Rattle.resolver_trying.specs.Scan.{least}
+use Rattle.resolver_trying.specs.Waiting.{place_order}
 use Rattle.resolver_fetch.proofs.Dues.{later-append, later-least, least-apart}
 
 reversed : (x : Ordering) → is_lt (ordering_reverse x) ≡ is_gt x

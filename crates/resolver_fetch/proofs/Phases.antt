@@ -13,14 +13,14 @@ use Rattle.resolver_priorities.proofs.Priorities.{priorities-put, priorities-wit
 use Rattle.resolver_request.specs.declared.requests.request.Request.{Request}
 use Rattle.resolver_request.specs.Ids.{is_held}
 use Rattle.resolver_request.specs.Requests.{ids_of, is_asked, is_for, request_of, without_request}
-use Rattle.resolver_fetch.specs.declared.fetcher.place.Place.{Place}
-use Rattle.resolver_fetch.specs.declared.fetcher.trail.Try.{Try}
+use Rattle.resolver_trying.specs.declared.place.Place.{Place}
+use Rattle.resolver_trying.specs.declared.trail.Try.{Try}
 use Rattle.resolver_fetch.specs.Fetcher.{EachOnce, Fetcher, snapshot, waiting_of}
-use Rattle.resolver_fetch.specs.Orders.{Orders}
-use Rattle.resolver_fetch.specs.Scan.{can_be_tried}
+use Rattle.resolver_trying.specs.Orders.{Orders}
+use Rattle.resolver_trying.specs.Scan.{can_be_tried}
 use Rattle.resolver_fetch.specs.Seeking.{scan_at, tried_next}
-use Rattle.resolver_fetch.specs.Trying.{Trying, trying_for}
-use Rattle.resolver_fetch.specs.Waiting.{place_order}
+use Rattle.resolver_trying.specs.Trying.{Trying, trying_for}
+use Rattle.resolver_trying.specs.Waiting.{place_order}
 use Rattle.resolver_fetch.proofs.Seeking.{find-map}
 
 place_total : IsTotalOrder place_order

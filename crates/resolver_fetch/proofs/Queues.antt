@@ -11,9 +11,9 @@ use Rattle.std.specs.declared.cmp.Ordering.TheVariants.{Less}
 use Rattle.std.specs.BTreeSet.{insert_key}
 use Rattle.resolver_priorities.specs.Priorities.{after, has_item, is_of, listed, pair_order, priorities_of, put, without}
 use Rattle.resolver_priorities.proofs.Priorities.{first_of-none, priorities-put, priorities-same, without-none}
-use Rattle.resolver_fetch.specs.declared.fetcher.place.Place.{Place}
+use Rattle.resolver_trying.specs.declared.place.Place.{Place}
 use Rattle.resolver_fetch.specs.Queues.{AreApart, IsQueued, first_due, fresh_queue, joined, placed, retry_queue}
-use Rattle.resolver_fetch.specs.Waiting.{fresh_at, place_order, retry_at}
+use Rattle.resolver_trying.specs.Waiting.{fresh_at, place_order, retry_at}
 
 module _ {K : Type 0} where
   none-fresh : (retry : List (ℕ × K)) → fresh_queue (placed true retry) ≡ []

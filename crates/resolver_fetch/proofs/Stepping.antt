@@ -2,34 +2,35 @@
 use Rattle.std.proofs.Common.{◌≡◌, refl, ap, subst, ◌∙◌, sym, ℕ, zero, suc, ◌+◌, ◌^◌, Bool, true, false, List, [], ◌∷◌, ◌++◌, Option, None, Some, Result, Ok, Err, option_map, if◌then◌else◌}
 use Rattle.std.proofs.lemmas.List.{length-map}
 use Rattle.std.specs.List.{slice_get}
-use Rattle.std.specs.Prelude.{IfErr, OnOk, is_ok, nat_lt, sum}
+use Rattle.std.specs.Prelude.{IfErr, is_ok, nat_lt, sum}
 use Rattle.resolver_base.specs.declared.base.check.Check.TheVariants.{Clear, Until}
 use Rattle.resolver_base.specs.declared.base.fault.Fault.{Fault}
 use Rattle.resolver_base.specs.declared.base.fault.Fault.TheVariants.{OutOfMemory, OutOfRange, Unasked}
 use Rattle.resolver_request.specs.declared.score.Averages.{Averages}
-use Rattle.resolver_fetch.specs.declared.fetcher.scan.Answer.{Answer}
-use Rattle.resolver_fetch.specs.declared.fetcher.scan.Answer.TheVariants.{Drawn, Checked, Sent}
-use Rattle.resolver_fetch.specs.declared.fetcher.scan.Ask.TheVariants as asks
-use Rattle.resolver_fetch.specs.declared.fetcher.step.Step.{Step}
-use Rattle.resolver_fetch.specs.declared.fetcher.step.Step.TheVariants as steps
-use Rattle.resolver_fetch.specs.declared.fetcher.trail.Reason.{Reason}
-use Rattle.resolver_fetch.specs.declared.fetcher.trail.Try.{Try}
-use Rattle.resolver_fetch.specs.declared.fetcher.trail.Expected.{Expected}
-use Rattle.resolver_fetch.specs.declared.fetcher.trail.Expected.TheVariants.{Mode, ByWeight, ByPlace, Checking, FirstId, Sending}
+use Rattle.resolver_trying.specs.declared.scan.Answer.{Answer}
+use Rattle.resolver_trying.specs.declared.scan.Answer.TheVariants.{Drawn, Checked, Sent}
+use Rattle.resolver_trying.specs.declared.scan.Ask.TheVariants as asks
+use Rattle.resolver_trying.specs.declared.step.Step.{Step}
+use Rattle.resolver_trying.specs.declared.step.Step.TheVariants as steps
+use Rattle.resolver_trying.specs.declared.trail.Reason.{Reason}
+use Rattle.resolver_trying.specs.declared.trail.Try.{Try}
+use Rattle.resolver_trying.specs.declared.trail.Expected.{Expected}
+use Rattle.resolver_trying.specs.declared.trail.Expected.TheVariants.{Mode, ByWeight, ByPlace, Checking, FirstId, Sending}
 use Rattle.resolver_trees.specs.Choice.{chosen}
 use Rattle.resolver_request.specs.Modes.{means_weighted}
 use Rattle.resolver_request.specs.declared.requests.request.Request.{Request}
-use Rattle.resolver_fetch.specs.declared.fetcher.cursor.Cursor.{Cursor}
+use Rattle.resolver_trying.specs.declared.cursor.Cursor.{Cursor}
 use Rattle.resolver_fetch.specs.Cursor.{ExpectsNewId, TakesNewId, scan_of}
 use Rattle.resolver_fetch.specs.Fetcher.{Fetcher, answered as answered_with, question, scan_answer, scan_taken, snapshot, turned}
-use Rattle.resolver_fetch.specs.Orders.{Orders}
+use Rattle.resolver_trying.specs.Orders.{Orders}
 use Rattle.resolver_request.specs.Scores.{weight_of}
 use Rattle.resolver_fetch.specs.Seeking.{scan_at, tried_next}
-use Rattle.resolver_fetch.specs.Snapshot.{Snapshot}
-use Rattle.resolver_fetch.specs.Scan.{Scan, Turn, answered, by_place, by_weight, draws, left, goes_on_with, mode_of, next, question_for, question_of, sends, takes_for, weights}
-use Rattle.resolver_fetch.specs.Stepping.{after_all, after_step, and_then, ask_for, step_chosen, step_of, stepped}
-use Rattle.resolver_fetch.specs.Trying.{Trying, at_place, at_weight, trying_for, weighed, weights_of}
-use Rattle.resolver_fetch.specs.Waiting.{Waiting}
+use Rattle.resolver_trying.specs.Snapshot.{Snapshot}
+use Rattle.resolver_trying.specs.Scan.{Scan, Turn, answered, by_place, by_weight, draws, left, goes_on_with, mode_of, next, question_for, question_of, sends, takes_for, weights}
+use Rattle.resolver_fetch.specs.Stepping.{after_all, after_step}
+use Rattle.resolver_trying.specs.Steps.{and_then, ask_for, step_chosen, step_of, stepped}
+use Rattle.resolver_trying.specs.Trying.{Trying, at_place, at_weight, trying_for, weighed, weights_of}
+use Rattle.resolver_trying.specs.Waiting.{Waiting}
 
 module _ {P : Type 0} where
   get-weighed : (ps : List (P × Averages)) (n : ℕ) → option_map (λ p. p.0) (slice_get (weighed ps) n) ≡ option_map (λ p. p.0) (slice_get ps n)
@@ -234,10 +235,6 @@ module _ {K P : Type 0} (o : Orders K P) where
     new-of (Sending peer id) (Checked check) new = tt
     new-of (Sending peer id) (Sent true) new = new
     new-of (Sending peer id) (Sent false) new = tt
-
-pub onto-ok : {T E : Type 0} (r : Result T E) (A B : Type 0) → (A → B) → OnOk r A → OnOk r B
-onto-ok (Ok x) A B f a = f a
-onto-ok (Err e) A B f a = tt
 
 -- what is so anyway is so where memory is wanting
 pub if-memory : {T : Type 0} (r : Result T Fault) (A : Type 0) → A → IfErr r (λ fault. fault ≡ OutOfMemory → A)

@@ -5,17 +5,17 @@ use Rattle.std.specs.Prelude.{nat_lt, ⊤}
 use Rattle.resolver_base.specs.declared.base.check.Check.TheVariants.{Clear, Until}
 use Rattle.resolver_base.specs.declared.base.fault.Fault.{Fault}
 use Rattle.resolver_base.specs.declared.base.fault.Fault.TheVariants.{OutOfRange}
-use Rattle.resolver_fetch.specs.declared.fetcher.scan.Answer.{Answer}
-use Rattle.resolver_fetch.specs.declared.fetcher.scan.Answer.TheVariants.{Drawn, Checked, Sent}
-use Rattle.resolver_fetch.specs.declared.fetcher.trail.Expected.{Expected}
-use Rattle.resolver_fetch.specs.declared.fetcher.trail.Expected.TheVariants.{Mode, ByWeight, ByPlace, Checking, FirstId, Sending}
-use Rattle.resolver_fetch.specs.declared.fetcher.trail.Reason.{Reason}
-use Rattle.resolver_fetch.specs.declared.fetcher.trail.Reason.TheVariants.{Limited, Refused}
-use Rattle.resolver_fetch.specs.declared.fetcher.trail.Try.{Try}
-use Rattle.resolver_fetch.specs.Orders.{Orders, same_key, same_peer}
-use Rattle.resolver_fetch.specs.Waiting.{Waiting}
-use Rattle.resolver_fetch.specs.Snapshot.{Snapshot, eligible}
-use Rattle.resolver_fetch.specs.Scan.{Scan, Turn, answered, asks_for, begins, by_place, by_weight, clears, draws, fails, goes_on_with, left, next, sends, takes, takes_for, was_tried}
+use Rattle.resolver_trying.specs.declared.scan.Answer.{Answer}
+use Rattle.resolver_trying.specs.declared.scan.Answer.TheVariants.{Drawn, Checked, Sent}
+use Rattle.resolver_trying.specs.declared.trail.Expected.{Expected}
+use Rattle.resolver_trying.specs.declared.trail.Expected.TheVariants.{Mode, ByWeight, ByPlace, Checking, FirstId, Sending}
+use Rattle.resolver_trying.specs.declared.trail.Reason.{Reason}
+use Rattle.resolver_trying.specs.declared.trail.Reason.TheVariants.{Limited, Refused}
+use Rattle.resolver_trying.specs.declared.trail.Try.{Try}
+use Rattle.resolver_trying.specs.Orders.{Orders, same_key, same_peer}
+use Rattle.resolver_trying.specs.Waiting.{Waiting}
+use Rattle.resolver_trying.specs.Snapshot.{Snapshot, eligible}
+use Rattle.resolver_trying.specs.Scan.{Scan, Turn, answered, asks_for, begins, by_place, by_weight, clears, draws, fails, goes_on_with, left, next, sends, takes, takes_for, was_tried}
 use Rattle.resolver_fetch.specs.FetcherLaws.{AllAre, IsOnce}
 use Rattle.resolver_fetch.proofs.OneOf.{IsOneOf, by_place-among, by_weight-among, tested}
 

@@ -2,9 +2,9 @@
 use Rattle.std.proofs.Common.{◌≡◌, refl, ◌∙◌, sym, Bool, true, false, not, ◌&&◌, cond, List, [], ◌∷◌, length, None, Some, filter, arith}
 use Rattle.std.proofs.lemmas.Bool.{lt-ltb}
 use Rattle.std.specs.Prelude.{nat_lt, find}
-use Rattle.resolver_fetch.specs.Orders.{Orders}
-use Rattle.resolver_fetch.specs.Snapshot.{Snapshot, eligible}
-use Rattle.resolver_fetch.specs.Scan.{Scan, is_due, can_be_tried, next, left, was_tried}
+use Rattle.resolver_trying.specs.Orders.{Orders}
+use Rattle.resolver_trying.specs.Snapshot.{Snapshot, eligible}
+use Rattle.resolver_trying.specs.Scan.{Scan, is_due, can_be_tried, next, left, was_tried}
 use Rattle.resolver_fetch.specs.FetcherLaws.{AllAre, HasTriedAll, TriesAll}
 use Rattle.resolver_fetch.proofs.InVain.{goes-on, takes-in-vain}
 

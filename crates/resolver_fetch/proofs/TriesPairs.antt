@@ -1,13 +1,13 @@
 -- A scan tries pairs of a due key and an eligible peer alone, and none twice.
 use Rattle.std.proofs.Common.{◌≡◌, refl, subst, ℕ, Bool, true, false, not, ◌&&◌, List, [], ◌∷◌, ◌++◌, Option, Some, Result, Ok, Err}
 use Rattle.resolver_base.specs.declared.base.fault.Fault.{Fault}
-use Rattle.resolver_fetch.specs.declared.fetcher.scan.Answer.{Answer}
-use Rattle.resolver_fetch.specs.declared.fetcher.trail.Reason.{Reason}
-use Rattle.resolver_fetch.specs.declared.fetcher.trail.Try.{Try}
-use Rattle.resolver_fetch.specs.Orders.{Orders}
-use Rattle.resolver_fetch.specs.Waiting.{Waiting}
-use Rattle.resolver_fetch.specs.Snapshot.{Snapshot, eligible}
-use Rattle.resolver_fetch.specs.Scan.{Scan, Turn, begins, can_be_tried, is_due, left, next, takes, was_tried}
+use Rattle.resolver_trying.specs.declared.scan.Answer.{Answer}
+use Rattle.resolver_trying.specs.declared.trail.Reason.{Reason}
+use Rattle.resolver_trying.specs.declared.trail.Try.{Try}
+use Rattle.resolver_trying.specs.Orders.{Orders}
+use Rattle.resolver_trying.specs.Waiting.{Waiting}
+use Rattle.resolver_trying.specs.Snapshot.{Snapshot, eligible}
+use Rattle.resolver_trying.specs.Scan.{Scan, Turn, begins, can_be_tried, is_due, left, next, takes, was_tried}
 use Rattle.resolver_fetch.specs.FetcherLaws.{AllAre, IsOnce, IsPair, TriesPairs, after_answers, unless_refused}
 use Rattle.resolver_fetch.proofs.OneOf.{IsOneOf, among-filter, found-among, found-passes}
 use Rattle.resolver_fetch.proofs.Trails.{IsFine, IsFineAfter, all-snoc, begins-fine, grows-once, takes-fine}

@@ -5,16 +5,16 @@ use Rattle.std.specs.Prelude.{unwrap_or}
 use Rattle.resolver_base.specs.declared.base.fault.Fault.{Fault}
 use Rattle.resolver_request.specs.declared.requests.request.Request.{Request}
 use Rattle.resolver_request.specs.Times.{never}
-use Rattle.resolver_fetch.specs.declared.fetcher.place.Place.{Place}
-use Rattle.resolver_fetch.specs.declared.fetcher.scan.Answer.{Answer}
-use Rattle.resolver_fetch.specs.declared.fetcher.trail.Reason.{Reason}
-use Rattle.resolver_fetch.specs.declared.fetcher.trail.Reason.TheVariants.{Limited, Refused}
-use Rattle.resolver_fetch.specs.declared.fetcher.trail.Try.{Try}
-use Rattle.resolver_fetch.specs.Orders.{Orders}
-use Rattle.resolver_fetch.specs.Waiting.{Waiting, wake_up}
-use Rattle.resolver_fetch.specs.Snapshot.{Snapshot}
-use Rattle.resolver_fetch.specs.Scan as scans
-use Rattle.resolver_fetch.specs.Scan.{Scan, Turn, begins, ends, goes_on_with, is_due, least, least_until, limit_of, next, next_due, trail_moment, waiter_of}
+use Rattle.resolver_trying.specs.declared.place.Place.{Place}
+use Rattle.resolver_trying.specs.declared.scan.Answer.{Answer}
+use Rattle.resolver_trying.specs.declared.trail.Reason.{Reason}
+use Rattle.resolver_trying.specs.declared.trail.Reason.TheVariants.{Limited, Refused}
+use Rattle.resolver_trying.specs.declared.trail.Try.{Try}
+use Rattle.resolver_trying.specs.Orders.{Orders}
+use Rattle.resolver_trying.specs.Waiting.{Waiting, wake_up}
+use Rattle.resolver_trying.specs.Snapshot.{Snapshot}
+use Rattle.resolver_trying.specs.Scan as scans
+use Rattle.resolver_trying.specs.Scan.{Scan, Turn, begins, ends, goes_on_with, is_due, least, least_until, limit_of, next, next_due, trail_moment, waiter_of}
 use Rattle.resolver_fetch.specs.Fetcher.{Fetcher, answered, pending_deadline, scan_taken, snapshot, turned, weight, with_sent}
 use Rattle.resolver_fetch.specs.FetcherLaws.{AllAre, IsInVain, IsLaterIfAny, IsLaterLimit, KeepsWeights, WakesLater}
 use Rattle.resolver_fetch.proofs.InVain.{goes-on, takes-in-vain}

@@ -17,22 +17,22 @@ use Rattle.std.proofs.lemmas.Map.Made.{keys_of-map_values}
 use Rattle.resolver_request.specs.declared.score.Averages.{Averages}
 use Rattle.resolver_request.specs.declared.score.Averages.TheVariants.{Unobserved, Observed}
 use Rattle.resolver_request.specs.Scores.{Observation, averaged, weight_of}
-use Rattle.resolver_fetch.specs.declared.fetcher.trail.Try.{Try}
+use Rattle.resolver_trying.specs.declared.trail.Try.{Try}
 use Rattle.resolver_fetch.specs.Fetcher.{Fetcher, snapshot, targets_of}
-use Rattle.resolver_fetch.specs.Known.{Known, eligible, is_eligible}
-use Rattle.resolver_fetch.specs.Orders.{Orders, is_one_of}
-use Rattle.resolver_fetch.specs.Peers.{averages_in, observed}
-use Rattle.resolver_fetch.specs.Pools.{IsWhole, Pool, reweighed, weighing, weight_then, whole}
-use Rattle.resolver_fetch.specs.Scan.{was_tried}
+use Rattle.resolver_trying.specs.Known.{Known, eligible, is_eligible}
+use Rattle.resolver_trying.specs.Orders.{Orders, is_one_of}
+use Rattle.resolver_trying.specs.Peers.{averages_in, observed}
+use Rattle.resolver_trying.specs.Pools.{IsWhole, Pool, reweighed, weighing, weight_then, whole}
+use Rattle.resolver_trying.specs.Scan.{was_tried}
 use Rattle.resolver_fetch.specs.Seeking.{tried_next, trying_key}
-use Rattle.resolver_fetch.specs.Snapshot as snapshots
-use Rattle.resolver_fetch.specs.Tried.{peers_tried}
-use Rattle.resolver_fetch.specs.Trying.{Trying, apart_from, weighed, weights_of}
-use Rattle.resolver_fetch.specs.declared.fetcher.place.Place.{Place}
+use Rattle.resolver_trying.specs.Snapshot as snapshots
+use Rattle.resolver_trying.specs.Tried.{peers_tried}
+use Rattle.resolver_trying.specs.Trying.{Trying, apart_from, weighed, weights_of}
+use Rattle.resolver_trying.specs.declared.place.Place.{Place}
 use Rattle.resolver_fetch.proofs.Entries.{set_value-none}
-use Rattle.resolver_fetch.proofs.Pools.{some-weighs}
+use Rattle.resolver_trying.proofs.Pools.{some-weighs}
 use Rattle.resolver_fetch.proofs.Seeking.{seeks-in, weighed-filter}
-use Rattle.resolver_fetch.proofs.Tried.{equal-is, tried-one-of}
+use Rattle.resolver_trying.proofs.Tried.{equal-is, tried-one-of}
 
 least-some : (x y : ℕ) → 0 < x → 0 < min x (y + 1)
 least-some x y some = grind (arith, nat_tests, some)

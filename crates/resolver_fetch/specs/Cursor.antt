@@ -3,15 +3,15 @@ use Rattle.std.specs.Prelude.{◌≡◌, ℕ, ◌<◌, ◌^◌, false, List, [],
 use Rattle.std.specs.declared.cmp.Ordering.{Ordering}
 use Rattle.resolver_request.specs.declared.requests.request.Request.{Request}
 use Rattle.resolver_request.specs.Ids.{is_held}
-use Rattle.resolver_fetch.specs.declared.fetcher.cursor.Cursor.{Cursor}
-use Rattle.resolver_fetch.specs.declared.fetcher.place.Place.{Place}
-use Rattle.resolver_fetch.specs.declared.fetcher.step.Step.{Step}
-use Rattle.resolver_fetch.specs.declared.fetcher.step.Step.TheVariants as steps
-use Rattle.resolver_fetch.specs.declared.fetcher.trail.Expected.{Expected}
-use Rattle.resolver_fetch.specs.declared.fetcher.trail.Expected.TheVariants.{FirstId, Sending}
+use Rattle.resolver_trying.specs.declared.cursor.Cursor.{Cursor}
+use Rattle.resolver_trying.specs.declared.place.Place.{Place}
+use Rattle.resolver_trying.specs.declared.step.Step.{Step}
+use Rattle.resolver_trying.specs.declared.step.Step.TheVariants as steps
+use Rattle.resolver_trying.specs.declared.trail.Expected.{Expected}
+use Rattle.resolver_trying.specs.declared.trail.Expected.TheVariants.{FirstId, Sending}
 use Rattle.resolver_fetch.specs.Fetcher.{EachOnce, Fetcher, IsTimely}
-use Rattle.resolver_fetch.specs.Orders.{Orders}
-use Rattle.resolver_fetch.specs.Scan.{Scan}
+use Rattle.resolver_trying.specs.Orders.{Orders}
+use Rattle.resolver_trying.specs.Scan.{Scan}
 use Rattle.resolver_fetch.specs.Seeking.{tried_next}
 
 module _ {K P : Type 0} where

@@ -8,22 +8,22 @@ use Rattle.resolver_base.specs.declared.base.fault.Fault.{Fault}
 use Rattle.resolver_base.specs.declared.base.fault.Fault.TheVariants.{Unasked}
 use Rattle.resolver_priorities.specs.Priorities.{has_item, is_of, priorities_of, put, retained, without}
 use Rattle.resolver_request.specs.declared.score.Averages.{Averages}
-use Rattle.resolver_fetch.specs.declared.fetcher.config.Config.{Config}
-use Rattle.resolver_fetch.specs.declared.fetcher.place.Place.{Place}
+use Rattle.resolver_trying.specs.declared.config.Config.{Config}
+use Rattle.resolver_trying.specs.declared.place.Place.{Place}
 use Rattle.resolver_request.specs.declared.requests.request.Request.{Request}
-use Rattle.resolver_fetch.specs.declared.fetcher.scan.Answer.{Answer}
-use Rattle.resolver_fetch.specs.declared.fetcher.scan.Ask.{Ask}
-use Rattle.resolver_fetch.specs.declared.fetcher.scan.Ask.TheVariants as asks
+use Rattle.resolver_trying.specs.declared.scan.Answer.{Answer}
+use Rattle.resolver_trying.specs.declared.scan.Ask.{Ask}
+use Rattle.resolver_trying.specs.declared.scan.Ask.TheVariants as asks
 use Rattle.resolver_request.specs.Ids.{is_held}
-use Rattle.resolver_fetch.specs.Orders.{Orders}
+use Rattle.resolver_trying.specs.Orders.{Orders}
 use Rattle.resolver_request.specs.Times.{elapsed_since, charged}
-use Rattle.resolver_fetch.specs.Waiting.{Waiting, place_order, fresh_at, retry_at, once_more, wake_up}
+use Rattle.resolver_trying.specs.Waiting.{Waiting, place_order, fresh_at, retry_at, once_more, wake_up}
 use Rattle.resolver_request.specs.Requests.{ids_of, is_asked, soonest, overdue, matching, without_request}
-use Rattle.resolver_fetch.specs.Peers.{replaced, observed, with_targets, set_of}
-use Rattle.resolver_fetch.specs.Known.{weight_in}
-use Rattle.resolver_fetch.specs.Snapshot.{Snapshot, known}
-use Rattle.resolver_fetch.specs.Scan as scans
-use Rattle.resolver_fetch.specs.Scan.{Scan, Turn, is_over}
+use Rattle.resolver_trying.specs.Peers.{replaced, observed, with_targets, set_of}
+use Rattle.resolver_trying.specs.Known.{weight_in}
+use Rattle.resolver_trying.specs.Snapshot.{Snapshot, known}
+use Rattle.resolver_trying.specs.Scan as scans
+use Rattle.resolver_trying.specs.Scan.{Scan, Turn, is_over}
 
 -- A key is in one phase at most: it waits, or it is asked.
 pub record Fetcher (K P : Type 0) : Type 0 where

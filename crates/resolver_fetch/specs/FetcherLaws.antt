@@ -2,22 +2,22 @@
 use Rattle.std.specs.Prelude.{◌≡◌, ℕ, ◌<◌, ◌⊎◌, Bool, true, false, List, [], ◌∷◌, Option, None, Some, is_some, nat_lt, length, sum, Result, Ok, Err, ⊤}
 use Rattle.resolver_base.specs.declared.base.fault.Fault.{Fault}
 use Rattle.resolver_request.specs.declared.score.Averages.{Averages}
-use Rattle.resolver_fetch.specs.declared.fetcher.scan.Answer.{Answer}
-use Rattle.resolver_fetch.specs.declared.fetcher.scan.Answer.TheVariants.{Drawn}
-use Rattle.resolver_fetch.specs.declared.fetcher.scan.Ask.{Ask}
-use Rattle.resolver_fetch.specs.declared.fetcher.scan.Ask.TheVariants as asks
-use Rattle.resolver_fetch.specs.declared.fetcher.trail.Expected.{Expected}
-use Rattle.resolver_fetch.specs.declared.fetcher.trail.Expected.TheVariants.{Mode, ByWeight, ByPlace, Checking}
-use Rattle.resolver_fetch.specs.declared.fetcher.trail.Reason.{Reason}
-use Rattle.resolver_fetch.specs.declared.fetcher.trail.Reason.TheVariants.{Limited, Refused}
-use Rattle.resolver_fetch.specs.declared.fetcher.trail.Try.{Try}
+use Rattle.resolver_trying.specs.declared.scan.Answer.{Answer}
+use Rattle.resolver_trying.specs.declared.scan.Answer.TheVariants.{Drawn}
+use Rattle.resolver_trying.specs.declared.scan.Ask.{Ask}
+use Rattle.resolver_trying.specs.declared.scan.Ask.TheVariants as asks
+use Rattle.resolver_trying.specs.declared.trail.Expected.{Expected}
+use Rattle.resolver_trying.specs.declared.trail.Expected.TheVariants.{Mode, ByWeight, ByPlace, Checking}
+use Rattle.resolver_trying.specs.declared.trail.Reason.{Reason}
+use Rattle.resolver_trying.specs.declared.trail.Reason.TheVariants.{Limited, Refused}
+use Rattle.resolver_trying.specs.declared.trail.Try.{Try}
 use Rattle.resolver_trees.specs.Choice.{count_below}
 use Rattle.resolver_request.specs.Scores.{weight_of}
 use Rattle.resolver_request.specs.Times.{never}
-use Rattle.resolver_fetch.specs.Orders.{Orders, same_peer}
-use Rattle.resolver_fetch.specs.Waiting.{Waiting}
-use Rattle.resolver_fetch.specs.Snapshot.{Snapshot, eligible}
-use Rattle.resolver_fetch.specs.Scan.{Scan, Turn, is_over, is_due, was_tried, least_until, weights, by_weight, by_place, left, begins, answered, takes, question_for, question}
+use Rattle.resolver_trying.specs.Orders.{Orders, same_peer}
+use Rattle.resolver_trying.specs.Waiting.{Waiting}
+use Rattle.resolver_trying.specs.Snapshot.{Snapshot, eligible}
+use Rattle.resolver_trying.specs.Scan.{Scan, Turn, is_over, is_due, was_tried, least_until, weights, by_weight, by_place, left, begins, answered, takes, question_for, question}
 use Rattle.resolver_fetch.specs.Fetcher.{Fetcher, pending_deadline, scan_begin, scan_answer, snapshot, turned, weight}
 
 -- each of these is so

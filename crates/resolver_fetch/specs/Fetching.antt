@@ -3,14 +3,14 @@ use Rattle.std.specs.Prelude.{◌≡◌, ℕ, ◌⊎◌, Bool, List, [], ◌∷�
 use Rattle.resolver_base.specs.Sending.{is_accepted}
 use Rattle.resolver_base.specs.declared.base.check.Check.{Check}
 use Rattle.resolver_base.specs.declared.base.unreliable.Unreliable.{Unreliable}
-use Rattle.resolver_fetch.specs.declared.fetcher.scan.Answer.{Answer}
-use Rattle.resolver_fetch.specs.declared.fetcher.scan.Answer.TheVariants.{Drawn, Checked, Sent}
-use Rattle.resolver_fetch.specs.declared.fetcher.scan.Ask.{Ask}
-use Rattle.resolver_fetch.specs.declared.fetcher.scan.Ask.TheVariants as asks
+use Rattle.resolver_trying.specs.declared.scan.Answer.{Answer}
+use Rattle.resolver_trying.specs.declared.scan.Answer.TheVariants.{Drawn, Checked, Sent}
+use Rattle.resolver_trying.specs.declared.scan.Ask.{Ask}
+use Rattle.resolver_trying.specs.declared.scan.Ask.TheVariants as asks
 use Rattle.resolver_request.specs.declared.wire.Message.{Message}
 use Rattle.resolver_request.specs.declared.wire.Payload.TheVariants.{Request}
 use Rattle.resolver_fetch.specs.Fetcher.{Fetcher, question, scan_answer, scan_begin}
-use Rattle.resolver_fetch.specs.Orders.{Orders}
+use Rattle.resolver_trying.specs.Orders.{Orders}
 use Rattle.resolver_request.specs.Spelling.{spelling}
 
 -- what is outside of a fetcher: how keys are spelled, and what a sender and draws may say, with what they are then

@@ -1,12 +1,12 @@
 -- The peers that a scan draws from for a waiting key.
 use Rattle.std.specs.Prelude.{not, List, filter, Option}
-use Rattle.resolver_fetch.specs.declared.fetcher.trail.Try.{Try}
+use Rattle.resolver_trying.specs.declared.trail.Try.{Try}
 use Rattle.resolver_fetch.specs.Fetcher.{Fetcher, snapshot, targets_of}
-use Rattle.resolver_fetch.specs.Orders.{Orders}
-use Rattle.resolver_fetch.specs.Pools.{IsWhole, Pool, whole}
-use Rattle.resolver_fetch.specs.Scan.{was_tried}
-use Rattle.resolver_fetch.specs.Snapshot.{eligible, known}
-use Rattle.resolver_fetch.specs.Trying.{weighed}
+use Rattle.resolver_trying.specs.Orders.{Orders}
+use Rattle.resolver_trying.specs.Pools.{IsWhole, Pool, whole}
+use Rattle.resolver_trying.specs.Scan.{was_tried}
+use Rattle.resolver_trying.specs.Snapshot.{eligible, known}
+use Rattle.resolver_trying.specs.Trying.{weighed}
 
 module _ {K P : Type 0} (o : Orders K P) where
   -- the peers that may be asked for a key, and of them those that were not tried, with what they weigh

@@ -1,13 +1,5 @@
-pub mod Orders
-pub mod Waiting
-pub mod Peers
-pub mod Known
-pub mod Snapshot
-pub mod Scan
 pub mod Queues
 pub mod Pending
-pub mod Tried
-pub mod Trying
 pub mod Fetcher
 pub mod Seeking
 pub mod Stepping
@@ -16,5 +8,4 @@ pub mod Fetching
 pub mod FetcherRows
 pub mod FetcherLaws
 pub mod Cursor
-pub mod Pools
 pub mod Left

@@ -6,10 +6,10 @@ use Rattle.std.specs.declared.cmp.Ordering.{Ordering}
 use Rattle.resolver_priorities.specs.Priorities.{after, put, retained, without}
 use Rattle.resolver_fetch.specs.declared.fetcher.pending.Waiter.{Waiter}
 use Rattle.resolver_fetch.specs.declared.fetcher.pending.Waiter.TheVariants.{Clear, Later}
-use Rattle.resolver_fetch.specs.declared.fetcher.place.Place.{Place}
+use Rattle.resolver_trying.specs.declared.place.Place.{Place}
 use Rattle.resolver_request.specs.Times.{never}
-use Rattle.resolver_fetch.specs.Waiting.{place_order}
-use Rattle.resolver_fetch.specs.Scan.{least}
+use Rattle.resolver_trying.specs.Waiting.{place_order}
+use Rattle.resolver_trying.specs.Scan.{least}
 
 pub record Pending (K : Type 0) : Type 0 where
   -- where the waiting keys stand, in their order

@@ -1,16 +1,16 @@
 -- How a fetcher finds what a scan tries next, and when a scan in vain may be begun again.
 use Rattle.std.specs.Prelude.{ℕ, false, not, nat_le, nat_lt, List, length, map, Option, None, Some, option_map, filter, find}
 use Rattle.resolver_priorities.specs.Priorities.{after}
-use Rattle.resolver_fetch.specs.declared.fetcher.place.Place.{Place}
-use Rattle.resolver_fetch.specs.declared.fetcher.trail.Try.{Try}
-use Rattle.resolver_fetch.specs.declared.fetcher.trying.Next.{Next}
-use Rattle.resolver_fetch.specs.declared.fetcher.trying.Next.TheVariants.{Try as Tries, Wait}
-use Rattle.resolver_fetch.specs.Orders.{Orders}
-use Rattle.resolver_fetch.specs.Known.{Known}
-use Rattle.resolver_fetch.specs.Snapshot.{eligible}
-use Rattle.resolver_fetch.specs.Scan.{Scan, can_be_tried, trail_moment, was_tried}
-use Rattle.resolver_fetch.specs.Trying.{Trying, weighed, trying, trying_for}
-use Rattle.resolver_fetch.specs.Waiting.{place_order}
+use Rattle.resolver_trying.specs.declared.place.Place.{Place}
+use Rattle.resolver_trying.specs.declared.trail.Try.{Try}
+use Rattle.resolver_trying.specs.declared.trying.Next.{Next}
+use Rattle.resolver_trying.specs.declared.trying.Next.TheVariants.{Try as Tries, Wait}
+use Rattle.resolver_trying.specs.Orders.{Orders}
+use Rattle.resolver_trying.specs.Known.{Known}
+use Rattle.resolver_trying.specs.Snapshot.{eligible}
+use Rattle.resolver_trying.specs.Scan.{Scan, can_be_tried, trail_moment, was_tried}
+use Rattle.resolver_trying.specs.Trying.{Trying, weighed, trying, trying_for}
+use Rattle.resolver_trying.specs.Waiting.{place_order}
 use Rattle.resolver_fetch.specs.Fetcher.{Fetcher, opening, retries_of, snapshot, targets_of, waiting_of}
 
 -- a scan that tried this so far

@@ -4,21 +4,12 @@
 //! request for it; then it is asked, until a response, word that the data is missing, or its time
 //! ends that. A scan is driven by questions and answers: what an `Ask` asks, an `Answer` answers.
 
-pub mod config;
-mod cursor;
 mod fetching;
 pub mod laws;
 mod peers;
 mod pending;
-pub mod place;
-mod pool;
 mod queues;
-pub mod scan;
 mod scanning;
-mod step;
-mod targets;
-mod trail;
-mod trying;
 
 ghost use Rattle.std.specs.Prelude.{◌≡◌, Bool, false, ◌<◌, ◌^◌, [], length, is_some, option_map, unwrap_or, IfErr, IfSome, OnErr, OnOk};
 ghost use Rattle.std.specs.Option.{option_copied};
@@ -30,27 +21,28 @@ ghost use Rattle.resolver_priorities.specs.Priorities.{has_item};
 ghost use Rattle.resolver_base.specs.declared.base.fault.Fault.TheVariants.{OutOfMemory};
 ghost use Rattle.resolver_fetch.specs.Fetcher as calls;
 ghost use Rattle.resolver_fetch.specs.Fetcher.{EachOnce, IsTimely, opening};
-ghost use Rattle.resolver_fetch.specs.Orders.{orders};
-ghost use Rattle.resolver_fetch.specs.Peers.{with_targets};
+ghost use Rattle.resolver_trying.specs.Orders.{orders};
+ghost use Rattle.resolver_trying.specs.Peers.{with_targets};
 ghost use Rattle.resolver_fetch.specs.Pending.{with_key};
 ghost use Rattle.resolver_fetch.specs.Queues.{IsQueued, fresh_queue, retry_queue};
 ghost use Rattle.resolver_request.specs.Requests.{is_asked, request_for};
 ghost use Rattle.resolver_request.specs.Times.{charged, elapsed_since};
-ghost use Rattle.resolver_fetch.specs.Waiting.{once_more};
+ghost use Rattle.resolver_trying.specs.Waiting.{once_more};
 
-use crate::fetcher::cursor::Cursor;
 use crate::fetcher::peers::Peers;
 use crate::fetcher::pending::Pending;
-use crate::fetcher::targets::Targets;
-pub use config::Config;
-pub use place::Place;
 use resolver_base::base::Fault;
 use resolver_priorities::PrioritySet;
 use resolver_request::requests::Requests;
 pub use resolver_request::requests::{ID, Request};
 use resolver_request::score::DURATION_MAX;
 use resolver_root::NonEmptyVec;
-pub use scan::{Answer, Ask};
+pub use resolver_trying::config::Config;
+use resolver_trying::cursor::Cursor;
+pub use resolver_trying::place::Place;
+pub use resolver_trying::scan::{Answer, Ask};
+use resolver_trying::targets::Targets;
+pub use resolver_trying::{config, place, scan};
 use std::alloc::{AllocError, Global};
 use std::collections::BTreeMap;
 use std::marker::Model;
@@ -91,7 +83,7 @@ impl<K: Ord, P: Ord> Model for Fetcher<K, P> {
     ghost use Rattle.std.specs.Prelude.{IfSome, option_map};
     ghost use Rattle.resolver_fetch.specs.Cursor.{IsKept, IsRight, scan_of};
     ghost use Rattle.resolver_fetch.specs.Fetcher.{Fetcher};
-    ghost use Rattle.resolver_fetch.specs.Orders.{orders};
+    ghost use Rattle.resolver_trying.specs.Orders.{orders};
     ghost use Rattle.resolver_fetch.specs.Seeking.{searched};
 
     ghost Value = { Fetcher K P };

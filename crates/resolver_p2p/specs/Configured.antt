@@ -1,5 +1,5 @@
 -- What an engine's configuration says of its fetcher.
-use Rattle.resolver_fetch.specs.declared.fetcher.config.Config.{Config as Fetching}
+use Rattle.resolver_trying.specs.declared.config.Config.{Config as Fetching}
 use Rattle.resolver_p2p.specs.declared.config.Config.{Config}
 
 -- how requests are made

@@ -16,13 +16,13 @@ use Rattle.resolver_request.specs.declared.requests.request.Request.{Request}
 use Rattle.resolver_request.specs.Requests.{overdue}
 use Rattle.resolver_request.specs.declared.wire.Payload.{Payload}
 use Rattle.resolver_request.specs.declared.wire.Payload.TheVariants as payloads
-use Rattle.resolver_fetch.specs.declared.fetcher.place.Place.{Place}
-use Rattle.resolver_fetch.specs.declared.fetcher.scan.Answer.TheVariants.{Sent}
-use Rattle.resolver_fetch.specs.declared.fetcher.scan.Ask.TheVariants as asks
-use Rattle.resolver_fetch.specs.declared.fetcher.trail.Expected.{Expected}
-use Rattle.resolver_fetch.specs.declared.fetcher.trail.Expected.TheVariants.{Mode, ByWeight, ByPlace, Checking, FirstId, Sending}
-use Rattle.resolver_fetch.specs.Scan.{Scan, Turn, can_be_tried, goes_on_with, is_over, next, question_of, succeeds, takes, takes_for}
-use Rattle.resolver_fetch.specs.Waiting.{Waiting, in_order, once_more, retry_at, waiting_order}
+use Rattle.resolver_trying.specs.declared.place.Place.{Place}
+use Rattle.resolver_trying.specs.declared.scan.Answer.TheVariants.{Sent}
+use Rattle.resolver_trying.specs.declared.scan.Ask.TheVariants as asks
+use Rattle.resolver_trying.specs.declared.trail.Expected.{Expected}
+use Rattle.resolver_trying.specs.declared.trail.Expected.TheVariants.{Mode, ByWeight, ByPlace, Checking, FirstId, Sending}
+use Rattle.resolver_trying.specs.Scan.{Scan, Turn, can_be_tried, goes_on_with, is_over, next, question_of, succeeds, takes, takes_for}
+use Rattle.resolver_trying.specs.Waiting.{Waiting, in_order, once_more, retry_at, waiting_order}
 use Rattle.resolver_fetch.specs.FetcherLaws.{IsAmong}
 use Rattle.resolver_fetch.proofs.OneOf.{found-among}
 use Rattle.resolver_machine.specs.declared.ruling.Ruling.{Ruling}

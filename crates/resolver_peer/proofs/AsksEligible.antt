@@ -6,15 +6,15 @@ use Rattle.resolver_base.specs.declared.base.fault.Fault.{Fault}
 use Rattle.resolver_root.specs.declared.root.Outcome.{Outcome}
 use Rattle.resolver_root.specs.declared.root.Outcome.TheVariants.{Invalid, Resolved, Unresolved, Ignored}
 use Rattle.resolver_root.specs.Subscribers.{without}
-use Rattle.resolver_fetch.specs.Waiting.{Waiting}
+use Rattle.resolver_trying.specs.Waiting.{Waiting}
 use Rattle.resolver_request.specs.declared.requests.request.Request.{Request}
 use Rattle.resolver_request.specs.Requests.{overdue}
-use Rattle.resolver_fetch.specs.declared.fetcher.trail.Try.{Try}
-use Rattle.resolver_fetch.specs.Snapshot.{Snapshot, eligible}
-use Rattle.resolver_fetch.specs.declared.fetcher.trail.Expected.{Expected}
-use Rattle.resolver_fetch.specs.declared.fetcher.trail.Expected.TheVariants.{Mode, ByWeight, ByPlace, Checking, FirstId, Sending}
-use Rattle.resolver_fetch.specs.declared.fetcher.trail.Reason.{Reason}
-use Rattle.resolver_fetch.specs.Scan.{Scan, Turn, next, left, takes, begins, question_of, is_over, can_be_tried}
+use Rattle.resolver_trying.specs.declared.trail.Try.{Try}
+use Rattle.resolver_trying.specs.Snapshot.{Snapshot, eligible}
+use Rattle.resolver_trying.specs.declared.trail.Expected.{Expected}
+use Rattle.resolver_trying.specs.declared.trail.Expected.TheVariants.{Mode, ByWeight, ByPlace, Checking, FirstId, Sending}
+use Rattle.resolver_trying.specs.declared.trail.Reason.{Reason}
+use Rattle.resolver_trying.specs.Scan.{Scan, Turn, next, left, takes, begins, question_of, is_over, can_be_tried}
 use Rattle.resolver_request.specs.declared.wire.Payload.{Payload}
 use Rattle.resolver_request.specs.declared.wire.Payload.TheVariants as payloads
 use Rattle.resolver_machine.specs.declared.ruling.Ruling.{Ruling}

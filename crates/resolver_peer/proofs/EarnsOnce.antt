@@ -16,9 +16,9 @@ use Rattle.resolver_root.specs.declared.root.Resolution.TheVariants.{Complete, P
 use Rattle.resolver_peer.specs.Parties.{Parties, orders_of}
 use Rattle.resolver_peer.specs.PeerRows.{Row, Phase, Waits, Asked, Judged}
 use Rattle.resolver_request.specs.declared.requests.request.Request.{Request}
-use Rattle.resolver_fetch.specs.declared.fetcher.scan.Ask.{Ask as Question}
-use Rattle.resolver_fetch.specs.Scan as scans
-use Rattle.resolver_fetch.specs.Scan.{Turn, Scan, is_over}
+use Rattle.resolver_trying.specs.declared.scan.Ask.{Ask as Question}
+use Rattle.resolver_trying.specs.Scan as scans
+use Rattle.resolver_trying.specs.Scan.{Turn, Scan, is_over}
 use Rattle.resolver_request.specs.declared.wire.Payload.{Payload}
 use Rattle.resolver_request.specs.declared.wire.Payload.TheVariants as payloads
 use Rattle.resolver_machine.specs.declared.ruling.Ruling.{Ruling}

@@ -17,10 +17,10 @@ use Rattle.resolver_request.specs.declared.requests.request.Request.{Request}
 use Rattle.resolver_request.specs.Requests.{overdue, if_of}
 use Rattle.resolver_request.specs.Requests as requests
 use Rattle.resolver_fetch.specs.FetcherLaws.{AllAre}
-use Rattle.resolver_fetch.specs.declared.fetcher.scan.Answer.{Answer}
-use Rattle.resolver_fetch.specs.declared.fetcher.scan.Ask.{Ask as Question}
-use Rattle.resolver_fetch.specs.Scan as scans
-use Rattle.resolver_fetch.specs.Scan.{Turn, is_over}
+use Rattle.resolver_trying.specs.declared.scan.Answer.{Answer}
+use Rattle.resolver_trying.specs.declared.scan.Ask.{Ask as Question}
+use Rattle.resolver_trying.specs.Scan as scans
+use Rattle.resolver_trying.specs.Scan.{Turn, is_over}
 use Rattle.resolver_machine.specs.declared.ruling.Ruling.{Ruling}
 use Rattle.resolver_machine.specs.declared.ruling.Ruling.TheVariants as rulings
 use Rattle.resolver_machine.specs.Verdicts.{ruling}

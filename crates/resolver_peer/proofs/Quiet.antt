@@ -7,15 +7,15 @@ use Rattle.resolver_base.specs.declared.base.check.Check.TheVariants.{Clear, Unt
 use Rattle.resolver_base.specs.declared.base.fault.Fault.{Fault}
 use Rattle.resolver_base.specs.declared.base.fault.Fault.TheVariants.{OutOfRange}
 use Rattle.resolver_request.specs.Times.{never}
-use Rattle.resolver_fetch.specs.declared.fetcher.scan.Answer.{Answer}
-use Rattle.resolver_fetch.specs.declared.fetcher.scan.Answer.TheVariants.{Drawn, Checked, Sent}
-use Rattle.resolver_fetch.specs.declared.fetcher.trail.Expected.{Expected}
-use Rattle.resolver_fetch.specs.declared.fetcher.trail.Expected.TheVariants.{Mode, ByWeight, ByPlace, Checking, FirstId, Sending}
-use Rattle.resolver_fetch.specs.declared.fetcher.trail.Reason.TheVariants.{Limited, Refused}
-use Rattle.resolver_fetch.specs.Waiting.{Waiting}
-use Rattle.resolver_fetch.specs.Snapshot.{Snapshot, eligible}
-use Rattle.resolver_fetch.specs.Scan as scans
-use Rattle.resolver_fetch.specs.Scan.{Scan, Turn, answered, asks_for, begins, by_place, by_weight, clears, draws, ends, goes_on, goes_on_with, least, left, next, next_due, sends, takes, takes_for, trail_moment, waiter_of, was_tried}
+use Rattle.resolver_trying.specs.declared.scan.Answer.{Answer}
+use Rattle.resolver_trying.specs.declared.scan.Answer.TheVariants.{Drawn, Checked, Sent}
+use Rattle.resolver_trying.specs.declared.trail.Expected.{Expected}
+use Rattle.resolver_trying.specs.declared.trail.Expected.TheVariants.{Mode, ByWeight, ByPlace, Checking, FirstId, Sending}
+use Rattle.resolver_trying.specs.declared.trail.Reason.TheVariants.{Limited, Refused}
+use Rattle.resolver_trying.specs.Waiting.{Waiting}
+use Rattle.resolver_trying.specs.Snapshot.{Snapshot, eligible}
+use Rattle.resolver_trying.specs.Scan as scans
+use Rattle.resolver_trying.specs.Scan.{Scan, Turn, answered, asks_for, begins, by_place, by_weight, clears, draws, ends, goes_on, goes_on_with, least, left, next, next_due, sends, takes, takes_for, trail_moment, waiter_of, was_tried}
 use Rattle.resolver_fetch.specs.FetcherLaws.{AllAre, HasTriedAll, IsAmong, IsInVain, IsLaterIfAny}
 use Rattle.resolver_fetch.proofs.InVain.{goes-on, takes-in-vain}
 use Rattle.resolver_fetch.proofs.OneOf.{IsOneOf}

@@ -13,9 +13,9 @@ use Rattle.resolver_request.specs.declared.requests.request.Request.{Request}
 use Rattle.resolver_request.specs.Requests.{overdue}
 use Rattle.resolver_request.specs.declared.wire.Payload.{Payload}
 use Rattle.resolver_request.specs.declared.wire.Payload.TheVariants as payloads
-use Rattle.resolver_fetch.specs.Known.{is_eligible}
-use Rattle.resolver_fetch.specs.Snapshot.{eligible, known}
-use Rattle.resolver_fetch.specs.Waiting.{Waiting, in_order}
+use Rattle.resolver_trying.specs.Known.{is_eligible}
+use Rattle.resolver_trying.specs.Snapshot.{eligible, known}
+use Rattle.resolver_trying.specs.Waiting.{Waiting, in_order}
 use Rattle.resolver_fetch.specs.FetcherLaws.{IsAmong}
 use Rattle.resolver_fetch.proofs.OneOf.{IsOneOf}
 use Rattle.resolver_machine.specs.declared.ruling.Ruling.{Ruling}

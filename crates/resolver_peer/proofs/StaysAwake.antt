@@ -12,11 +12,11 @@ use Rattle.std.specs.declared.cmp.Ordering.{Ordering}
 use Rattle.std.specs.declared.cmp.Ordering.TheVariants.{Less, Equal, Greater}
 use Rattle.resolver_base.specs.declared.base.fault.Fault.{Fault}
 use Rattle.resolver_request.specs.declared.requests.request.Request.{Request}
-use Rattle.resolver_fetch.specs.declared.fetcher.place.Place.{Place}
-use Rattle.resolver_fetch.specs.Waiting as waits
-use Rattle.resolver_fetch.specs.Waiting.{Waiting, in_order, waiting_order, place_order}
-use Rattle.resolver_fetch.specs.Snapshot.{eligible}
-use Rattle.resolver_fetch.specs.Scan.{Scan, Turn, begins, is_over, takes, trail_moment, was_tried}
+use Rattle.resolver_trying.specs.declared.place.Place.{Place}
+use Rattle.resolver_trying.specs.Waiting as waits
+use Rattle.resolver_trying.specs.Waiting.{Waiting, in_order, waiting_order, place_order}
+use Rattle.resolver_trying.specs.Snapshot.{eligible}
+use Rattle.resolver_trying.specs.Scan.{Scan, Turn, begins, is_over, takes, trail_moment, was_tried}
 use Rattle.resolver_fetch.specs.FetcherLaws.{AllAre, IsAmong}
 use Rattle.resolver_peer.specs.Parties.{Parties, orders_of}
 use Rattle.resolver_peer.specs.PeerRows.{Row, Phase, Waits, Asked, Judged, waiting_in, waiting_of}

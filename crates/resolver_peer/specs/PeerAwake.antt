@@ -1,8 +1,8 @@
 -- Whether a machine that sleeps until its wake-up leaves a key behind that could be asked for.
 use Rattle.std.specs.Prelude.{◌≡◌, ℕ, ◌≤◌, Bool, true, false, not, ◌&&◌, ◌||◌, nat_le}
 use Rattle.std.specs.List.{list_any, list_all}
-use Rattle.resolver_fetch.specs.Snapshot.{eligible}
-use Rattle.resolver_fetch.specs.Scan.{trail_moment, was_tried}
+use Rattle.resolver_trying.specs.Snapshot.{eligible}
+use Rattle.resolver_trying.specs.Scan.{trail_moment, was_tried}
 use Rattle.resolver_peer.specs.Parties.{Parties, orders_of}
 use Rattle.resolver_peer.specs.Peer.{Machine, snapshot, wake_up, is_due}
 

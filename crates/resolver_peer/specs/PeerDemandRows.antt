@@ -7,7 +7,7 @@ use Rattle.resolver_root.specs.declared.root.Outcome.TheVariants.{Resolved, Inva
 use Rattle.resolver_root.specs.declared.root.Resolution.TheVariants.{Complete}
 use Rattle.resolver_root.specs.Demand.{Pair, all_pairs_of}
 use Rattle.resolver_request.specs.declared.wire.Payload.TheVariants as payloads
-use Rattle.resolver_fetch.specs.declared.fetcher.scan.Answer.TheVariants.{Drawn, Checked, Sent}
+use Rattle.resolver_trying.specs.declared.scan.Answer.TheVariants.{Drawn, Checked, Sent}
 use Rattle.resolver_machine.specs.Account.{pairs, nothing_asked, account_of}
 use Rattle.resolver_peer.specs.Parties.{Parties, parties, names_of}
 use Rattle.resolver_peer.specs.Peer.{Machine, Event, Happens, Answers, Fetch, Retain, PeerSet, ActiveDue, PendingDue, Verdict, Net, End, opening}

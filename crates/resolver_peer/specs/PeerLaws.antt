@@ -5,12 +5,12 @@ use Rattle.std.specs.Ordering.{is_eq}
 use Rattle.resolver_base.specs.declared.base.fault.Fault.{Fault}
 use Rattle.resolver_root.specs.Demand.{all_pairs_of, IsSameDemand}
 use Rattle.resolver_request.specs.declared.score.Averages.{Averages}
-use Rattle.resolver_fetch.specs.declared.fetcher.config.Config.{Config}
-use Rattle.resolver_fetch.specs.declared.fetcher.scan.Ask.TheVariants as asks
+use Rattle.resolver_trying.specs.declared.config.Config.{Config}
+use Rattle.resolver_trying.specs.declared.scan.Ask.TheVariants as asks
 use Rattle.resolver_request.specs.Ids.{is_held}
-use Rattle.resolver_fetch.specs.declared.fetcher.scan.Answer.TheVariants.{Sent}
-use Rattle.resolver_fetch.specs.Waiting.{Waiting, once_more, retry_at}
-use Rattle.resolver_fetch.specs.Snapshot.{eligible}
+use Rattle.resolver_trying.specs.declared.scan.Answer.TheVariants.{Sent}
+use Rattle.resolver_trying.specs.Waiting.{Waiting, once_more, retry_at}
+use Rattle.resolver_trying.specs.Snapshot.{eligible}
 use Rattle.resolver_fetch.specs.FetcherLaws.{AllAre, IsAmong, IsOnce}
 use Rattle.resolver_machine.specs.Account.{Change, Handed, pairs, nothing_asked, account_of}
 use Rattle.resolver_machine.specs.Lawful.{Each, IsLawful}

@@ -1,8 +1,8 @@
 -- One map from each demanded key to its subscribers, its targets, its retries and its phase.
 use Rattle.std.specs.Prelude.{ℕ, Bool, List, [], ◌∷◌, Option, None, Some, if◌then◌else◌}
-use Rattle.resolver_fetch.specs.declared.fetcher.place.Place.{Place}
+use Rattle.resolver_trying.specs.declared.place.Place.{Place}
 use Rattle.resolver_request.specs.declared.requests.request.Request.{Request}
-use Rattle.resolver_fetch.specs.Waiting.{Waiting}
+use Rattle.resolver_trying.specs.Waiting.{Waiting}
 use Rattle.resolver_peer.specs.declared.named.Source.{Source}
 
 -- a response at its consumer, under the number of the delivery in progress. `accepted`: it was judged Complete before

@@ -9,9 +9,9 @@ use Rattle.resolver_root.specs.declared.root.Resolution.TheVariants.{Complete}
 use Rattle.resolver_request.specs.declared.wire.Message.{Message}
 use Rattle.resolver_request.specs.declared.wire.Payload.TheVariants as payloads
 use Rattle.resolver_request.specs.declared.requests.request.Request.{Request}
-use Rattle.resolver_fetch.specs.declared.fetcher.scan.Answer.TheVariants.{Drawn, Checked, Sent}
-use Rattle.resolver_fetch.specs.declared.fetcher.scan.Ask.TheVariants as asks
-use Rattle.resolver_fetch.specs.Waiting.{fresh_at, retry_at}
+use Rattle.resolver_trying.specs.declared.scan.Answer.TheVariants.{Drawn, Checked, Sent}
+use Rattle.resolver_trying.specs.declared.scan.Ask.TheVariants as asks
+use Rattle.resolver_trying.specs.Waiting.{fresh_at, retry_at}
 use Rattle.resolver_machine.specs.Account.{Handed}
 use Rattle.resolver_peer.specs.Parties.{Parties, parties}
 use Rattle.resolver_peer.specs.declared.named.Source.{Source}

@@ -3,8 +3,8 @@ use Rattle.std.specs.Prelude.{◌≡◌, ℕ, Bool, true, false, not, is_none, �
 use Rattle.std.specs.Map.{lookup}
 use Rattle.resolver_base.specs.declared.base.fault.Fault.{Fault}
 use Rattle.resolver_request.specs.Requests.{overdue}
-use Rattle.resolver_fetch.specs.Scan as scans
-use Rattle.resolver_fetch.specs.Scan.{is_over}
+use Rattle.resolver_trying.specs.Scan as scans
+use Rattle.resolver_trying.specs.Scan.{is_over}
 use Rattle.resolver_machine.specs.Steps as steps
 use Rattle.resolver_peer.specs.Parties.{Parties, orders_of}
 use Rattle.resolver_peer.specs.Peer.{Machine, Event, ActiveDue, PendingDue, Verdict, Served, Input, Happens, Answers, Effect, Running, Failed, snapshot, wake_up, is_due, step}

@@ -4,7 +4,7 @@ ghost use Rattle.std.specs.Prelude.{◌≡◌, ◌<◌, ◌^◌, false, Some, No
 ghost use Rattle.resolver_base.specs.declared.base.fault.Fault.TheVariants.{OutOfMemory};
 ghost use Rattle.resolver_fetch.specs.Fetcher.{question};
 ghost use Rattle.resolver_fetch.specs.Fetching.{Fetches, GoesOn, MaySay, Says, Stops, TakesOne, Wants, given_up, lent, outside, request_of};
-ghost use Rattle.resolver_fetch.specs.Orders.{orders};
+ghost use Rattle.resolver_trying.specs.Orders.{orders};
 ghost use Rattle.resolver_fetch.specs.Progress.{Fits, IsAnswerable, IsSound, Keeps, answers_left};
 ghost use Rattle.resolver_request.specs.Spelling.{spelling};
 

@@ -4,7 +4,7 @@
 ghost use Rattle.resolver_fetch.specs.FetcherRows.{BlockedTarget, FirstRequest, MissingAndRetry, NextIds, RefusedSends, TwoQueues, WakeUp};
 ghost use Rattle.resolver_fetch.specs.FetcherLaws.{ChoosesBelow, DrawCounts, KeepsWeights, NeedsPairs, TriesAll, TriesPairs, WakesLater};
 ghost use Rattle.resolver_fetch.specs.Fetcher.{snapshot};
-ghost use Rattle.resolver_fetch.specs.Orders.{orders};
+ghost use Rattle.resolver_trying.specs.Orders.{orders};
 
 use crate::fetcher::Fetcher;
 

@@ -7,15 +7,15 @@ ghost use Rattle.std.specs.Map.{keys_of};
 ghost use Rattle.std.specs.Option.{option_copied};
 ghost use Rattle.std.specs.Ordering.{eq_by_cmp};
 ghost use Rattle.resolver_base.specs.declared.base.fault.Fault.TheVariants.{OutOfMemory};
-ghost use Rattle.resolver_fetch.specs.Known.{askable, askable_at, eligible, is_eligible, is_local, is_target, may_be_asked, weight_in};
-ghost use Rattle.resolver_fetch.specs.Peers.{observed, replaced, set_of};
-ghost use Rattle.resolver_fetch.specs.Pools.{IsWhole, reweighed, weight_then, whole};
-ghost use Rattle.resolver_fetch.specs.Trying.{weighed};
+ghost use Rattle.resolver_trying.specs.Known.{askable, askable_at, eligible, is_eligible, is_local, is_target, may_be_asked, weight_in};
+ghost use Rattle.resolver_trying.specs.Peers.{observed, replaced, set_of};
+ghost use Rattle.resolver_trying.specs.Pools.{IsWhole, reweighed, weight_then, whole};
+ghost use Rattle.resolver_trying.specs.Trying.{weighed};
 
-use crate::fetcher::pool::Pool;
-use crate::fetcher::targets::Targets;
 use resolver_base::base::Fault;
 use resolver_request::score::Score;
+use resolver_trying::pool::Pool;
+use resolver_trying::targets::Targets;
 use std::alloc::{AllocError, Global};
 use std::collections::{BTreeMap, BTreeSet};
 use std::marker::Model;
@@ -38,8 +38,8 @@ pub(super) struct Peers<P: Ord> {
 
 impl<P: Ord> Model for Peers<P> {
     ghost use Rattle.std.specs.Prelude.{◌≡◌};
-    ghost use Rattle.resolver_fetch.specs.Known.{Known, askable};
-    ghost use Rattle.resolver_fetch.specs.Pools.{IsWhole};
+    ghost use Rattle.resolver_trying.specs.Known.{Known, askable};
+    ghost use Rattle.resolver_trying.specs.Pools.{IsWhole};
 
     ghost Value = { Known P };
 

@@ -7,13 +7,13 @@ ghost use Rattle.resolver_base.specs.Answering.{AnswersBy};
 ghost use Rattle.resolver_priorities.specs.Priorities.{has_item, pair_order, priorities_of};
 ghost use Rattle.resolver_base.specs.declared.base.fault.Fault.TheVariants.{OutOfMemory};
 ghost use Rattle.resolver_fetch.specs.Pending.{IsBound, asleep, awake, due_behind, later_due, raised, with_kept, with_key, with_keys, without_key};
-ghost use Rattle.resolver_fetch.specs.Waiting.{wake_up};
+ghost use Rattle.resolver_trying.specs.Waiting.{wake_up};
 
 use crate::fetcher::Place;
 use crate::fetcher::queues::Queues;
-use crate::fetcher::trail::least;
 use resolver_base::base::Fault;
 use resolver_priorities::PrioritySet;
+use resolver_trying::trail::least;
 use std::alloc::{AllocError, Global};
 use std::marker::Model;
 

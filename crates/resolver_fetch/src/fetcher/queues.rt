@@ -7,8 +7,8 @@ ghost use Rattle.resolver_base.specs.Answering.{AnswersBy};
 ghost use Rattle.resolver_priorities.specs.Priorities.{has_item, is_of, pair_order, priorities_of, put, retained, without};
 ghost use Rattle.resolver_base.specs.declared.base.fault.Fault.TheVariants.{OutOfMemory};
 ghost use Rattle.resolver_fetch.specs.Queues.{IsQueued, first_due, fresh_queue, retry_queue};
-ghost use Rattle.resolver_fetch.specs.Waiting.{place_order};
-ghost use Rattle.resolver_fetch.specs.declared.fetcher.place.Place.{Place};
+ghost use Rattle.resolver_trying.specs.Waiting.{place_order};
+ghost use Rattle.resolver_trying.specs.declared.place.Place.{Place};
 
 use crate::fetcher::Place;
 use resolver_base::base::Fault;
@@ -30,7 +30,7 @@ pub(super) struct Queues<K: Ord> {
 impl<K: Ord> Model for Queues<K> {
     ghost use Rattle.std.specs.Prelude.{List};
     ghost use Rattle.resolver_fetch.specs.Queues.{AreApart, joined};
-    ghost use Rattle.resolver_fetch.specs.declared.fetcher.place.Place.{Place};
+    ghost use Rattle.resolver_trying.specs.declared.place.Place.{Place};
 
     ghost Value = { List (Place × K) };
 

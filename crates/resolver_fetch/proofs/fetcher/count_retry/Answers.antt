@@ -4,7 +4,7 @@ use Rattle.std.specs.Ordering.{is_eq}
 use Rattle.std.specs.Map.{lookup, set_value}
 use Rattle.std.specs.BTreeMap.{is_at}
 use Rattle.std.proofs.lemmas.Map.Steps.{set_value_same}
-use Rattle.resolver_fetch.specs.Waiting.{once_more}
+use Rattle.resolver_trying.specs.Waiting.{once_more}
 use Rattle.resolver_fetch.proofs.Entries.{insert-held, removed-inserted}
 use Rattle.resolver_fetch.proofs.fetcher.count_retry.Goals as goal
 

@@ -2,7 +2,7 @@ use Rattle.std.proofs.Common.{◌≡◌, ◌∙◌, ap, sym, Some, rules}
 use Rattle.std.specs.Map.{lookup, set_value}
 use Rattle.std.specs.BTreeMap.{is_at}
 use Rattle.std.proofs.lemmas.Map.Steps.{set_value_same}
-use Rattle.resolver_fetch.specs.Peers.{with_targets}
+use Rattle.resolver_trying.specs.Peers.{with_targets}
 use Rattle.resolver_fetch.proofs.Entries.{insert-held}
 use Rattle.resolver_fetch.proofs.fetcher.join_targets.Goals as goal
 

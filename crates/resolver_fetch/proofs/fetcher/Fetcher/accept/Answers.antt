@@ -1,7 +1,7 @@
 use Rattle.std.proofs.Common.{ap, ◌∙◌, is_some}
 use Rattle.resolver_fetch.specs.Fetcher.{Fetcher}
-use Rattle.resolver_fetch.specs.Orders.{orders}
-use Rattle.resolver_fetch.specs.Trying.{Trying}
+use Rattle.resolver_trying.specs.Orders.{orders}
+use Rattle.resolver_trying.specs.Trying.{Trying}
 use Rattle.resolver_fetch.proofs.Kept.{closed-any, kept-sent}
 use Rattle.resolver_fetch.proofs.Phases.{tried-apart, tried-kind}
 use Rattle.resolver_fetch.proofs.Weighing.{all-tried}

@@ -1,5 +1,5 @@
 use Rattle.std.proofs.Common.{sym, None}
-use Rattle.resolver_fetch.specs.Orders.{orders}
+use Rattle.resolver_trying.specs.Orders.{orders}
 use Rattle.resolver_fetch.proofs.Stepping.{asks-kept}
 use Rattle.resolver_fetch.proofs.fetcher.Fetcher.expect.Goals as goal
 

@@ -1,6 +1,6 @@
 use Rattle.std.proofs.Common.{subst, sym}
 use Rattle.resolver_fetch.specs.Fetcher.{Fetcher}
-use Rattle.resolver_fetch.specs.Orders.{orders}
+use Rattle.resolver_trying.specs.Orders.{orders}
 use Rattle.resolver_fetch.specs.Progress.{IsSound}
 use Rattle.resolver_fetch.proofs.Progress.{begins-sound}
 use Rattle.resolver_fetch.proofs.fetcher.Fetcher.fetch.Goals as goal

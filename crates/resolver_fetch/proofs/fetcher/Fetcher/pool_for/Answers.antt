@@ -1,9 +1,9 @@
 use Rattle.std.proofs.Common.{◌≡◌, ◌+◌, ◌∷◌, ◌∙◌, ap, sym, drop, [], ℕ, List}
 use Rattle.resolver_fetch.specs.Left.{pool_for, whole_for}
-use Rattle.resolver_fetch.specs.Orders.{orders}
-use Rattle.resolver_fetch.specs.Pools.{Pool}
+use Rattle.resolver_trying.specs.Orders.{orders}
+use Rattle.resolver_trying.specs.Pools.{Pool}
 use Rattle.resolver_fetch.specs.Fetcher.{snapshot, targets_of}
-use Rattle.resolver_fetch.specs.Snapshot.{eligible}
+use Rattle.resolver_trying.specs.Snapshot.{eligible}
 use Rattle.resolver_fetch.proofs.Weighing.{drop-all, drop-first, untried, untried-left, untried-more, untried-none}
 use Rattle.resolver_fetch.proofs.fetcher.Fetcher.pool_for.Goals as goal
 

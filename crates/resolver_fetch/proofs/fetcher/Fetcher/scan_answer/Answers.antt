@@ -2,11 +2,12 @@ use Rattle.std.proofs.Common.{◌≡◌, refl, ap, ◌∙◌, sym, None, Some, O
 use Rattle.std.proofs.lemmas.Result.{on_err_weaker}
 use Rattle.resolver_fetch.specs.Cursor.{scan_of}
 use Rattle.resolver_fetch.specs.Fetcher.{Fetcher}
-use Rattle.resolver_fetch.specs.Orders.{orders}
+use Rattle.resolver_trying.specs.Orders.{orders}
 use Rattle.resolver_fetch.specs.Seeking.{tried_next}
 use Rattle.resolver_fetch.specs.Stepping.{after_step}
 use Rattle.resolver_fetch.proofs.Progress.{if-refused}
-use Rattle.resolver_fetch.proofs.Stepping.{answer-refused, answer-taken, answer-unasked, answer-wanted, if-memory, onto-ok, step-closed, step-new}
+use Rattle.resolver_trying.proofs.Outcomes.{onto-ok}
+use Rattle.resolver_fetch.proofs.Stepping.{answer-refused, answer-taken, answer-unasked, answer-wanted, if-memory, step-closed, step-new}
 use Rattle.resolver_fetch.proofs.fetcher.Fetcher.scan_answer.Goals as goal
 
 pub returns-in-Ok-clause-ok : goal.returns-in-Ok-clause-ok

@@ -1,7 +1,7 @@
 use Rattle.std.proofs.Common.{◌≡◌, refl, ap, sym, ◌∙◌, false, None, rules}
 use Rattle.std.proofs.lemmas.Result.{IfOk-weaker}
 use Rattle.resolver_fetch.specs.Fetcher.{Fetcher}
-use Rattle.resolver_fetch.specs.Orders.{orders}
+use Rattle.resolver_trying.specs.Orders.{orders}
 use Rattle.resolver_fetch.specs.Queues.{IsQueued, fresh_queue, placed}
 use Rattle.resolver_fetch.specs.Seeking.{first_until}
 use Rattle.resolver_fetch.proofs.Askable.{tries-none}

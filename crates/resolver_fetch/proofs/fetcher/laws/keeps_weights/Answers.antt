@@ -1,4 +1,4 @@
-use Rattle.resolver_fetch.specs.Orders.{orders}
+use Rattle.resolver_trying.specs.Orders.{orders}
 use Rattle.resolver_fetch.proofs.WakesLater.{keeps_weights}
 use Rattle.resolver_fetch.proofs.fetcher.laws.keeps_weights.Goals as goal
 

@@ -1,4 +1,4 @@
-use Rattle.resolver_fetch.specs.Orders.{orders}
+use Rattle.resolver_trying.specs.Orders.{orders}
 use Rattle.resolver_fetch.proofs.NeedsPairs.{needs_pairs}
 use Rattle.resolver_fetch.proofs.fetcher.laws.needs_pairs.Goals as goal
 

@@ -1,4 +1,4 @@
-use Rattle.resolver_fetch.specs.Orders.{orders}
+use Rattle.resolver_trying.specs.Orders.{orders}
 use Rattle.resolver_fetch.proofs.TriesAll.{tries_all}
 use Rattle.resolver_fetch.proofs.fetcher.laws.tries_all.Goals as goal
 

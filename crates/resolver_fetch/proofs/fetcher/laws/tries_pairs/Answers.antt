@@ -1,4 +1,4 @@
-use Rattle.resolver_fetch.specs.Orders.{orders}
+use Rattle.resolver_trying.specs.Orders.{orders}
 use Rattle.resolver_fetch.proofs.TriesPairs.{tries_pairs}
 use Rattle.resolver_fetch.proofs.fetcher.laws.tries_pairs.Goals as goal
 

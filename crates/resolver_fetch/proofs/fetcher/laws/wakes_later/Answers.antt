@@ -1,4 +1,4 @@
-use Rattle.resolver_fetch.specs.Orders.{orders}
+use Rattle.resolver_trying.specs.Orders.{orders}
 use Rattle.resolver_fetch.proofs.WakesLater.{wakes_later}
 use Rattle.resolver_fetch.proofs.fetcher.laws.wakes_later.Goals as goal
 

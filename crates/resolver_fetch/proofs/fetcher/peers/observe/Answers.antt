@@ -2,7 +2,7 @@ use Rattle.std.proofs.Common.{◌≡◌, None, rules}
 use Rattle.std.specs.Map.{lookup}
 use Rattle.std.specs.BTreeMap.{is_at}
 use Rattle.resolver_request.specs.Scores.{averaged}
-use Rattle.resolver_fetch.specs.Peers.{averages_in}
+use Rattle.resolver_trying.specs.Peers.{averages_in}
 use Rattle.resolver_fetch.proofs.Entries.{set_value-none}
 use Rattle.resolver_fetch.proofs.fetcher.peers.observe.Goals as goal
 

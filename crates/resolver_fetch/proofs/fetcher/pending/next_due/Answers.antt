@@ -1,7 +1,7 @@
 use Rattle.std.proofs.Common.{◌≡◌, ap, ◌∙◌, Some, rules}
 use Rattle.resolver_fetch.specs.Pending.{due_behind}
 use Rattle.resolver_fetch.specs.Queues.{fresh_queue, retry_queue}
-use Rattle.resolver_fetch.specs.Scan.{least}
+use Rattle.resolver_trying.specs.Scan.{least}
 use Rattle.resolver_fetch.proofs.Pending.{due-later}
 use Rattle.resolver_fetch.proofs.fetcher.pending.next_due.Goals as goal
 

@@ -1,5 +1,5 @@
 use Rattle.std.proofs.Common.{◌≡◌, ap, ◌∙◌, rules}
-use Rattle.resolver_fetch.specs.Trying.{weighed}
+use Rattle.resolver_trying.specs.Trying.{weighed}
 use Rattle.resolver_fetch.proofs.Among.{among, among-targets}
 use Rattle.resolver_fetch.proofs.fetcher.peers.Peers.eligible_among.Goals as goal
 

@@ -1,7 +1,7 @@
 use Rattle.std.proofs.Common.{◌≡◌, ◌++◌}
 use Rattle.std.specs.Option.{option_copied}
-use Rattle.resolver_fetch.specs.Known.{eligible}
-use Rattle.resolver_fetch.specs.Trying.{weighed}
+use Rattle.resolver_trying.specs.Known.{eligible}
+use Rattle.resolver_trying.specs.Trying.{weighed}
 use Rattle.resolver_fetch.proofs.fetcher.peers.Peers.eligible_of_all.Given as goal
 
 -- The peers so far, with those of the rest, are those of all.

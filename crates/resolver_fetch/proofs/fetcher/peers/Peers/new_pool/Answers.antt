@@ -1,8 +1,8 @@
 use Rattle.std.proofs.Common.{◌≡◌, ◌∙◌, ap}
 use Rattle.std.specs.Option.{option_copied}
 use Rattle.std.proofs.lemmas.Result.{IfOk-weaker}
-use Rattle.resolver_fetch.specs.Known.{eligible}
-use Rattle.resolver_fetch.specs.Pools.{whole}
+use Rattle.resolver_trying.specs.Known.{eligible}
+use Rattle.resolver_trying.specs.Pools.{whole}
 use Rattle.resolver_fetch.proofs.Weighing.{sorted-eligible, unchanged}
 use Rattle.resolver_fetch.proofs.fetcher.peers.Peers.new_pool.Goals as goal
 

@@ -3,8 +3,8 @@ use Rattle.std.specs.BTreeMap.{is_at}
 use Rattle.std.specs.List.Sorted.{IsStrictlySortedBy}
 use Rattle.std.specs.Map.{keys_of}
 use Rattle.resolver_request.specs.Scores.{Observation, averaged}
-use Rattle.resolver_fetch.specs.Known.{Known, may_be_asked}
-use Rattle.resolver_fetch.specs.Peers.{averages_in}
+use Rattle.resolver_trying.specs.Known.{Known, may_be_asked}
+use Rattle.resolver_trying.specs.Peers.{averages_in}
 use Rattle.resolver_fetch.proofs.Askable.{counts-same}
 use Rattle.resolver_fetch.proofs.Weighing.{whole-then}
 use Rattle.resolver_fetch.proofs.fetcher.peers.Peers.record.Goals as goal

@@ -1,10 +1,10 @@
 use Rattle.std.proofs.Common.{◌≡◌, ap, sym, ◌∙◌}
 use Rattle.resolver_priorities.specs.Priorities.{put}
 use Rattle.resolver_fetch.specs.Queues.{joined}
-use Rattle.resolver_fetch.specs.Waiting.{fresh_at, place_order, retry_at}
+use Rattle.resolver_trying.specs.Waiting.{fresh_at, place_order, retry_at}
 use Rattle.resolver_fetch.proofs.Pending.{either_way}
 use Rattle.resolver_fetch.proofs.Queues.{apart-fresh, apart-retry, put-fresh, put-retry}
-use Rattle.resolver_fetch.proofs.Stepping.{onto-ok}
+use Rattle.resolver_trying.proofs.Outcomes.{onto-ok}
 use Rattle.resolver_fetch.proofs.fetcher.queues.Queues.put.Goals as goal
 
 pub invariant_of-self : goal.invariant_of-self

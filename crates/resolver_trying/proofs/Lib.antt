@@ -1,0 +1,4 @@
+pub mod Outcomes
+pub mod Tried
+pub mod Pools
+pub mod Searched

@@ -1,0 +1,10 @@
+pub mod Orders
+pub mod Waiting
+pub mod Peers
+pub mod Known
+pub mod Snapshot
+pub mod Scan
+pub mod Tried
+pub mod Trying
+pub mod Steps
+pub mod Pools

@@ -1,0 +1,57 @@
+-- The key that a scan tries, and the peers that are left for it.
+use Rattle.std.specs.Prelude.{ℕ, not, nat_lt, List, map, sum, Option, None, option_map, filter, if◌then◌else◌}
+use Rattle.std.specs.List.{slice_get}
+use Rattle.std.specs.Ordering.{is_eq}
+use Rattle.std.specs.declared.cmp.Ordering.{Ordering}
+use Rattle.resolver_trying.specs.declared.place.Place.{Place}
+use Rattle.resolver_trying.specs.declared.trail.Try.{Try}
+use Rattle.resolver_request.specs.declared.score.Averages.{Averages}
+use Rattle.resolver_trees.specs.Choice.{chosen}
+use Rattle.resolver_trying.specs.Orders.{Orders}
+use Rattle.resolver_request.specs.Scores.{weight_of}
+use Rattle.resolver_trying.specs.Waiting.{Waiting}
+use Rattle.resolver_trying.specs.Snapshot.{Snapshot, eligible}
+use Rattle.resolver_trying.specs.Scan.{Scan, left, next}
+
+pub record Trying (K P : Type 0) : Type 0 where
+  pub place : Place
+  pub key : K
+  pub retries : ℕ
+  -- the peers that may be asked for it, in their order, with what they weigh
+  pub all : List (P × ℕ)
+  -- those of them that were not tried for it
+  pub left : List (P × ℕ)
+
+module _ {P : Type 0} where
+  -- peers with what they weigh
+  abbrev pub weighed : List (P × Averages) → List (P × ℕ)
+  weighed ps = map (λ p. (p.0, weight_of p.1)) ps
+
+  abbrev pub weights_of : List (P × ℕ) → List ℕ
+  weights_of ps = map (λ p. p.1) ps
+
+  -- the peer at a place
+  abbrev pub at_place : List (P × ℕ) → (number : ℕ) → Option P
+  at_place ps number = option_map (λ p. p.0) (slice_get ps number)
+
+  -- the peer in whose interval a number lies
+  abbrev pub at_weight : List (P × ℕ) → (number : ℕ) → Option P
+  at_weight ps number = if nat_lt number (sum (weights_of ps)) then at_place ps (chosen (weights_of ps) number) else None
+
+  -- the others
+  abbrev pub apart_from : (P → P → Ordering) → P → List (P × ℕ) → List (P × ℕ)
+  apart_from by_peer peer ps = filter (λ p. not (is_eq (by_peer p.0 peer))) ps
+
+module _ {K P : Type 0} (o : Orders K P) where
+  abbrev pub trying_for : Snapshot K P → List (Try K P) → K × Waiting P → Trying K P
+  trying_for s trail w = record {
+    place = w.1.place;
+    key = w.0;
+    retries = w.1.retries;
+    all = weighed (eligible o s w.1.targets);
+    left = weighed (left o s trail w);
+  }
+
+  -- what a scan tries next
+  abbrev pub trying : Snapshot K P → Scan K P → Option (Trying K P)
+  trying s scan = option_map (trying_for s scan.trail) (next o s scan)
