@@ -43,13 +43,22 @@ where
         100,
     )?;
     store.fetch_all(wanted(alloc)?)?;
+    print_chunks(rt, &mut arrived)?;
+    store.close();
+    handle.join(&rt)?;
+    Ok(())
+}
+
+/// Prints four chunks as they arrive.
+fn print_chunks<R>(rt: R, arrived: &mut mpsc::UnboundedReceiver<(u8, u64, usize)>) -> Result<()>
+where
+    R: Print + Wait + RandomSource + AllocGlobal + Copy + Drop,
+{
     for _ in 0..4 {
         if let Some((key, text, readers)) = block_on(&rt, arrived.next())? {
             println!(rt; "chunk {key} says {text}, for {readers} readers")?;
         }
     }
-    store.close();
-    handle.join(&rt)?;
     Ok(())
 }
 

@@ -37,6 +37,18 @@ where
     let alloc = rt.alloc();
     let (told, mut seen) = mpsc::unbounded(alloc)?;
     let taken = work(rt, alloc, &told)?;
+    print_seen(rt, &mut seen)?;
+    if let Some((key, value)) = taken {
+        println!(rt; "took {value:?} as {key}")?;
+    }
+    Ok(())
+}
+
+/// Prints what was seen, up to the last of it.
+fn print_seen<R: Print + Copy + Drop>(
+    rt: R,
+    seen: &mut mpsc::UnboundedReceiver<Seen>,
+) -> Result<()> {
     for _ in 0..10 {
         match seen.try_recv() {
             Ok(Seen::Asked(peer)) => println!(rt; "asked {}", peer.0)?,
@@ -44,9 +56,6 @@ where
             Ok(Seen::Blocked(peer)) => println!(rt; "blocked {}", peer.0)?,
             Err(_) => break,
         }
-    }
-    if let Some((key, value)) = taken {
-        println!(rt; "took {value:?} as {key}")?;
     }
     Ok(())
 }

@@ -27,6 +27,9 @@ impl Predicate<u32, u16> for AllBut {
     ghost alike = { λ q k l s t same_key same_subscriber. Prim.search rules };
 }
 
+/// A chunk that came: when, for whom, and its value.
+type Arrived = (Moment, Delivery<u32, u16>, u64);
+
 #[derive(Drop)]
 struct Store {
     actor: Actor<u32, u64, u16, AllBut>,
@@ -35,8 +38,7 @@ struct Store {
     asked: Vec<(u64, u32)>,
     /// What is not judged, by number: for whom it is, and its value.
     delivered: Vec<(u64, Delivery<u32, u16>, u64)>,
-    /// When it came, for whom, and its value.
-    arrived: Vec<(Moment, Delivery<u32, u16>, u64)>,
+    arrived: Vec<Arrived>,
     alloc: Global,
 }
 
@@ -123,9 +125,8 @@ fn fill(store: &mut Store) -> Result<()> {
     Ok(())
 }
 
-/// Fills a store, and prints what arrived.
-pub fn run(rt: &(impl AllocGlobal + Print)) -> Result<()> {
-    let alloc = rt.alloc();
+/// What arrives as a store is filled.
+fn arrivals(alloc: Global) -> Result<Vec<Arrived>> {
     let mut store = Store {
         // what the source lacks, or what was refused, waits 100 nanoseconds
         actor: Actor::new(alloc, 100),
@@ -136,8 +137,14 @@ pub fn run(rt: &(impl AllocGlobal + Print)) -> Result<()> {
         alloc,
     };
     fill(&mut store)?;
+    Ok(store.arrived)
+}
+
+/// Fills a store, and prints what arrived.
+pub fn run(rt: &(impl AllocGlobal + Print)) -> Result<()> {
+    let arrived = arrivals(rt.alloc())?;
     println!(rt; "chunk  value  subscribers  at")?;
-    for (at, delivery, value) in store.arrived {
+    for (at, delivery, value) in arrived {
         let (key, subscribers, at) = (delivery.key, delivery.subscribers.len(), at.nanoseconds);
         println!(rt; "{key:>5}  {value:>5}  {subscribers:>11}  {at}")?;
     }

@@ -1,4 +1,4 @@
-//! Tests of `resolver`: of both machines, of the engine with its handle, and of the laws, through public calls.
+//! Tests of `resolver`: of both machines, of the engine and of the laws, through public calls.
 //!
 //! They stand in a crate of their own, so that the libraries aren't proved a second time with them.
 #![tactic(auto)]
