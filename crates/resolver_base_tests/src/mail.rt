@@ -3,7 +3,6 @@
 mod calls;
 mod desk;
 mod handle;
-mod letters;
 mod mailbox;
 mod names;
 mod threads;

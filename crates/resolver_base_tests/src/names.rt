@@ -1,10 +1,11 @@
-//! Names for the tests.
+//! Names and a predicate for the tests.
 
-ghost use Rattle.std.specs.Prelude.{◌≡◌, [], ◌∷◌, Option, None, Some, refl};
+ghost use Rattle.std.specs.Prelude.{◌≡◌, [], ◌∷◌, Option, None, Some, refl, true};
 ghost use Rattle.std.proofs.Common.{rules};
 
 use bytes::{BufMut, BytesMut};
-use resolver_base::base::{PublicKey, Span};
+use resolver_base::base::{Faithful, PublicKey, Span};
+use resolver_root::Predicate;
 use std::alloc::AllocError;
 
 /// A name of one byte.
@@ -40,4 +41,26 @@ impl Span for Letter {
     ghost read_again = { λ name. Prim.search rules };
 
     ghost own_bytes = { λ bytes name read. Prim.search rules };
+}
+
+impl Faithful for Letter {
+    ghost clones = { Prim.search rules };
+}
+
+/// Keeps every subscriber.
+#[derive(Clone, Copy)]
+pub struct All;
+
+impl Predicate<Letter, u16> for All {
+    ghost keeps = { λ _ _ _. true };
+
+    fn keep(&self, _key: &Letter, _subscriber: &u16) -> bool {
+        true
+    }
+
+    ghost alike = { λ q k l s t same_key same_subscriber. Prim.search rules };
+}
+
+impl Faithful for All {
+    ghost clones = { Prim.search rules };
 }

@@ -1,6 +1,6 @@
 ghost use Rattle.std.specs.Prelude.{◌≡◌, true};
 
-use crate::mail::letters::{All, Letter};
+use crate::names::{All, Letter};
 use futures::Stream;
 use futures::task::Poll;
 use futures::test::MockTask;
