@@ -8,12 +8,12 @@
 
 pub use resolver_actor::laws;
 pub use resolver_demand::subscribers;
-pub use resolver_ingress::ingress;
 pub use resolver_loop::{Consumer, Ending, Handle, Resolver, TargetedResolver};
 pub use resolver_mailbox::mailbox;
 pub use resolver_root::{Delivery, Fetch, Outcome, Resolution};
 
 pub mod base;
 pub mod delivery;
+pub mod ingress;
 pub mod opaque;
 pub mod p2p;

@@ -3,7 +3,8 @@ ghost use Rattle.std.proofs.Common.{rules};
 
 use crate::asserts::{equal, holds};
 use crate::counting::{Counting, Tally};
-use resolver_ingress::ingress::{FetchKey, Message, Pending, Predicate, laws};
+use resolver_backlog::Pending;
+use resolver_ingress::ingress::{FetchKey, Message, Predicate, laws};
 use resolver_root::{Fetch, NonEmptyVec};
 use std::alloc::Global;
 use std::cell::Cell;

@@ -7,7 +7,8 @@ ghost use Rattle.std.specs.Prelude.{nat_le};
 ghost use Rattle.std.proofs.Common.{rules};
 
 use crate::asserts::equal_texts;
-use resolver_ingress::ingress::{FetchKey, Kept, Message, Pending, Test};
+use resolver_backlog::Pending;
+use resolver_ingress::ingress::{FetchKey, Kept, Message, Test};
 use resolver_root::Fetch;
 use std::alloc::Global;
 use std::fmt::Write;

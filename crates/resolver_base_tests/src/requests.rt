@@ -1,7 +1,7 @@
 //! Requests by their ids, by their deadlines and by their keys.
 
 use crate::asserts::{equal, equal_lists};
-use resolver_request::requests::{ID, Request, Requests};
+use resolver_asked::requests::{ID, Request, Requests};
 use std::alloc::Global;
 use std::panic::Expect;
 use std::process::Abort;

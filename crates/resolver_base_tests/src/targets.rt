@@ -7,7 +7,8 @@ ghost use Rattle.std.specs.Prelude.{true};
 ghost use Rattle.std.proofs.Common.{rules};
 
 use crate::asserts::{equal, equal_texts};
-use resolver_ingress::ingress::{FetchKey, Message, Metadata, Pending, Predicate};
+use resolver_backlog::Pending;
+use resolver_ingress::ingress::{FetchKey, Message, Metadata, Predicate};
 use resolver_root::NonEmptyVec;
 use std::alloc::Global;
 use std::fmt::Write;

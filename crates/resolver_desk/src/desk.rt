@@ -13,8 +13,9 @@ ghost use Rattle.indexmap.specs.IndexMap.{spare};
 
 use crate::book::Book;
 use crate::entry::Entry;
+use resolver_backlog::Pending;
 use resolver_base::base::{Fault, Feedback};
-use resolver_ingress::ingress::{Message, Metadata, Pending};
+use resolver_ingress::ingress::{Message, Metadata};
 use resolver_root::Predicate;
 use std::alloc::{AllocError, Global};
 use std::collections::VecDeque;

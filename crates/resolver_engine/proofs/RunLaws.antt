@@ -22,15 +22,15 @@ use Rattle.resolver_peer.proofs.PaysOnce.{is_paid_once}
 use Rattle.resolver_peer.proofs.PaysSenders.{is_paid_to_senders}
 use Rattle.resolver_peer.proofs.PeerKept.{demand_is_kept}
 use Rattle.resolver_peer.proofs.PeerRunLaws.{asks-new, keeps-awake}
-use Rattle.resolver_engine.specs.declared.effects.Effect.{Effect as Told}
-use Rattle.resolver_engine.specs.declared.inputs.Event.{Event as CodeEvent}
-use Rattle.resolver_engine.specs.declared.inputs.Event.TheVariants as events
-use Rattle.resolver_engine.specs.declared.inputs.Input.{Input as CodeInput}
-use Rattle.resolver_engine.specs.declared.inputs.Input.TheVariants as inputs
+use Rattle.resolver_parts.specs.declared.effects.Effect.{Effect as Told}
+use Rattle.resolver_parts.specs.declared.inputs.Event.{Event as CodeEvent}
+use Rattle.resolver_parts.specs.declared.inputs.Event.TheVariants as events
+use Rattle.resolver_parts.specs.declared.inputs.Input.{Input as CodeInput}
+use Rattle.resolver_parts.specs.declared.inputs.Input.TheVariants as inputs
 use Rattle.resolver_engine.specs.EngineLaws.{RunsWell}
-use Rattle.resolver_engine.specs.EngineSteps.{Runs, Takes, all_fed, later, step_written, written_of}
+use Rattle.resolver_parts.specs.EngineSteps.{Runs, Takes, all_fed, later, step_written, written_of}
 use Rattle.resolver_engine.specs.Matching.{Engine, Matches}
-use Rattle.resolver_engine.specs.Said.{Codec, event_of, fed_of, item_of}
+use Rattle.resolver_parts.specs.Said.{Codec, event_of, fed_of, item_of}
 
 abbrev Answer : Type 0 → Type 0
 Answer E = Result (List E) Fault

@@ -7,8 +7,8 @@ use Rattle.resolver_demand.specs.Entries.{Numbered, changed, changed_at, entry_o
 use Rattle.resolver_peer.specs.declared.named.Source.{Source}
 use Rattle.resolver_peer.specs.Parties.{Parties}
 use Rattle.resolver_peer.specs.Peer.{Machine}
-use Rattle.resolver_engine.specs.declared.parts.Parts.{Parts}
-use Rattle.resolver_engine.specs.Tied.{Agrees, Holds, held_of, open_of}
+use Rattle.resolver_parts.specs.declared.parts.Parts.{Parts}
+use Rattle.resolver_parts.specs.Tied.{Agrees, Holds, held_of, open_of}
 
 some-same : {X : Type 0} (x y : X) → Some x ≡ Some y → x ≡ y
 some-same x y same = cc

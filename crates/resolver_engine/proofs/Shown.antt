@@ -17,8 +17,8 @@ use Rattle.resolver_root.specs.Names.{same_key}
 use Rattle.resolver_priorities.specs.Priorities.{is_of}
 use Rattle.resolver_root.specs.Table.{is_asked}
 use Rattle.resolver_demand.specs.Entries.{Numbered, number_of}
-use Rattle.resolver_request.specs.declared.requests.request.Request.{Request}
-use Rattle.resolver_request.specs.Requests.{is_for, request_for}
+use Rattle.resolver_asked.specs.declared.requests.request.Request.{Request}
+use Rattle.resolver_asked.specs.Requests.{is_for, request_for}
 use Rattle.resolver_trying.specs.declared.place.Place.{Place}
 use Rattle.resolver_fetch.specs.Fetcher as calls
 use Rattle.resolver_machine.proofs.Rows.{each_found}
@@ -29,10 +29,10 @@ use Rattle.resolver_peer.specs.Peer.{Machine, row_of}
 use Rattle.resolver_engine.specs.declared.rows.Phase.TheVariants as phases
 use Rattle.resolver_engine.specs.declared.rows.Row.{Row as ListedRow}
 use Rattle.resolver_engine.specs.Listed.{listed, listed_phase}
-use Rattle.resolver_engine.specs.Tied.{IsOwn, IsSound, count_of, demand_of, fetcher_of, held_of, holds_in, holds_of, place_in, place_of}
-use Rattle.resolver_engine.proofs.Keeping.{IsSingle, all-by, all-imply, find-in_turn}
-use Rattle.resolver_engine.proofs.Retained.{apart-ids, apart-places, by_id-turn, number-held, numbers_total, places_total}
-use Rattle.resolver_engine.proofs.Slots.{around-given, around-some, given-slot, lookup-slot, slot}
+use Rattle.resolver_parts.specs.Tied.{IsOwn, IsSound, count_of, demand_of, fetcher_of, held_of, holds_in, holds_of, place_in, place_of}
+use Rattle.resolver_parts.proofs.Keeping.{IsSingle, all-by, all-imply, find-in_turn}
+use Rattle.resolver_parts.proofs.Retained.{apart-ids, apart-places, by_id-turn, number-held, numbers_total, places_total}
+use Rattle.resolver_parts.proofs.Slots.{around-given, around-some, given-slot, lookup-slot, slot}
 
 -- a value that is found, with its key
 entry-found : {K X : Type 0} (t : K → Bool) (es : List (K × X)) → lookup t es ≡ option_map (λ e. e.1) (lookup_entry t es)

@@ -7,20 +7,20 @@ use Rattle.resolver_peer.specs.Peer.{Machine, Status, Running, Ended, Failed}
 use Rattle.resolver_peer.specs.Peer as machines
 use Rattle.resolver_peer.specs.PeerRun.{Fed}
 use Rattle.resolver_peer.specs.PeerSteps.{step_on}
-use Rattle.resolver_engine.specs.declared.effects.Effect.{Effect as Told}
+use Rattle.resolver_parts.specs.declared.effects.Effect.{Effect as Told}
 use Rattle.resolver_engine.specs.declared.engine.Status.{Status as CodeStatus}
 use Rattle.resolver_engine.specs.declared.engine.Status.TheVariants as statuses
-use Rattle.resolver_engine.specs.declared.inputs.Event.{Event as CodeEvent}
-use Rattle.resolver_engine.specs.declared.inputs.Event.TheVariants as events
-use Rattle.resolver_engine.specs.declared.inputs.Input.{Input as CodeInput}
-use Rattle.resolver_engine.specs.declared.inputs.Input.TheVariants as inputs
-use Rattle.resolver_engine.specs.declared.parts.Parts.{Parts}
+use Rattle.resolver_parts.specs.declared.inputs.Event.{Event as CodeEvent}
+use Rattle.resolver_parts.specs.declared.inputs.Event.TheVariants as events
+use Rattle.resolver_parts.specs.declared.inputs.Input.{Input as CodeInput}
+use Rattle.resolver_parts.specs.declared.inputs.Input.TheVariants as inputs
+use Rattle.resolver_parts.specs.declared.parts.Parts.{Parts}
 use Rattle.resolver_engine.specs.Ending.{is_end, is_end_event}
-use Rattle.resolver_engine.specs.Going.{IsTied}
-use Rattle.resolver_engine.specs.EngineSteps.{Stepped, Taken, Takes, running, written_of}
+use Rattle.resolver_parts.specs.Going.{IsTied}
+use Rattle.resolver_parts.specs.EngineSteps.{Stepped, Taken, Takes, running, written_of}
 use Rattle.resolver_engine.specs.Matching.{Engine, IsOf, IsTiedUnlessFailed, Matches, UnlessFailed, held_by, is_final, status_of}
-use Rattle.resolver_engine.specs.Said.{Codec, event_of, fed_of, written}
-use Rattle.resolver_engine.specs.Tied.{Agrees}
+use Rattle.resolver_parts.specs.Said.{Codec, event_of, fed_of, written}
+use Rattle.resolver_parts.specs.Tied.{Agrees}
 use Rattle.resolver_engine.proofs.Lasting.{behind, behind_input, status-behind}
 
 module _ {K S P : Type 0} (a : Parties K S P) where

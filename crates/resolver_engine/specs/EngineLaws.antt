@@ -8,10 +8,10 @@ use Rattle.resolver_peer.specs.PeerRun.{Fed}
 use Rattle.resolver_peer.specs.PeerSteps as machines
 use Rattle.resolver_peer.specs.PeerLaws.{AskedOnce, AsksWell, KeepsDemand, PaysOnce, PaysRightly}
 use Rattle.resolver_peer.specs.PeerRunLaws.{AsksNew, KeepsAwake}
-use Rattle.resolver_engine.specs.declared.effects.Effect.{Effect as Told}
-use Rattle.resolver_engine.specs.EngineSteps.{written_of}
+use Rattle.resolver_parts.specs.declared.effects.Effect.{Effect as Told}
+use Rattle.resolver_parts.specs.EngineSteps.{written_of}
 use Rattle.resolver_engine.specs.Matching.{Engine, Matches}
-use Rattle.resolver_engine.specs.Said.{Codec}
+use Rattle.resolver_parts.specs.Said.{Codec}
 
 module _ {K S P : Type 0} (a : Parties K S P) (c : Codec K) where
   -- The engine's answers are a machine's, whose run is as good as every run of it.

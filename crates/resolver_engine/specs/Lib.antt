@@ -1,13 +1,5 @@
-pub mod Aiming
-pub mod Answering
-pub mod Canceled
 pub mod Ending
-pub mod EngineSteps
-pub mod Going
 pub mod Matching
-pub mod Said
-pub mod Tied
-pub mod Ruled
 pub mod Listed
 pub mod EngineLaws
 pub mod Counted

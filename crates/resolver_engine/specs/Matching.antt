@@ -10,9 +10,9 @@ use Rattle.resolver_peer.specs.Parties.{Parties}
 use Rattle.resolver_peer.specs.Peer.{Machine, Status, Running, Ended, Failed}
 use Rattle.resolver_engine.specs.declared.engine.Status.{Status as CodeStatus}
 use Rattle.resolver_engine.specs.declared.engine.Status.TheVariants as statuses
-use Rattle.resolver_engine.specs.declared.parts.Parts.{Parts}
-use Rattle.resolver_engine.specs.Going.{IsTied}
-use Rattle.resolver_engine.specs.Tied.{IsSound, demand_of, fetcher_of, held_of, holds_of, open_of}
+use Rattle.resolver_parts.specs.declared.parts.Parts.{Parts}
+use Rattle.resolver_parts.specs.Going.{IsTied}
+use Rattle.resolver_parts.specs.Tied.{IsSound, demand_of, fetcher_of, held_of, holds_of, open_of}
 
 abbrev pub status_of : CodeStatus → Status
 status_of statuses.Running = Running

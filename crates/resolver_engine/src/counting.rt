@@ -3,22 +3,22 @@
 //! No part of a step counts by itself: `Noted` keeps what the parts had before the step, and what
 //! is counted is told by that and by the step's effects.
 
-ghost use Rattle.std.specs.Prelude.{◌≡◌, ℕ};
+ghost use Rattle.std.specs.Prelude.{◌≡◌, ℕ, length};
 ghost use Rattle.resolver_peer.specs.Parties.{parties};
 ghost use Rattle.resolver_peer.specs.Peer.{Machine};
 ghost use Rattle.resolver_engine.specs.Counted.{answered, called_off, measured_if, sent, tallied};
-ghost use Rattle.resolver_engine.specs.EngineSteps.{Taken};
-ghost use Rattle.resolver_engine.specs.Going.{IsTied};
-ghost use Rattle.resolver_engine.specs.Said.{codec, fed_of};
-ghost use Rattle.resolver_engine.specs.Tied.{Agrees};
+ghost use Rattle.resolver_parts.specs.EngineSteps.{Taken};
+ghost use Rattle.resolver_parts.specs.Going.{IsTied};
+ghost use Rattle.resolver_parts.specs.Said.{codec, fed_of};
+ghost use Rattle.resolver_parts.specs.Tied.{Agrees, fetcher_of};
 
-use crate::effects::Effect;
-use crate::inputs::{Event, Input};
-use crate::parts::Parts;
 use bytes::Bytes;
 use resolver_base::base::{Fault, Span};
 use resolver_fetch::fetcher::Answer;
 use resolver_metrics::metrics::{Metrics, Tally, raise};
+use resolver_parts::effects::Effect;
+use resolver_parts::inputs::{Event, Input};
+use resolver_parts::parts::Parts;
 use resolver_root::{Outcome, Predicate, Resolution};
 
 /// A verdict on an open delivery, as it is before the verdict.
@@ -49,130 +49,182 @@ enum Noted {
     Nothing,
 }
 
-impl<K: Span + Drop, P: Ord + Clone + Drop, S: Ord + Clone + Drop> Parts<K, P, S> {
-    /// Takes an input as `take` does, and counts what came of it, unless it is refused.
-    pub(crate) fn take_and_count<Q: Predicate<K, S> + Drop>(
-        &mut self,
-        input: Input<K, P, S, Q>,
-        metrics: &mut Metrics,
-        effects: &mut Vec<Effect<K, P, S>>,
-    ) -> Result<(), Fault>
-        requires tied { IsTied (parties K.cmp S.cmp P.cmp) self.old }
-        requires keys_clone { (x y : K) → K.is_clone x y → y ≡ x }
-        requires peers_clone { (x y : P) → P.is_clone x y → y ≡ x }
-        requires subscribers_clone { (x y : S) → S.is_clone x y → y ≡ x }
-        ensures { (m : Machine K S P) (moment : ℕ)
-            → Agrees (parties K.cmp S.cmp P.cmp) self.old m
-            → Taken (parties K.cmp S.cmp P.cmp) (codec K.SIZE K.bytes_of K.read_from) m
-            (fed_of (codec K.SIZE K.bytes_of K.read_from) Q.keeps moment input)
-            effects.old.items effects.new.items self.new result }
-    {
-        let noted = self.noted(&input);
-        self.take(input, effects)?;
-        self.count(&noted, metrics, effects.as_slice());
-        self.settle(&noted, effects.as_slice());
-        Ok(())
+/// Takes an input as `take` does, and counts what came of it, unless it is refused.
+pub(crate) fn take_and_count<
+    K: Span + Drop,
+    P: Ord + Clone + Drop,
+    S: Ord + Clone + Drop,
+    Q: Predicate<K, S> + Drop,
+>(
+    parts: &mut Parts<K, P, S>,
+    input: Input<K, P, S, Q>,
+    metrics: &mut Metrics,
+    effects: &mut Vec<Effect<K, P, S>>,
+) -> Result<(), Fault>
+    requires tied { IsTied (parties K.cmp S.cmp P.cmp) parts.old }
+    requires keys_clone { (x y : K) → K.is_clone x y → y ≡ x }
+    requires peers_clone { (x y : P) → P.is_clone x y → y ≡ x }
+    requires subscribers_clone { (x y : S) → S.is_clone x y → y ≡ x }
+    ensures { (m : Machine K S P) (moment : ℕ)
+        → Agrees (parties K.cmp S.cmp P.cmp) parts.old m
+        → Taken (parties K.cmp S.cmp P.cmp) (codec K.SIZE K.bytes_of K.read_from) m
+        (fed_of (codec K.SIZE K.bytes_of K.read_from) Q.keeps moment input)
+        effects.old.items effects.new.items parts.new result }
+{
+    let noted = note_input(parts, &input);
+    parts.take(input, effects)?;
+    count(parts, &noted, metrics, effects.as_slice());
+    settle(parts, &noted, effects.as_slice());
+    Ok(())
+}
+
+/// What this input may count.
+fn note_input<K: Ord + Drop, P: Ord + Drop, S: Ord + Drop, Q>(
+    parts: &Parts<K, P, S>,
+    input: &Input<K, P, S, Q>,
+) -> Noted {
+    match input {
+        Input::Happens(happening) => note_event(parts, happening.now, &happening.event),
+        Input::Answers(answer) => note_answer(answer),
     }
 }
 
-impl<K: Ord + Drop, P: Ord + Drop, S: Ord + Drop> Parts<K, P, S> {
-    /// What this input may count.
-    fn noted<Q>(&self, input: &Input<K, P, S, Q>) -> Noted {
-        match input {
-            Input::Happens(happening) => self.noted_event(happening.now, &happening.event),
-            Input::Answers(answer) => noted_answer(answer),
+/// What this event may count.
+fn note_event<K: Ord + Drop, P: Ord + Drop, S: Ord + Drop, Q>(
+    parts: &Parts<K, P, S>,
+    now: u128,
+    event: &Event<K, P, S, Q>,
+) -> Noted {
+    match event {
+        Event::Verdict { number, outcome } => note_verdict(parts, now, *number, *outcome),
+        Event::Retain(_) => Noted::Retain {
+            keys: parts.demand.len(),
+        },
+        Event::ActiveDue | Event::Net { .. } => Noted::Requests {
+            asked: parts.fetcher.len_active(),
+        },
+        Event::Served { serve, value } => note_served(parts, now, *serve, value),
+        _ => Noted::Nothing,
+    }
+}
+
+/// What this verdict may count.
+fn note_verdict<K: Ord + Drop, P: Ord + Drop, S: Ord + Drop>(
+    parts: &Parts<K, P, S>,
+    now: u128,
+    number: u64,
+    outcome: Option<Outcome>,
+) -> Noted {
+    let Some(open) = parts.entries.open(number) else {
+        return Noted::Nothing;
+    };
+    let key = &open.delivery.key;
+    let start = parts.entries.state(key);
+    Noted::Verdict(Judged {
+        outcome,
+        is_live: parts.entries.number(key) == Some(number),
+        is_accepted: open.accepted,
+        elapsed: open.context.elapsed,
+        since_start: start.and_then(|start| start.uncounted_until(now)),
+    })
+}
+
+/// What this answer of the producer may count.
+fn note_served<K: Ord + Drop, P: Ord + Drop, S: Ord + Drop>(
+    parts: &Parts<K, P, S>,
+    now: u128,
+    serve: u64,
+    value: &Option<Bytes>,
+) -> Noted {
+    let Some(open) = parts.serves.get(&serve) else {
+        return Noted::Nothing;
+    };
+    Noted::Served {
+        is_answered: value.is_some(),
+        elapsed: open.elapsed_until(now),
+    }
+}
+
+/// Counts what came of a step that told these effects.
+fn count<K: Ord + Drop, P: Ord + Drop, S: Ord + Drop>(
+    parts: &Parts<K, P, S>,
+    noted: &Noted,
+    metrics: &mut Metrics,
+    effects: &[Effect<K, P, S>],
+) {
+    let again = handed_out(effects);
+    match noted {
+        Noted::Verdict(judged) => count_verdict(metrics, judged, again.is_some()),
+        Noted::Retain { keys } => {
+            count_retain(metrics, keys.saturating_sub(parts.demand.len()) as u64)
         }
-    }
-
-    /// What this event may count.
-    fn noted_event<Q>(&self, now: u128, event: &Event<K, P, S, Q>) -> Noted {
-        match event {
-            Event::Verdict { number, outcome } => self.noted_verdict(now, *number, *outcome),
-            Event::Retain(_) => Noted::Retain {
-                keys: self.demand.len(),
-            },
-            Event::ActiveDue | Event::Net { .. } => Noted::Requests {
-                asked: self.fetcher.len_active(),
-            },
-            Event::Served { serve, value } => self.noted_served(now, *serve, value),
-            _ => Noted::Nothing,
+        Noted::Requests { asked } => {
+            if parts.fetcher.len_active() < *asked && again.is_none() {
+                raise(&mut metrics.fetch.failure, 1);
+            }
         }
-    }
-
-    /// What this verdict may count.
-    fn noted_verdict(&self, now: u128, number: u64, outcome: Option<Outcome>) -> Noted {
-        let Some(open) = self.entries.open(number) else {
-            return Noted::Nothing;
-        };
-        let key = &open.delivery.key;
-        let start = self.entries.state(key);
-        Noted::Verdict(Judged {
-            outcome,
-            is_live: self.entries.number(key) == Some(number),
-            is_accepted: open.accepted,
-            elapsed: open.context.elapsed,
-            since_start: start.and_then(|start| start.uncounted_until(now)),
-        })
-    }
-
-    /// What this answer of the producer may count.
-    fn noted_served(&self, now: u128, serve: u64, value: &Option<Bytes>) -> Noted {
-        let Some(open) = self.serves.get(&serve) else {
-            return Noted::Nothing;
-        };
         Noted::Served {
-            is_answered: value.is_some(),
-            elapsed: open.elapsed_until(now),
-        }
+            is_answered,
+            elapsed,
+        } => count_serve(metrics, *is_answered, *elapsed),
+        Noted::Sent { is_accepted } => count_sent(metrics, *is_accepted),
+        Noted::Nothing => {}
     }
+}
 
-    /// Counts what came of a step that told these effects.
-    fn count(&self, noted: &Noted, metrics: &mut Metrics, effects: &[Effect<K, P, S>]) {
-        let again = handed_out(effects);
-        match noted {
-            Noted::Verdict(judged) => count_verdict(metrics, judged, again.is_some()),
-            Noted::Retain { keys } => {
-                count_retain(metrics, keys.saturating_sub(self.demand.len()) as u64)
-            }
-            Noted::Requests { asked } => {
-                if self.fetcher.len_active() < *asked && again.is_none() {
-                    raise(&mut metrics.fetch.failure, 1);
-                }
-            }
-            Noted::Served {
-                is_answered,
-                elapsed,
-            } => count_serve(metrics, *is_answered, *elapsed),
-            Noted::Sent { is_accepted } => count_sent(metrics, *is_accepted),
-            Noted::Nothing => {}
-        }
+/// Notes that the time to a key's first `Complete` was counted, where the key has subscribers
+/// that get the response again.
+fn settle<K: Ord + Drop, P: Ord + Drop, S: Ord + Drop>(
+    parts: &mut Parts<K, P, S>,
+    noted: &Noted,
+    effects: &[Effect<K, P, S>],
+)
+    ensures { (m : Machine K S P) → Agrees (parties K.cmp S.cmp P.cmp) parts.old m
+        → Agrees (parties K.cmp S.cmp P.cmp) parts.new m }
+{
+    if !noted.is_complete() {
+        return;
     }
+    let Some(key) = handed_out(effects) else {
+        return;
+    };
+    note_counted(parts, key);
+}
 
-    /// Notes that the time to a key's first `Complete` was counted, where the key has subscribers
-    /// that get the response again.
-    fn settle(&mut self, noted: &Noted, effects: &[Effect<K, P, S>])
-        ensures { (m : Machine K S P) → Agrees (parties K.cmp S.cmp P.cmp) self.old m
-            → Agrees (parties K.cmp S.cmp P.cmp) self.new m }
-    {
-        if !noted.is_complete() {
-            return;
-        }
-        let Some(key) = handed_out(effects) else {
-            return;
-        };
-        self.note_counted(key);
-    }
+/// Notes that the time from a key's first fetch was counted.
+fn note_counted<K: Ord + Drop, P: Ord + Drop, S: Ord + Drop>(parts: &mut Parts<K, P, S>, key: &K)
+    ensures { (m : Machine K S P) → Agrees (parties K.cmp S.cmp P.cmp) parts.old m
+        → Agrees (parties K.cmp S.cmp P.cmp) parts.new m }
+{
+    let Some(start) = parts.entries.state(key) else {
+        return;
+    };
+    let counted = start.counted();
+    parts.entries.set_state(key, counted);
+}
 
-    /// Notes that the time from a key's first fetch was counted.
-    fn note_counted(&mut self, key: &K)
-        ensures { (m : Machine K S P) → Agrees (parties K.cmp S.cmp P.cmp) self.old m
-            → Agrees (parties K.cmp S.cmp P.cmp) self.new m }
-    {
-        let Some(start) = self.entries.state(key) else {
-            return;
-        };
-        let counted = start.counted();
-        self.entries.set_state(key, counted);
+/// What was counted, with how many keys wait, requests have no answer and serves are open.
+pub(crate) fn metrics<K: Ord + Drop, P: Ord + Drop, S: Ord + Drop>(
+    parts: &Parts<K, P, S>,
+    counted: &Metrics,
+) -> Metrics
+    ensures pending { (m : Machine K S P) → Agrees (parties K.cmp S.cmp P.cmp) parts.now m
+        → result.fetch_pending ≡ length (fetcher_of (parties K.cmp S.cmp P.cmp) m).waiting }
+    ensures active { (m : Machine K S P) → Agrees (parties K.cmp S.cmp P.cmp) parts.now m
+        → result.fetch_active ≡ length (fetcher_of (parties K.cmp S.cmp P.cmp) m).asked }
+    ensures serves { (m : Machine K S P) → Agrees (parties K.cmp S.cmp P.cmp) parts.now m
+        → result.serve_processing ≡ length m.serves }
+    ensures counted { counted.now ≡ record result {
+      fetch_pending = counted.now.fetch_pending;
+      fetch_active = counted.now.fetch_active;
+      serve_processing = counted.now.serve_processing;
+    } }
+{
+    Metrics {
+        fetch_pending: parts.fetcher.len_pending() as u64,
+        fetch_active: parts.fetcher.len_active() as u64,
+        serve_processing: parts.serves.len() as u64,
+        ..*counted
     }
 }
 
@@ -286,7 +338,7 @@ fn count_outcome(tally: &mut Tally, judged: &Judged, is_again: bool)
 }
 
 /// What an answer to a scan may count.
-fn noted_answer(answer: &Answer) -> Noted {
+fn note_answer(answer: &Answer) -> Noted {
     match answer {
         Answer::Sent(is_accepted) => Noted::Sent {
             is_accepted: *is_accepted,

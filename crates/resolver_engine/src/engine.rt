@@ -12,19 +12,20 @@ ghost use Rattle.resolver_peer.specs.Peer as machines;
 ghost use Rattle.resolver_peer.specs.Peer.{Machine, active_deadline, opening, wake_up};
 ghost use Rattle.resolver_engine.specs.Ending.{is_end, is_end_event};
 ghost use Rattle.resolver_engine.specs.EngineLaws.{RunsWell};
-ghost use Rattle.resolver_engine.specs.EngineSteps.{Takes, all_fed};
+ghost use Rattle.resolver_parts.specs.EngineSteps.{Takes, all_fed};
 ghost use Rattle.resolver_engine.specs.Listed.{listed};
 ghost use Rattle.resolver_engine.specs.Matching.{Matches, is_final};
-ghost use Rattle.resolver_engine.specs.Said.{answer_of, codec, fed_of};
-ghost use Rattle.resolver_engine.specs.Tied.{fetcher_of};
+ghost use Rattle.resolver_parts.specs.Said.{answer_of, codec, fed_of};
+ghost use Rattle.resolver_parts.specs.Tied.{fetcher_of};
 
-use crate::effects::Effect;
-use crate::inputs::{Event, Input};
-use crate::parts::Parts;
-use crate::rows::Row;
+use crate::counting::{metrics, take_and_count};
+use crate::rows::{self, Row};
 use resolver_base::base::{Fault, Span};
 use resolver_fetch::fetcher::Config;
 use resolver_metrics::metrics::Metrics;
+use resolver_parts::effects::Effect;
+use resolver_parts::inputs::{Event, Input};
+use resolver_parts::parts::Parts;
 use resolver_root::Predicate;
 use std::alloc::Global;
 use std::marker::{Model, PhantomData};
@@ -120,10 +121,7 @@ impl<K: Span + Drop, P: Ord + Clone + Drop, S: Ord + Clone + Drop, Q: Predicate<
         }
         let ends = is_end(&input);
         let mut effects = Vec::new(self.parts.alloc);
-        match self
-            .parts
-            .take_and_count(input, &mut self.counted, &mut effects)
-        {
+        match take_and_count(&mut self.parts, input, &mut self.counted, &mut effects) {
             Ok(()) => {
                 if ends {
                     self.status = Status::Ended;
@@ -170,7 +168,7 @@ impl<K: Span + Drop, P: Ord + Clone + Drop, S: Ord + Clone + Drop, Q: Predicate<
         for input in inputs {
             let answer = self.step(input);
             let stops = stops(&answer);
-            answers.push(answer)?;
+            answers.push_reserved(answer);
             if stops {
                 return Ok(answers);
             }
@@ -194,8 +192,8 @@ impl<K: Span + Drop, P: Ord + Clone + Drop, S: Ord + Clone + Drop, Q: Predicate<
             ⊎ ((fault ≡ Fault.Failed) × (self.now.status ≡ machines.Failed))) }
     {
         match self.status {
-            Status::Running => self.parts.rows(),
-            Status::Ended => self.parts.rows(),
+            Status::Running => rows::rows(&self.parts),
+            Status::Ended => rows::rows(&self.parts),
             Status::Failed => Err(Fault::Failed),
         }
     }
@@ -228,7 +226,7 @@ impl<K: Span + Drop, P: Ord + Clone + Drop, S: Ord + Clone + Drop, Q: Predicate<
         ensures serves { (m : Machine K S P) → Matches (parties K.cmp S.cmp P.cmp) self.now m
             → m.status ≢ machines.Failed → result.serve_processing ≡ length m.serves }
     {
-        self.parts.metrics(&self.counted)
+        metrics(&self.parts, &self.counted)
     }
 }
 

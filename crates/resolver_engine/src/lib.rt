@@ -4,19 +4,8 @@
 //! come with the inputs, and what is to be done comes out as effects.
 #![tactic(auto)]
 
-mod advancing;
-mod answering;
 mod counting;
-pub mod effects;
 pub mod engine;
-mod failing;
-mod fetching;
-mod inflight;
-pub mod inputs;
-mod judging;
-mod parts;
-mod receiving;
-mod retaining;
 pub mod rows;
-mod scanning;
-mod serving;
+
+pub use resolver_parts::{effects, inputs};

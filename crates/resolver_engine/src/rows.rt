@@ -9,13 +9,13 @@ ghost use Rattle.resolver_root.specs.Table.{is_asked};
 ghost use Rattle.resolver_base.specs.declared.base.fault.Fault.TheVariants.{OutOfMemory};
 ghost use Rattle.resolver_peer.specs.Parties.{parties};
 ghost use Rattle.resolver_peer.specs.Peer.{Machine, row_of};
-ghost use Rattle.resolver_engine.specs.Going.{IsTied};
+ghost use Rattle.resolver_parts.specs.Going.{IsTied};
 ghost use Rattle.resolver_engine.specs.Listed.{listed, listed_phase};
-ghost use Rattle.resolver_engine.specs.Tied.{Agrees};
+ghost use Rattle.resolver_parts.specs.Tied.{Agrees};
 
-use crate::parts::Parts;
 use resolver_base::base::Fault;
 use resolver_demand::subscribers::Subscribers;
+use resolver_parts::parts::Parts;
 use resolver_root::NonEmptyVec;
 use std::marker::Model;
 
@@ -85,97 +85,107 @@ pub struct Row<K, S, P> {
     pub phase: Phase<P>,
 }
 
-impl<K: Ord + Clone + Drop, P: Ord + Clone + Drop, S: Ord + Clone + Drop> Parts<K, P, S> {
-    /// The demanded keys, in their order. It takes time linear in what is listed, times a
-    /// logarithm.
-    pub(crate) fn rows(&self) -> Result<Vec<Row<K, S, P>>, Fault>
-        requires keys_clone { (x y : K) → K.is_clone x y → y ≡ x }
-        requires peers_clone { (x y : P) → P.is_clone x y → y ≡ x }
-        requires subscribers_clone { (x y : S) → S.is_clone x y → y ≡ x }
-        requires tied { IsTied (parties K.cmp S.cmp P.cmp) self.now }
-        ensures rows { (m : Machine K S P) → Agrees (parties K.cmp S.cmp P.cmp) self.now m
-            → IfOk result (λ rows. rows.items ≡ map listed m.rows) }
-        ensures once { IfOk result
-            (λ rows. IsDistinct (λ k l. is_eq (K.cmp k l)) (map (λ row. row.key) rows.items)) }
-        ensures ordered { IfOk result
-            (λ rows. IsStrictlySortedBy K.cmp (map (λ row. row.key) rows.items)) }
-        ensures only { IfErr result (λ fault. fault ≡ OutOfMemory) }
-    {
-        let mut list = Vec::with_capacity(self.alloc, self.demand.len())?;
-        for (key, subscribers) in self.demand.iter() {
-            list.push(self.listed(key, subscribers)?)?;
-        }
-        Ok(list)
+/// The demanded keys, in their order. It takes time linear in what is listed, times a
+/// logarithm.
+pub(crate) fn rows<K: Ord + Clone + Drop, P: Ord + Clone + Drop, S: Ord + Clone + Drop>(
+    parts: &Parts<K, P, S>,
+) -> Result<Vec<Row<K, S, P>>, Fault>
+    requires keys_clone { (x y : K) → K.is_clone x y → y ≡ x }
+    requires peers_clone { (x y : P) → P.is_clone x y → y ≡ x }
+    requires subscribers_clone { (x y : S) → S.is_clone x y → y ≡ x }
+    requires tied { IsTied (parties K.cmp S.cmp P.cmp) parts.now }
+    ensures rows { (m : Machine K S P) → Agrees (parties K.cmp S.cmp P.cmp) parts.now m
+        → IfOk result (λ rows. rows.items ≡ map listed m.rows) }
+    ensures once { IfOk result
+        (λ rows. IsDistinct (λ k l. is_eq (K.cmp k l)) (map (λ row. row.key) rows.items)) }
+    ensures ordered { IfOk result
+        (λ rows. IsStrictlySortedBy K.cmp (map (λ row. row.key) rows.items)) }
+    ensures only { IfErr result (λ fault. fault ≡ OutOfMemory) }
+{
+    let mut list = Vec::with_capacity(parts.alloc, parts.demand.len())?;
+    for (key, subscribers) in parts.demand.iter() {
+        list.push(listed(parts, key, subscribers)?)?;
     }
+    Ok(list)
+}
 
-    /// The row of a demanded key with these subscribers.
-    fn listed(&self, key: &K, subscribers: &Subscribers<S>) -> Result<Row<K, S, P>, Fault>
-        requires keys_clone { (x y : K) → K.is_clone x y → y ≡ x }
-        requires peers_clone { (x y : P) → P.is_clone x y → y ≡ x }
-        requires subscribers_clone { (x y : S) → S.is_clone x y → y ≡ x }
-        requires tied { IsTied (parties K.cmp S.cmp P.cmp) self.now }
-        requires wanted { is_asked (names K.cmp S.cmp) self.now.demand key.now ≡ true }
-        requires some { 0 < length subscribers.now }
-        ensures row { (m : Machine K S P) → Agrees (parties K.cmp S.cmp P.cmp) self.now m
-            → IfSome (row_of (parties K.cmp S.cmp P.cmp) m key.now)
-            (λ row. subscribers.now ≡ row.subscribers
-            → IfOk result (λ shown. shown ≡ listed (key.now, row))) }
-        ensures only { IfErr result (λ fault. fault ≡ OutOfMemory) }
-    {
-        let Ok(subscribers) = NonEmptyVec::try_from(subscribers.copied(self.alloc)?) else {
-            unreachable!()
-        };
-        Ok(Row {
-            key: key.clone()?,
-            subscribers,
-            targets: self.listed_targets(key)?,
-            retries: self.fetcher.retries(key),
-            phase: self.listed_phase(key)?,
-        })
-    }
+/// The row of a demanded key with these subscribers.
+fn listed<K: Ord + Clone + Drop, P: Ord + Clone + Drop, S: Ord + Clone + Drop>(
+    parts: &Parts<K, P, S>,
+    key: &K,
+    subscribers: &Subscribers<S>,
+) -> Result<Row<K, S, P>, Fault>
+    requires keys_clone { (x y : K) → K.is_clone x y → y ≡ x }
+    requires peers_clone { (x y : P) → P.is_clone x y → y ≡ x }
+    requires subscribers_clone { (x y : S) → S.is_clone x y → y ≡ x }
+    requires tied { IsTied (parties K.cmp S.cmp P.cmp) parts.now }
+    requires wanted { is_asked (names K.cmp S.cmp) parts.now.demand key.now ≡ true }
+    requires some { 0 < length subscribers.now }
+    ensures row { (m : Machine K S P) → Agrees (parties K.cmp S.cmp P.cmp) parts.now m
+        → IfSome (row_of (parties K.cmp S.cmp P.cmp) m key.now)
+        (λ row. subscribers.now ≡ row.subscribers
+        → IfOk result (λ shown. shown ≡ listed (key.now, row))) }
+    ensures only { IfErr result (λ fault. fault ≡ OutOfMemory) }
+{
+    let Ok(subscribers) = NonEmptyVec::try_from(subscribers.copied(parts.alloc)?) else {
+        unreachable!()
+    };
+    Ok(Row {
+        key: key.clone()?,
+        subscribers,
+        targets: listed_targets(parts, key)?,
+        retries: parts.fetcher.retries(key),
+        phase: listed_phase(parts, key)?,
+    })
+}
 
-    /// The peers that may be asked for a key, if they are limited to some.
-    fn listed_targets(&self, key: &K) -> Result<Option<Targets<P>>, Fault>
-        requires peers_clone { (x y : P) → P.is_clone x y → y ≡ x }
-        ensures targets { (m : Machine K S P) → Agrees (parties K.cmp S.cmp P.cmp) self.now m
-            → IfSome (row_of (parties K.cmp S.cmp P.cmp) m key.now)
-            (λ row. IfOk result (λ targets. targets ≡ row.targets)) }
-        ensures only { IfErr result (λ fault. fault ≡ OutOfMemory) }
-    {
-        let Some(peers) = self.fetcher.targets(key) else {
-            return Ok(None);
-        };
-        Ok(Some(Targets {
-            peers: peers.to_vec(self.alloc)?,
-        }))
-    }
+/// The peers that may be asked for a key, if they are limited to some.
+fn listed_targets<K: Ord + Clone + Drop, P: Ord + Clone + Drop, S: Ord + Clone + Drop>(
+    parts: &Parts<K, P, S>,
+    key: &K,
+) -> Result<Option<Targets<P>>, Fault>
+    requires peers_clone { (x y : P) → P.is_clone x y → y ≡ x }
+    ensures targets { (m : Machine K S P) → Agrees (parties K.cmp S.cmp P.cmp) parts.now m
+        → IfSome (row_of (parties K.cmp S.cmp P.cmp) m key.now)
+        (λ row. IfOk result (λ targets. targets ≡ row.targets)) }
+    ensures only { IfErr result (λ fault. fault ≡ OutOfMemory) }
+{
+    let Some(peers) = parts.fetcher.targets(key) else {
+        return Ok(None);
+    };
+    Ok(Some(Targets {
+        peers: peers.to_vec(parts.alloc)?,
+    }))
+}
 
-    /// What is being done for a demanded key.
-    fn listed_phase(&self, key: &K) -> Result<Phase<P>, Fault>
-        requires peers_clone { (x y : P) → P.is_clone x y → y ≡ x }
-        requires tied { IsTied (parties K.cmp S.cmp P.cmp) self.now }
-        requires wanted { is_asked (names K.cmp S.cmp) self.now.demand key.now ≡ true }
-        ensures phase { (m : Machine K S P) → Agrees (parties K.cmp S.cmp P.cmp) self.now m
-            → IfSome (row_of (parties K.cmp S.cmp P.cmp) m key.now)
-            (λ row. IfOk result (λ phase. phase ≡ listed_phase row.phase)) }
-        ensures only { IfErr result (λ fault. fault ≡ OutOfMemory) }
-    {
-        if let Some(place) = self.fetcher.place(key) {
-            return Ok(Phase::Waiting {
-                is_retry: place.is_retry,
-                due: place.due,
-            });
-        }
-        if let Some((id, request)) = self.fetcher.request(key) {
-            return Ok(Phase::Asked {
-                id,
-                peer: request.peer.clone()?,
-                deadline: request.deadline,
-            });
-        }
-        let Some(number) = self.entries.number(key) else {
-            unreachable!()
-        };
-        Ok(Phase::Judged { number })
+/// What is being done for a demanded key.
+fn listed_phase<K: Ord + Clone + Drop, P: Ord + Clone + Drop, S: Ord + Clone + Drop>(
+    parts: &Parts<K, P, S>,
+    key: &K,
+) -> Result<Phase<P>, Fault>
+    requires peers_clone { (x y : P) → P.is_clone x y → y ≡ x }
+    requires tied { IsTied (parties K.cmp S.cmp P.cmp) parts.now }
+    requires wanted { is_asked (names K.cmp S.cmp) parts.now.demand key.now ≡ true }
+    ensures phase { (m : Machine K S P) → Agrees (parties K.cmp S.cmp P.cmp) parts.now m
+        → IfSome (row_of (parties K.cmp S.cmp P.cmp) m key.now)
+        (λ row. IfOk result (λ phase. phase ≡ listed_phase row.phase)) }
+    ensures only { IfErr result (λ fault. fault ≡ OutOfMemory) }
+{
+    if let Some(place) = parts.fetcher.place(key) {
+        return Ok(Phase::Waiting {
+            is_retry: place.is_retry,
+            due: place.due,
+        });
     }
+    if let Some((id, request)) = parts.fetcher.request(key) {
+        return Ok(Phase::Asked {
+            id,
+            peer: request.peer.clone()?,
+            deadline: request.deadline,
+        });
+    }
+    let Some(number) = parts.entries.number(key) else {
+        unreachable!()
+    };
+    Ok(Phase::Judged { number })
 }

@@ -6,9 +6,9 @@ use Rattle.std.specs.Cmp.{IsTotalOrder}
 use Rattle.std.specs.Ordering.{nat_cmp}
 use Rattle.std.specs.declared.cmp.Ordering.{Ordering}
 use Rattle.resolver_priorities.specs.Priorities.{priorities_of, put, without}
-use Rattle.resolver_request.specs.declared.requests.request.Request.{Request}
-use Rattle.resolver_request.specs.Ids.{is_held}
-use Rattle.resolver_request.specs.Requests.{IsTaken, ids_of, is_asked, without_request}
+use Rattle.resolver_asked.specs.declared.requests.request.Request.{Request}
+use Rattle.resolver_asked.specs.Ids.{is_held}
+use Rattle.resolver_asked.specs.Requests.{IsTaken, ids_of, is_asked, without_request}
 use Rattle.resolver_trying.specs.declared.cursor.Cursor.{Cursor}
 use Rattle.resolver_trying.specs.declared.place.Place.{Place}
 use Rattle.resolver_fetch.specs.Cursor.{IsKept, scan_of}

@@ -10,9 +10,9 @@ use Rattle.std.specs.declared.cmp.Ordering.{Ordering}
 use Rattle.std.specs.declared.cmp.Ordering.TheVariants.{Equal}
 use Rattle.resolver_priorities.specs.Priorities.{has_item, is_of, listed, priorities_of, put, retained, without}
 use Rattle.resolver_priorities.proofs.Priorities.{priorities-put, priorities-without}
-use Rattle.resolver_request.specs.declared.requests.request.Request.{Request}
-use Rattle.resolver_request.specs.Ids.{is_held}
-use Rattle.resolver_request.specs.Requests.{ids_of, is_asked, is_for, request_of, without_request}
+use Rattle.resolver_asked.specs.declared.requests.request.Request.{Request}
+use Rattle.resolver_asked.specs.Ids.{is_held}
+use Rattle.resolver_asked.specs.Requests.{ids_of, is_asked, is_for, request_of, without_request}
 use Rattle.resolver_trying.specs.declared.place.Place.{Place}
 use Rattle.resolver_trying.specs.declared.trail.Try.{Try}
 use Rattle.resolver_fetch.specs.Fetcher.{EachOnce, Fetcher, snapshot, waiting_of}

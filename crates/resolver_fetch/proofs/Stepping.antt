@@ -18,7 +18,7 @@ use Rattle.resolver_trying.specs.declared.trail.Expected.{Expected}
 use Rattle.resolver_trying.specs.declared.trail.Expected.TheVariants.{Mode, ByWeight, ByPlace, Checking, FirstId, Sending}
 use Rattle.resolver_trees.specs.Choice.{chosen}
 use Rattle.resolver_request.specs.Modes.{means_weighted}
-use Rattle.resolver_request.specs.declared.requests.request.Request.{Request}
+use Rattle.resolver_asked.specs.declared.requests.request.Request.{Request}
 use Rattle.resolver_trying.specs.declared.cursor.Cursor.{Cursor}
 use Rattle.resolver_fetch.specs.Cursor.{ExpectsNewId, TakesNewId, scan_of}
 use Rattle.resolver_fetch.specs.Fetcher.{Fetcher, answered as answered_with, question, scan_answer, scan_taken, snapshot, turned}

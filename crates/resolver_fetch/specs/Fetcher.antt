@@ -10,15 +10,15 @@ use Rattle.resolver_priorities.specs.Priorities.{has_item, is_of, priorities_of,
 use Rattle.resolver_request.specs.declared.score.Averages.{Averages}
 use Rattle.resolver_trying.specs.declared.config.Config.{Config}
 use Rattle.resolver_trying.specs.declared.place.Place.{Place}
-use Rattle.resolver_request.specs.declared.requests.request.Request.{Request}
+use Rattle.resolver_asked.specs.declared.requests.request.Request.{Request}
 use Rattle.resolver_trying.specs.declared.scan.Answer.{Answer}
 use Rattle.resolver_trying.specs.declared.scan.Ask.{Ask}
 use Rattle.resolver_trying.specs.declared.scan.Ask.TheVariants as asks
-use Rattle.resolver_request.specs.Ids.{is_held}
+use Rattle.resolver_asked.specs.Ids.{is_held}
 use Rattle.resolver_trying.specs.Orders.{Orders}
 use Rattle.resolver_request.specs.Times.{elapsed_since, charged}
 use Rattle.resolver_trying.specs.Waiting.{Waiting, place_order, fresh_at, retry_at, once_more, wake_up}
-use Rattle.resolver_request.specs.Requests.{ids_of, is_asked, soonest, overdue, matching, without_request}
+use Rattle.resolver_asked.specs.Requests.{ids_of, is_asked, soonest, overdue, matching, without_request}
 use Rattle.resolver_trying.specs.Peers.{replaced, observed, with_targets, set_of}
 use Rattle.resolver_trying.specs.Known.{weight_in}
 use Rattle.resolver_trying.specs.Snapshot.{Snapshot, known}

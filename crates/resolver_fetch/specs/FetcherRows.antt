@@ -3,14 +3,14 @@ use Rattle.std.specs.Prelude.{◌≡◌, ℕ, ◌-◌, ◌^◌, Bool, true, fals
 use Rattle.std.specs.Ordering.{nat_cmp}
 use Rattle.resolver_base.specs.declared.base.check.Check.TheVariants.{Clear, Until}
 use Rattle.resolver_trying.specs.declared.config.Config.{Config}
-use Rattle.resolver_request.specs.declared.requests.request.Request.{Request}
+use Rattle.resolver_asked.specs.declared.requests.request.Request.{Request}
 use Rattle.resolver_trying.specs.declared.scan.Answer.{Answer}
 use Rattle.resolver_trying.specs.declared.scan.Answer.TheVariants.{Drawn, Checked, Sent}
 use Rattle.resolver_trying.specs.declared.scan.Ask.{Ask}
 use Rattle.resolver_trying.specs.declared.scan.Ask.TheVariants as asks
 use Rattle.resolver_trying.specs.Orders.{Orders, orders}
 use Rattle.resolver_fetch.specs.Queues.{fresh_queue, retry_queue}
-use Rattle.resolver_request.specs.Ids.{next_id}
+use Rattle.resolver_asked.specs.Ids.{next_id}
 use Rattle.resolver_fetch.specs.Fetcher.{Fetcher, opening, reconcile, set_blocked, add_ready, add_retry, add_targets, scan_begin, scan_answer, question, pending_deadline, active_deadline, pop_response, pop_missing, weight}
 
 abbrev numbers : Orders ℕ ℕ

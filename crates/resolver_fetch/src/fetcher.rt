@@ -25,16 +25,16 @@ ghost use Rattle.resolver_trying.specs.Orders.{orders};
 ghost use Rattle.resolver_trying.specs.Peers.{with_targets};
 ghost use Rattle.resolver_fetch.specs.Pending.{with_key};
 ghost use Rattle.resolver_fetch.specs.Queues.{IsQueued, fresh_queue, retry_queue};
-ghost use Rattle.resolver_request.specs.Requests.{is_asked, request_for};
+ghost use Rattle.resolver_asked.specs.Requests.{is_asked, request_for};
 ghost use Rattle.resolver_request.specs.Times.{charged, elapsed_since};
 ghost use Rattle.resolver_trying.specs.Waiting.{once_more};
 
 use crate::fetcher::peers::Peers;
 use crate::fetcher::pending::Pending;
+use resolver_asked::requests::Requests;
+pub use resolver_asked::requests::{ID, Request};
 use resolver_base::base::Fault;
 use resolver_priorities::PrioritySet;
-use resolver_request::requests::Requests;
-pub use resolver_request::requests::{ID, Request};
 use resolver_request::score::DURATION_MAX;
 use resolver_root::NonEmptyVec;
 pub use resolver_trying::config::Config;
@@ -45,6 +45,8 @@ use resolver_trying::targets::Targets;
 pub use resolver_trying::{config, place, scan};
 use std::alloc::{AllocError, Global};
 use std::collections::BTreeMap;
+use std::fmt;
+use std::fmt::{Formatter, Write};
 use std::marker::Model;
 
 /// The keys that wait or are asked for, their targets and retries, and the peers.
@@ -63,7 +65,6 @@ use std::marker::Model;
 ///     fetcher.fetch(network, &mut draws, u128::from(now))?;
 /// }
 /// ```
-#[derive(Debug)]
 pub struct Fetcher<K: Ord, P: Ord> {
     pending: Pending<K>,
     requests: Requests<K, P>,
@@ -126,6 +127,17 @@ impl<K: Ord + Drop, P: Ord + Drop> Drop for Fetcher<K, P> {
             cursor: _,
             alloc: _,
         } = self;
+    }
+}
+
+/// How many keys wait, how many requests have no answer, and whether a scan is open.
+impl<K: Ord + Drop, P: Ord + Drop> fmt::Debug for Fetcher<K, P> {
+    fn fmt<W: Write>(&self, f: &mut Formatter<W>) -> fmt::Result {
+        f.debug_struct("Fetcher")
+            .field("pending", &self.len_pending())
+            .field("active", &self.len_active())
+            .field("is_scanning", &self.is_scanning())
+            .finish_non_exhaustive()
     }
 }
 

@@ -3,6 +3,5 @@ pub mod Right
 pub mod Items
 pub mod Queue
 pub mod Pruned
-pub mod Drained
 pub mod Fetched
 pub mod Places

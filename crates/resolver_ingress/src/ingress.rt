@@ -1,19 +1,16 @@
 //! What a resolver is asked, as its machine takes it.
 
-mod batch;
+pub mod batch;
 mod copies;
-mod drain;
 mod kept;
 pub mod laws;
 mod metadata;
-mod pending;
-mod places;
+pub mod places;
 
 ghost use Rattle.std.specs.Prelude.{◌≡◌, ◌<◌, [], ◌∷◌, length, IfOk, IfErr, OnOk, OnErr};
 
 pub use kept::{Kept, Test};
 pub use metadata::Metadata;
-pub use pending::Pending;
 pub use resolver_root::Predicate;
 use resolver_root::{Fetch, NonEmptyVec};
 use std::alloc::{AllocError, Global};

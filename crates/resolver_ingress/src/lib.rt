@@ -1,7 +1,6 @@
-//! What is asked for on the way in: the fetches of a message, and those that wait.
+//! What is asked for on the way in: the fetches of a message, and batches of them.
 //!
-//! `ingress::FetchKey` is a fetch of one key for its subscribers, and `ingress::Pending` is what
-//! waits while a mailbox is full.
+//! `ingress::FetchKey` is a fetch of one key for its subscribers, and `ingress::Message` what a resolver is told.
 #![tactic(auto)]
 
 pub mod ingress;

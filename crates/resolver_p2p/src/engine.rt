@@ -10,11 +10,11 @@ ghost use Rattle.resolver_peer.specs.Parties.{parties};
 ghost use Rattle.resolver_peer.specs.Peer as machines;
 ghost use Rattle.resolver_peer.specs.Peer.{Machine, active_deadline, opening, wake_up};
 ghost use Rattle.resolver_engine.specs.EngineLaws.{RunsWell};
-ghost use Rattle.resolver_engine.specs.EngineSteps.{Takes, all_fed};
+ghost use Rattle.resolver_parts.specs.EngineSteps.{Takes, all_fed};
 ghost use Rattle.resolver_engine.specs.Listed.{listed};
 ghost use Rattle.resolver_engine.specs.Matching.{Matches};
-ghost use Rattle.resolver_engine.specs.Said.{answer_of, codec, fed_of};
-ghost use Rattle.resolver_engine.specs.Tied.{fetcher_of};
+ghost use Rattle.resolver_parts.specs.Said.{answer_of, codec, fed_of};
+ghost use Rattle.resolver_parts.specs.Tied.{fetcher_of};
 ghost use Rattle.resolver_p2p.specs.Configured.{fetching};
 
 use crate::asking::Asking;

@@ -12,8 +12,8 @@ use Rattle.resolver_base.specs.declared.base.fault.Fault.{Fault}
 use Rattle.resolver_root.specs.declared.root.Outcome.{Outcome}
 use Rattle.resolver_root.specs.declared.root.Outcome.TheVariants.{Invalid, Resolved, Unresolved, Ignored}
 use Rattle.resolver_root.specs.Subscribers.{without}
-use Rattle.resolver_request.specs.declared.requests.request.Request.{Request}
-use Rattle.resolver_request.specs.Requests.{overdue}
+use Rattle.resolver_asked.specs.declared.requests.request.Request.{Request}
+use Rattle.resolver_asked.specs.Requests.{overdue}
 use Rattle.resolver_request.specs.declared.wire.Payload.{Payload}
 use Rattle.resolver_request.specs.declared.wire.Payload.TheVariants as payloads
 use Rattle.resolver_trying.specs.declared.place.Place.{Place}

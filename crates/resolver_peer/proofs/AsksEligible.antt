@@ -7,8 +7,8 @@ use Rattle.resolver_root.specs.declared.root.Outcome.{Outcome}
 use Rattle.resolver_root.specs.declared.root.Outcome.TheVariants.{Invalid, Resolved, Unresolved, Ignored}
 use Rattle.resolver_root.specs.Subscribers.{without}
 use Rattle.resolver_trying.specs.Waiting.{Waiting}
-use Rattle.resolver_request.specs.declared.requests.request.Request.{Request}
-use Rattle.resolver_request.specs.Requests.{overdue}
+use Rattle.resolver_asked.specs.declared.requests.request.Request.{Request}
+use Rattle.resolver_asked.specs.Requests.{overdue}
 use Rattle.resolver_trying.specs.declared.trail.Try.{Try}
 use Rattle.resolver_trying.specs.Snapshot.{Snapshot, eligible}
 use Rattle.resolver_trying.specs.declared.trail.Expected.{Expected}

@@ -8,8 +8,8 @@ use Rattle.std.specs.BTreeSet.{insert_key}
 use Rattle.std.specs.Ordering.{nat_cmp, match_ordering}
 use Rattle.std.specs.declared.cmp.Ordering.{Ordering}
 use Rattle.std.specs.declared.cmp.Ordering.TheVariants.{Less, Equal, Greater}
-use Rattle.resolver_request.specs.declared.requests.request.Request.{Request}
-use Rattle.resolver_request.specs.Requests.{soonest, sooner, is_sooner, if_overdue, overdue, by_id}
+use Rattle.resolver_asked.specs.declared.requests.request.Request.{Request}
+use Rattle.resolver_asked.specs.Requests.{soonest, sooner, is_sooner, if_overdue, overdue, by_id}
 use Rattle.resolver_peer.specs.PeerRows.{change_entry}
 use Rattle.resolver_machine.proofs.Mapped.{seen}
 use Rattle.resolver_machine.specs.Lawful.{Each}

@@ -15,7 +15,7 @@ use Rattle.resolver_root.specs.declared.root.Outcome.TheVariants.{Invalid, Resol
 use Rattle.resolver_root.specs.declared.root.Resolution.TheVariants.{Complete, Partial}
 use Rattle.resolver_peer.specs.Parties.{Parties, orders_of}
 use Rattle.resolver_peer.specs.PeerRows.{Row, Phase, Waits, Asked, Judged}
-use Rattle.resolver_request.specs.declared.requests.request.Request.{Request}
+use Rattle.resolver_asked.specs.declared.requests.request.Request.{Request}
 use Rattle.resolver_trying.specs.declared.scan.Ask.{Ask as Question}
 use Rattle.resolver_trying.specs.Scan as scans
 use Rattle.resolver_trying.specs.Scan.{Turn, Scan, is_over}
@@ -28,7 +28,7 @@ use Rattle.resolver_peer.specs.declared.named.Serve.{Serve}
 use Rattle.resolver_peer.specs.Peer.{Machine, Open, Done, Effect, Ask, Deliver, Produce, Credit, Block, Status, Running, Ended, Failed, Item, Event, Fetch, Retain, PeerSet, Blocked, ActiveDue, PendingDue, Verdict, Served, Net, End, Input, Happens, Answers, quiet, and_then, snapshot, cancel_in, cancels, closed, served_by, row_of, fetch, fetch_one, times_out, account_for, serves_rest, ruled, ruled_in, ruled_at, verdict_on, responds, misses, answered, receive, does, with_sent, turned, question, asking, is_due, wake_up, scanned_if, scanned, step_of, answer_of, step_running, step_in, step, opening}
 use Rattle.resolver_root.specs.Subscribers.{without}
 use Rattle.resolver_request.specs.Times.{elapsed_since}
-use Rattle.resolver_request.specs.Requests.{overdue}
+use Rattle.resolver_asked.specs.Requests.{overdue}
 use Rattle.resolver_peer.specs.Peer.{without_row, retry, has_subscribers, pruned, peer_set, is_newer, block, retain}
 use Rattle.resolver_peer.specs.PeerLaws.{EarnsOnce}
 use Rattle.resolver_peer.specs.PeerRun.{Fed, effects_of, all_effects, answers}

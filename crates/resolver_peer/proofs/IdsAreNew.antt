@@ -9,9 +9,9 @@ use Rattle.std.specs.declared.cmp.Ordering.TheVariants.{Less, Equal, Greater}
 use Rattle.resolver_base.specs.declared.base.check.Check.TheVariants.{Clear, Until}
 use Rattle.resolver_base.specs.declared.base.fault.Fault.{Fault}
 use Rattle.resolver_base.specs.declared.base.fault.Fault.TheVariants.{OutOfRange}
-use Rattle.resolver_request.specs.declared.requests.request.Request.{Request}
-use Rattle.resolver_request.specs.Requests.{by_id}
-use Rattle.resolver_request.specs.Ids.{is_held}
+use Rattle.resolver_asked.specs.declared.requests.request.Request.{Request}
+use Rattle.resolver_asked.specs.Requests.{by_id}
+use Rattle.resolver_asked.specs.Ids.{is_held}
 use Rattle.resolver_trying.specs.declared.scan.Answer.{Answer}
 use Rattle.resolver_trying.specs.declared.scan.Answer.TheVariants.{Drawn, Checked, Sent}
 use Rattle.resolver_trying.specs.declared.trail.Expected.{Expected}
@@ -26,7 +26,7 @@ use Rattle.resolver_peer.specs.Peer.{Machine, Done, Effect, Ask, Deliver, Cancel
 use Rattle.resolver_peer.specs.PeerRun.{Fed, effects_of, after}
 use Rattle.resolver_peer.specs.PeerLaws.{HasNewId, IdsAreNew}
 use Rattle.resolver_peer.proofs.AsksEligible.{IsNoQuestion, IsCalmIfDone, does-calm}
-use Rattle.resolver_request.proofs.NewIds.{next-new}
+use Rattle.resolver_asked.proofs.NewIds.{next-new}
 use Rattle.resolver_peer.proofs.PeerPhases.{RowsAre, IsKeptIfDone, does-kept}
 use Rattle.resolver_peer.proofs.Effects.{all-append, over-none}
 

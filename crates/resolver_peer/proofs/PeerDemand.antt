@@ -18,9 +18,9 @@ use Rattle.resolver_root.specs.Names.{same_key}
 use Rattle.resolver_root.specs.Subscribers.{without}
 use Rattle.resolver_request.specs.declared.wire.Payload.{Payload}
 use Rattle.resolver_request.specs.declared.wire.Payload.TheVariants as payloads
-use Rattle.resolver_request.specs.declared.requests.request.Request.{Request}
-use Rattle.resolver_request.specs.Requests.{overdue, if_of, matching}
-use Rattle.resolver_request.specs.Requests as requests
+use Rattle.resolver_asked.specs.declared.requests.request.Request.{Request}
+use Rattle.resolver_asked.specs.Requests.{overdue, if_of, matching}
+use Rattle.resolver_asked.specs.Requests as requests
 use Rattle.resolver_request.specs.Times.{elapsed_since}
 use Rattle.resolver_trying.specs.declared.config.Config.{Config}
 use Rattle.resolver_trying.specs.declared.scan.Answer.{Answer}

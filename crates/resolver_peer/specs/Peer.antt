@@ -13,14 +13,14 @@ use Rattle.resolver_request.specs.declared.wire.Message.{Message}
 use Rattle.resolver_request.specs.declared.wire.Payload.{Payload}
 use Rattle.resolver_request.specs.declared.wire.Payload.TheVariants as payloads
 use Rattle.resolver_trying.specs.declared.config.Config.{Config}
-use Rattle.resolver_request.specs.declared.requests.request.Request.{Request}
+use Rattle.resolver_asked.specs.declared.requests.request.Request.{Request}
 use Rattle.resolver_trying.specs.declared.scan.Answer.{Answer}
 use Rattle.resolver_trying.specs.declared.scan.Ask.{Ask as Question}
 use Rattle.resolver_trying.specs.Orders.{same_key}
 use Rattle.resolver_request.specs.Times.{elapsed_since, charged}
 use Rattle.resolver_trying.specs.Waiting as waits
 use Rattle.resolver_trying.specs.Waiting.{fresh_at, retry_at, once_more, in_order}
-use Rattle.resolver_request.specs.Requests.{soonest, overdue, matching, by_id}
+use Rattle.resolver_asked.specs.Requests.{soonest, overdue, matching, by_id}
 use Rattle.resolver_trying.specs.Peers.{replaced, observed, with_targets, set_of}
 use Rattle.resolver_trying.specs.Snapshot.{Snapshot}
 use Rattle.resolver_trying.specs.Scan as scans

@@ -7,7 +7,7 @@ use Rattle.resolver_root.specs.Demand.{all_pairs_of, IsSameDemand}
 use Rattle.resolver_request.specs.declared.score.Averages.{Averages}
 use Rattle.resolver_trying.specs.declared.config.Config.{Config}
 use Rattle.resolver_trying.specs.declared.scan.Ask.TheVariants as asks
-use Rattle.resolver_request.specs.Ids.{is_held}
+use Rattle.resolver_asked.specs.Ids.{is_held}
 use Rattle.resolver_trying.specs.declared.scan.Answer.TheVariants.{Sent}
 use Rattle.resolver_trying.specs.Waiting.{Waiting, once_more, retry_at}
 use Rattle.resolver_trying.specs.Snapshot.{eligible}

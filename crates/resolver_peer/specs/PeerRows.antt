@@ -1,7 +1,7 @@
 -- One map from each demanded key to its subscribers, its targets, its retries and its phase.
 use Rattle.std.specs.Prelude.{ℕ, Bool, List, [], ◌∷◌, Option, None, Some, if◌then◌else◌}
 use Rattle.resolver_trying.specs.declared.place.Place.{Place}
-use Rattle.resolver_request.specs.declared.requests.request.Request.{Request}
+use Rattle.resolver_asked.specs.declared.requests.request.Request.{Request}
 use Rattle.resolver_trying.specs.Waiting.{Waiting}
 use Rattle.resolver_peer.specs.declared.named.Source.{Source}
 

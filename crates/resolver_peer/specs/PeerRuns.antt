@@ -8,7 +8,7 @@ use Rattle.resolver_root.specs.declared.root.Outcome.TheVariants.{Resolved, Inva
 use Rattle.resolver_root.specs.declared.root.Resolution.TheVariants.{Complete}
 use Rattle.resolver_request.specs.declared.wire.Message.{Message}
 use Rattle.resolver_request.specs.declared.wire.Payload.TheVariants as payloads
-use Rattle.resolver_request.specs.declared.requests.request.Request.{Request}
+use Rattle.resolver_asked.specs.declared.requests.request.Request.{Request}
 use Rattle.resolver_trying.specs.declared.scan.Answer.TheVariants.{Drawn, Checked, Sent}
 use Rattle.resolver_trying.specs.declared.scan.Ask.TheVariants as asks
 use Rattle.resolver_trying.specs.Waiting.{fresh_at, retry_at}

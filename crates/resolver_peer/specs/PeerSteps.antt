@@ -2,7 +2,7 @@
 use Rattle.std.specs.Prelude.{◌≡◌, ℕ, Bool, true, false, not, is_none, ◌&&◌, ◌==◌, List, Result, Ok, Err}
 use Rattle.std.specs.Map.{lookup}
 use Rattle.resolver_base.specs.declared.base.fault.Fault.{Fault}
-use Rattle.resolver_request.specs.Requests.{overdue}
+use Rattle.resolver_asked.specs.Requests.{overdue}
 use Rattle.resolver_trying.specs.Scan as scans
 use Rattle.resolver_trying.specs.Scan.{is_over}
 use Rattle.resolver_machine.specs.Steps as steps

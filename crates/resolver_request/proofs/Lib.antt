@@ -12,8 +12,3 @@ pub mod Draws
 pub mod Takes
 pub mod Positive
 pub mod Restored
-pub mod Soonest
-pub mod Timed
-pub mod NextIds
-pub mod NewIds
-pub mod Names

@@ -8,5 +8,3 @@ pub mod ScoreLaws
 pub mod Modes
 pub mod Left
 pub mod Selections
-pub mod Requests
-pub mod Ids

@@ -5,7 +5,7 @@ use Rattle.resolver_base.specs.declared.base.check.Check.TheVariants.{Clear, Unt
 use Rattle.resolver_base.specs.declared.base.fault.Fault.{Fault}
 use Rattle.resolver_base.specs.declared.base.fault.Fault.TheVariants.{Unasked, OutOfRange}
 use Rattle.resolver_request.specs.declared.score.Averages.{Averages}
-use Rattle.resolver_request.specs.declared.requests.request.Request.{Request}
+use Rattle.resolver_asked.specs.declared.requests.request.Request.{Request}
 use Rattle.resolver_trying.specs.declared.scan.Answer.{Answer}
 use Rattle.resolver_trying.specs.declared.scan.Answer.TheVariants.{Drawn, Checked, Sent}
 use Rattle.resolver_trying.specs.declared.scan.Ask.{Ask}
@@ -22,7 +22,7 @@ use Rattle.resolver_request.specs.Modes.{means_weighted}
 use Rattle.resolver_request.specs.Times.{never}
 use Rattle.resolver_trying.specs.Waiting.{Waiting}
 use Rattle.resolver_trying.specs.Snapshot.{Snapshot, eligible}
-use Rattle.resolver_request.specs.Ids.{next_id}
+use Rattle.resolver_asked.specs.Ids.{next_id}
 
 pub record Scan (K P : Type 0) : Type 0 where
   pub moment : ℕ

@@ -9,7 +9,7 @@ use crate::trying::Trying;
 use resolver_base::base::Fault;
 
 /// Where an open scan stands.
-#[derive(Debug, Drop)]
+#[derive(Drop)]
 pub struct Cursor<K: Ord, P: Ord> {
     /// When it was begun, in nanoseconds.
     pub moment: u128,

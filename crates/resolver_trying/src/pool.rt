@@ -20,7 +20,6 @@ use std::marker::Model;
 /// lists.
 ///
 /// A call takes time logarithmic in the number of peers, unless it says otherwise.
-#[derive(Debug)]
 pub struct Pool<P: Ord> {
     names: Vec<P>,
     /// What each of them weighs: nothing once it is left no more.

@@ -1,7 +1,7 @@
 //! What a scan asks, and what it is answered.
 
+use resolver_asked::requests::ID;
 use resolver_base::base::Check;
-use resolver_request::requests::ID;
 
 /// What a scan asks.
 #[derive(Clone, Debug, Drop, PartialEq, Eq)]

@@ -9,12 +9,12 @@ ghost use Rattle.resolver_trying.specs.Steps.{id_of, step_checked, step_chosen, 
 use crate::scan::Answer;
 use crate::trail::{Expected, Reason};
 use crate::trying::Trying;
+use resolver_asked::requests::ID;
 use resolver_base::base::{Check, Fault};
-use resolver_request::requests::ID;
 use resolver_request::sampling::is_weighted;
 
 /// What an answer means to a scan.
-#[derive(Debug, Drop)]
+#[derive(Drop)]
 pub enum Step<P> {
     /// It expects this next.
     Expect(Expected<P>),

@@ -15,7 +15,6 @@ use std::marker::Model;
 
 /// The peers that may be asked for a key, each once, in the order in which they were added.
 /// Contracts see them as that list.
-#[derive(Debug)]
 pub struct Targets<P: Ord> {
     listed: Vec<P>,
     /// The same peers, in their own order.

@@ -10,14 +10,14 @@ ghost use Rattle.resolver_trying.specs.declared.trail.Try.{Try};
 ghost use Rattle.resolver_trying.specs.Scan.{least, least_until, limit_of, trail_moment};
 ghost use Rattle.resolver_trying.specs.Tried.{noted, peers_tried};
 
+use resolver_asked::requests::ID;
 use resolver_base::base::Fault;
-use resolver_request::requests::ID;
 use std::alloc::{AllocError, Global};
 use std::collections::BTreeMap;
 use std::marker::Model;
 
 /// Why a peer was not asked for a key.
-#[derive(Clone, Copy, Debug)]
+#[derive(Clone, Copy)]
 pub enum Reason {
     /// It may not be sent to before this moment, in nanoseconds.
     Limited(u128),
@@ -38,7 +38,7 @@ impl Reason {
 }
 
 /// A peer that was tried for a key in vain.
-#[derive(Debug, Drop)]
+#[derive(Drop)]
 pub struct Try<K, P> {
     /// The key.
     pub key: K,
@@ -49,7 +49,7 @@ pub struct Try<K, P> {
 }
 
 /// What a scan expects.
-#[derive(Debug, Drop)]
+#[derive(Drop)]
 pub enum Expected<P> {
     /// A number that says how the peer is drawn.
     Mode,
@@ -68,7 +68,6 @@ pub enum Expected<P> {
 /// What a scan tried in vain. Contracts see it as the list of its tries.
 ///
 /// A call on one key takes time logarithmic in the number of keys that were tried.
-#[derive(Debug)]
 pub struct Trail<K: Ord, P> {
     tries: Vec<Try<K, P>>,
     /// Whom they name for each key, in their order.

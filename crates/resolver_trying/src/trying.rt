@@ -12,7 +12,7 @@ use std::marker::Model;
 /// The key that a scan tries, and the peers that are left for it.
 ///
 /// A call takes time logarithmic in the peers, unless it says otherwise.
-#[derive(Debug, Drop)]
+#[derive(Drop)]
 pub struct Trying<K, P: Ord> {
     /// Whether the key is tried again, or is fresh.
     pub is_retry: bool,
@@ -25,7 +25,7 @@ pub struct Trying<K, P: Ord> {
 }
 
 /// What a scan does next.
-#[derive(Debug, Drop)]
+#[derive(Drop)]
 pub enum Next<K, P: Ord> {
     /// It tries this key.
     Try(Trying<K, P>),

@@ -241,7 +241,7 @@ impl<K: Ord + Clone, V: Clone, S: Ord + Clone, Q: Predicate<K, S> + Drop> Actor<
         for input in inputs {
             let answer = self.step(input);
             let stops = stops(&answer);
-            answers.push(answer)?;
+            answers.push_reserved(answer);
             if stops {
                 return Ok(answers);
             }

@@ -24,7 +24,6 @@ use std::mem;
 /// The latest set of peers with their scores, the local name, and the peers that are blocked.
 ///
 /// A call on one peer takes time logarithmic in their number.
-#[derive(Debug)]
 pub(super) struct Peers<P: Ord> {
     local: Option<P>,
     set: BTreeMap<P, Score>,

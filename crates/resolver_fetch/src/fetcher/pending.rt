@@ -22,7 +22,6 @@ use std::marker::Model;
 /// A scan in vain leaves its moment here, in constant time; when a key becomes due after it is
 /// looked up once the wake-up is asked for. That takes no memory: the look-ups begin at a bound that
 /// is kept, so no key is cloned for them.
-#[derive(Debug)]
 pub(super) struct Pending<K: Ord> {
     keys: Queues<K>,
     waiter: Waiter,
@@ -45,7 +44,7 @@ impl<K: Ord + Drop> Drop for Pending<K> {
 }
 
 /// When a scan may be begun again.
-#[derive(Clone, Copy, Debug)]
+#[derive(Clone, Copy)]
 pub(super) enum Waiter {
     /// As soon as a key is due.
     Clear,

@@ -21,7 +21,6 @@ use std::marker::Model;
 ///
 /// Contracts see them as one list of the keys with their places: the fresh keys by due and key,
 /// then the others. A call on one key looks it up once in a queue, or in one and then in the other.
-#[derive(Debug)]
 pub(super) struct Queues<K: Ord> {
     fresh: PrioritySet<K, u128>,
     retry: PrioritySet<K, u128>,

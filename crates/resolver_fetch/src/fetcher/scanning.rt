@@ -12,8 +12,8 @@ ghost use Rattle.resolver_base.specs.declared.base.fault.Fault.TheVariants.{OutO
 ghost use Rattle.resolver_trying.specs.declared.step.Step.TheVariants.{Accept, Clear, Fail};
 ghost use Rattle.resolver_fetch.specs.Fetcher as calls;
 ghost use Rattle.std.specs.Ordering.{nat_cmp};
-ghost use Rattle.resolver_request.specs.Ids.{is_held};
-ghost use Rattle.resolver_request.specs.Requests.{is_asked};
+ghost use Rattle.resolver_asked.specs.Ids.{is_held};
+ghost use Rattle.resolver_asked.specs.Requests.{is_asked};
 ghost use Rattle.resolver_fetch.specs.Cursor.{ExpectsNewId, IsRight, TakesNewId, opened, scan_of};
 ghost use Rattle.resolver_fetch.specs.Fetcher.{AsksNewId, question};
 ghost use Rattle.resolver_fetch.specs.Left.{IsAtHand, pool_for, whole_for};
@@ -26,8 +26,8 @@ ghost use Rattle.resolver_trying.specs.Steps.{ask_for};
 
 use crate::fetcher::peers::Peers;
 use crate::fetcher::{Answer, Ask, Fetcher, ID, Request};
+use resolver_asked::requests::Requests;
 use resolver_base::base::Fault;
-use resolver_request::requests::Requests;
 use resolver_trying::cursor::{Cursor, keep};
 use resolver_trying::pool::Pool;
 use resolver_trying::step::{Step, step_of};

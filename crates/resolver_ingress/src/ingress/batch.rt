@@ -96,7 +96,7 @@ fn make_place<K: Ord + Clone + Drop, S, M>(
 
 /// Puts some fetches into the batch, one after another. Where memory is wanting, what was put is
 /// taken back.
-pub(super) fn put_all<K: Ord + Clone + Drop, S: Ord + Clone + Drop, M: Metadata + Drop>(
+pub fn put_all<K: Ord + Clone + Drop, S: Ord + Clone + Drop, M: Metadata + Drop>(
     alloc: Global,
     batch: &mut Vec<FetchKey<K, S, M>>,
     places: &mut Places<K>,
@@ -169,7 +169,7 @@ fn take_back_one<K: Drop, S: Drop, M: Drop>(
 }
 
 /// The places of the keys once only the fetches are there that have a subscriber that is kept.
-pub(super) fn kept_places<K: Ord + Clone + Drop, S: Ord, M, Q: Predicate<K, S>>(
+pub fn kept_places<K: Ord + Clone + Drop, S: Ord, M, Q: Predicate<K, S>>(
     alloc: Global,
     batch: &[FetchKey<K, S, M>],
     keep: &Q,
@@ -222,7 +222,7 @@ fn pruned_item<K: Eq + Drop, S: Eq + Drop, M: Drop, Q: Predicate<K, S>>(
 }
 
 /// The fetches for the subscribers that are kept, without those that have none then.
-pub(super) fn prune_all<K: Eq + Drop, S: Eq + Drop, M: Drop, Q: Predicate<K, S>>(
+pub fn prune_all<K: Eq + Drop, S: Eq + Drop, M: Drop, Q: Predicate<K, S>>(
     mut room: Vec<FetchKey<K, S, M>>,
     batch: Vec<FetchKey<K, S, M>>,
     keep: &Q,

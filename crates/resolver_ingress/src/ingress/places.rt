@@ -14,7 +14,7 @@ use std::marker::Model;
 ///
 /// Contracts see the keys in order, each with its place. `IsPlaced` says what they are of the
 /// batch's keys.
-pub(super) struct Places<K: Ord> {
+pub struct Places<K: Ord> {
     by_key: BTreeMap<K, usize>,
 }
 
@@ -34,7 +34,7 @@ impl<K: Ord + Drop> Drop for Places<K> {
 
 impl<K: Ord + Drop> Places<K> {
     /// No key.
-    pub(super) fn new(alloc: Global) -> Self
+    pub fn new(alloc: Global) -> Self
         ensures { result ≡ [] }
     {
         Places {
@@ -70,7 +70,7 @@ impl<K: Ord + Drop> Places<K> {
     }
 
     /// Takes every key out.
-    pub(super) fn clear(&mut self)
+    pub fn clear(&mut self)
         ensures { self.new ≡ [] }
     {
         self.by_key.clear();

@@ -5,7 +5,7 @@ use Rattle.std.specs.Cmp.{IsTotalOrder}
 use Rattle.resolver_root.specs.Names.{names}
 use Rattle.resolver_machine.specs.Lawful.{AnswersAlike}
 use Rattle.resolver_peer.specs.Parties.{parties}
-use Rattle.resolver_engine.specs.Said.{codec}
+use Rattle.resolver_parts.specs.Said.{codec}
 use Rattle.resolver_engine.proofs.Running.{RunsOn, RunsTo, runs-all, runs-first, runs-last, runs-next}
 use Rattle.resolver_engine.proofs.RunLaws.{runs-well}
 use Rattle.resolver_engine.proofs.engine.Core.run.Given as given
@@ -39,7 +39,7 @@ loop-input-preserved g c =
     record {
       rest = λ m moment matched.
           let on = c.loop-input.invariant.rest m moment matched in
-          subst (λ answers. RunsOn a words g.Q.Predicate.keeps m moment c.args.inputs.items (into_iter_items c.next.new.self) answers c.step-answer.new.self) (sym c.in_ok-push.ensures.items)
+          subst (λ answers. RunsOn a words g.Q.Predicate.keeps m moment c.args.inputs.items (into_iter_items c.next.new.self) answers c.step-answer.new.self) (sym c.push_reserved.ensures.items)
           (runs-next a words g.Q.Predicate.keeps m moment c.args.inputs.items (into_iter_items c.loop-input.input-iterator) (into_iter_items c.next.new.self) c.in-Some.input c.loop-input.answers.items
           c.step-answer.result c.loop-input.self c.step-answer.new.self c.in-Some.ensures.steps.0 on (c.step-answer.ensures on.machine on.last on.matched) (sym c.if-stops.ensures));
       room = search rules;
@@ -50,7 +50,7 @@ returns-then-stops-clause-runs g c = λ m moment matched.
     let a = parties g.K.Ord.cmp g.S.Ord.cmp g.P.Ord.cmp in
     let words = codec g.K.Span.SIZE g.K.Span.bytes_of g.K.Span.read_from in
     let on = c.loop-input.invariant.rest m moment matched in
-    let runs = subst (λ answers. RunsTo a words g.Q.Predicate.keeps m moment c.args.inputs.items answers c.step-answer.new.self) (sym c.in_ok-push.ensures.items)
+    let runs = subst (λ answers. RunsTo a words g.Q.Predicate.keeps m moment c.args.inputs.items answers c.step-answer.new.self) (sym c.push_reserved.ensures.items)
     (runs-last a words g.Q.Predicate.keeps m moment c.args.inputs.items (into_iter_items c.loop-input.input-iterator) (into_iter_items c.next.new.self) c.in-Some.input c.loop-input.answers.items
     c.step-answer.result c.loop-input.self c.step-answer.new.self c.in-Some.ensures.steps.0 on (c.step-answer.ensures on.machine on.last on.matched) (sym c.if-stops.ensures)) in
     runs-well a words g.Q.Predicate.keeps (alike g) (keys g) g.met.S.Ord.total m moment c.args.inputs.items _ runs.machine _ runs.runs runs.matched

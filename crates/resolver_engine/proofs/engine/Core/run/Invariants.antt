@@ -4,7 +4,7 @@ use Rattle.std.specs.Vec.Iter.{into_iter_items}
 use Rattle.resolver_peer.specs.Parties.{parties}
 use Rattle.resolver_peer.specs.Peer.{Machine}
 use Rattle.resolver_engine.specs.Matching.{Matches}
-use Rattle.resolver_engine.specs.Said.{codec}
+use Rattle.resolver_parts.specs.Said.{codec}
 use Rattle.resolver_engine.proofs.Running.{RunsOn}
 use Rattle.resolver_engine.proofs.engine.Core.run.Given as goal
 

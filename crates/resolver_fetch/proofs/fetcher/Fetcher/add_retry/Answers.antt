@@ -1,5 +1,5 @@
 use Rattle.std.proofs.Common.{ap, ◌∙◌, is_some}
-use Rattle.resolver_request.specs.Requests.{is_asked}
+use Rattle.resolver_asked.specs.Requests.{is_asked}
 use Rattle.resolver_fetch.specs.Fetcher.{Fetcher}
 use Rattle.resolver_fetch.proofs.Kept.{closed-any, kept-put}
 use Rattle.resolver_fetch.proofs.Pending.{either_way}

@@ -1,5 +1,5 @@
 use Rattle.std.proofs.Common.{ap, ◌∙◌, is_some, rules}
-use Rattle.resolver_request.specs.Requests.{IsTaken}
+use Rattle.resolver_asked.specs.Requests.{IsTaken}
 use Rattle.resolver_fetch.specs.Fetcher.{Fetcher}
 use Rattle.resolver_fetch.proofs.Kept.{closed-any, kept-taken}
 use Rattle.resolver_fetch.proofs.Phases.{idle-then}

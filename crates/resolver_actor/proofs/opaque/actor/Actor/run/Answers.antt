@@ -17,7 +17,7 @@ pub returns-then-stops-clause-runs : goal.returns-then-stops-clause-runs
 returns-then-stops-clause-runs g c =
     let n = names g.K.Ord.cmp g.S.Ord.cmp in
     let answer = answer_of c.step-answer.result in
-    subst (λ answers. Runs n c.args.self.now (map (input_of g.Q.Predicate.keeps) c.args.inputs.items) (map answer_of answers) c.step-answer.new.self) (sym c.in_ok-push.ensures.items)
+    subst (λ answers. Runs n c.args.self.now (map (input_of g.Q.Predicate.keeps) c.args.inputs.items) (map answer_of answers) c.step-answer.new.self) (sym c.push_reserved.ensures.items)
     (subst (λ answers. Runs n c.args.self.now (map (input_of g.Q.Predicate.keeps) c.args.inputs.items) answers c.step-answer.new.self) (map-last answer_of c.loop-input.answers.items c.step-answer.result)
     (c.loop-input.invariant.rest (answer ∷ []) c.step-answer.new.self
     (subst (λ xs. Runs n c.loop-input.self (map (input_of g.Q.Predicate.keeps) xs) (answer ∷ []) c.step-answer.new.self) (sym c.in-Some.ensures.steps.0)
@@ -30,7 +30,7 @@ loop-input-preserved g c =
     let answer = answer_of c.step-answer.result in
     record {
       rest = λ more new runs.
-          rw (c.in_ok-push.ensures.items, map-more)
+          rw (c.push_reserved.ensures.items, map-more)
           (c.loop-input.invariant.rest (answer ∷ more) new
           (subst (λ xs. Runs n c.loop-input.self (map (input_of g.Q.Predicate.keeps) xs) (answer ∷ more) new) (sym c.in-Some.ensures.steps.0)
           (Runs-step (step_on n) MayWant (λ m. m.status ≡ Failed) c.loop-input.self c.step-answer.new.self new (input_of g.Q.Predicate.keeps c.in-Some.input) (map (input_of g.Q.Predicate.keeps) (into_iter_items c.next.new.self)) answer more c.step-answer.ensures

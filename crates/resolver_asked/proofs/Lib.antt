@@ -1,0 +1,5 @@
+pub mod Soonest
+pub mod Timed
+pub mod NextIds
+pub mod NewIds
+pub mod Names

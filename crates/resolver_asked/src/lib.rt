@@ -1,0 +1,4 @@
+//! The requests to peers that have no answer so far.
+#![tactic(auto)]
+
+pub mod requests;

@@ -1,0 +1,43 @@
+use Rattle.std.proofs.Common.{◌≡◌, refl, ap, sym, ◌∙◌, subst, ◌++◌, ◌∷◌, [], None, Some, rules}
+use Rattle.std.specs.Prelude.{IsSome}
+use Rattle.resolver_demand.specs.Entries.{response_of}
+use Rattle.resolver_parts.specs.Ruled.{flagged}
+use Rattle.resolver_parts.proofs.Cached.{caches-some, flagged-next, flagged-number, flagged-response, noted, noted-name, noted-value, response-is}
+use Rattle.resolver_parts.proofs.judging.hand_out_again.Goals as goal
+
+none-some : {X : Type 0} (x : X) → None ≡ Some x → ⊥
+none-some x same = cc
+
+some-is : {X : Type 0} (x : X) → IsSome (Some x)
+some-is x = search rules
+
+some-same : {X : Type 0} (x y : X) → Some x ≡ Some y → x ≡ y
+some-same x y same = cc
+
+pub unreachable-requires : goal.unreachable-requires
+unreachable-requires g c =
+    let x = caches-some g.K.Ord.cmp c.args.delivery.key c.args.entries.now c.requires.cached in
+    let there = ap (λ d. response_of g.K.Ord.cmp d c.args.delivery.key) c.note_accepted.ensures ∙ flagged-response g.K.Ord.cmp c.args.delivery.key c.args.entries.now x c.args.accepted in
+    none-some (noted g.K.Ord.cmp c.args.delivery.key c.args.entries.now x c.args.accepted) (c.in_default.ensures ∙ there)
+
+pub redeliver-requires-clause-cached : goal.redeliver-requires-clause-cached
+redeliver-requires-clause-cached g c =
+    let x = caches-some g.K.Ord.cmp c.args.delivery.key c.args.entries.now c.requires.cached in
+    let there = ap (λ d. response_of g.K.Ord.cmp d c.args.delivery.key) c.note_accepted.ensures ∙ flagged-response g.K.Ord.cmp c.args.delivery.key c.args.entries.now x c.args.accepted in
+    rw there (some-is (noted g.K.Ord.cmp c.args.delivery.key c.args.entries.now x c.args.accepted))
+
+pub redeliver-requires-clause-idle : goal.redeliver-requires-clause-idle
+redeliver-requires-clause-idle g c =
+    let x = caches-some g.K.Ord.cmp c.args.delivery.key c.args.entries.now c.requires.cached in
+    rw c.note_accepted.ensures (flagged-number g.K.Ord.cmp c.args.delivery.key c.args.entries.now x c.args.accepted ∙ c.requires.idle)
+
+pub returns-clause-told : goal.returns-clause-told
+returns-clause-told g c =
+    let x = caches-some g.K.Ord.cmp c.args.delivery.key c.args.entries.now c.requires.cached in
+    let there = ap (λ d. response_of g.K.Ord.cmp d c.args.delivery.key) c.note_accepted.ensures ∙ flagged-response g.K.Ord.cmp c.args.delivery.key c.args.entries.now x c.args.accepted in
+    let same = some-same c.in-Some.response.now (noted g.K.Ord.cmp c.args.delivery.key c.args.entries.now x c.args.accepted) (c.in-Some.ensures ∙ there) in
+    let number = c.in-Ok-redeliver.ensures.number ∙ ap (λ d. d.next) c.note_accepted.ensures ∙ flagged-next g.K.Ord.cmp c.args.delivery.key c.args.entries.now x c.args.accepted in
+    let name = ap (λ r. r.name) same ∙ noted-name g.K.Ord.cmp c.args.delivery.key c.args.entries.now x c.args.accepted in
+    let value = c.in-Ok.ensures.value ∙ ap (λ r. r.value) same ∙ noted-value g.K.Ord.cmp c.args.delivery.key c.args.entries.now x c.args.accepted in
+    rw (response-is g.K.Ord.cmp c.args.delivery.key c.args.entries.now x)
+    (c.in_ok-push.ensures.items ∙ rw (number, name, c.in-Ok.ensures.delivery, value) refl)

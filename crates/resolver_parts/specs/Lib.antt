@@ -1,0 +1,8 @@
+pub mod Aiming
+pub mod Answering
+pub mod Canceled
+pub mod EngineSteps
+pub mod Going
+pub mod Said
+pub mod Tied
+pub mod Ruled

@@ -1,0 +1,20 @@
+//! The parts of an engine that fetches from peers, and what an input does to them: a step of the peer
+//! machine, unless it is refused.
+//!
+//! `parts::Parts` says who wants what, what is judged, and what is asked for. It takes inputs and answers
+//! with effects; it has no clock, no network and no thread.
+#![tactic(auto)]
+
+mod advancing;
+mod answering;
+pub mod effects;
+mod failing;
+mod fetching;
+pub mod inflight;
+pub mod inputs;
+mod judging;
+pub mod parts;
+mod receiving;
+mod retaining;
+mod scanning;
+pub mod serving;
