@@ -3,22 +3,24 @@
 
 use crate::fault::Fault;
 use crate::name::Name;
-use crate::spent::{Kind, Spent};
-use crate::workload::All;
+use crate::spent::{Driven, Kind, take_each};
+use crate::workload::{All, CONFIG, alone, listed, named};
 use bytes::Bytes;
-use resolver::base::{Check, NonEmptyVec};
-use resolver::ingress::FetchKey;
-use resolver::p2p::Core;
-use resolver::p2p::effects::Effect;
-use resolver::p2p::fetcher::{Answer, Ask, Config};
-use resolver::p2p::inputs::{Event, Happening, Input};
-use resolver::{Outcome, Resolution};
+use resolver_base::base::Check;
+use resolver_engine::effects::Effect;
+use resolver_engine::engine::Core;
+use resolver_engine::inputs::{Event, Happening, Input};
+use resolver_fetch::fetcher::{Answer, Ask};
+use resolver_ingress::ingress::FetchKey;
+use resolver_root::{Outcome, Resolution};
 use std::alloc::Global;
 use std::rt::Clock;
-use std::time::Instant;
 
 /// The subscribers of each key.
 const SUBSCRIBERS: u16 = 4;
+
+/// The steps that are taken for each key once no peer is blocked.
+const KINDS: &[Kind] = &[Kind::Ask, Kind::Answer, Kind::Complete];
 
 /// More than a scan asks before its first request is taken.
 const ASKS: u64 = 8;
@@ -30,79 +32,57 @@ type Step = Event<Name, u16, u16, All>;
 type Told = Vec<Effect<Name, u16, u16>>;
 
 /// Takes every key through an engine that knows this many peers.
-pub fn run(rt: &(impl AllocGlobal + Clock), size: u64, peers: u16) -> Result<Vec<Spent>, Fault> {
-    let config = Config {
-        me: None,
-        fetch_timeout: 1,
-        retry_delay: 1,
-        priority_requests: false,
-    };
-    let mut engine = Core::new(rt.alloc(), config, false);
-    let spent = take_every(rt, &mut engine, size, peers);
+pub fn run(
+    rt: &(impl AllocGlobal + Clock + Print),
+    size: u64,
+    peers: u16,
+    with_time: bool,
+) -> Result<(), Fault> {
+    let mut engine = Core::new(rt.alloc(), CONFIG, false);
+    let taken = take_every(rt, &mut engine, size, peers, with_time);
     drop(engine);
-    spent
+    taken
 }
 
-/// Takes events of every kind through an engine, and measures them: while all its peers are blocked the keys
-/// only wait.
+/// Takes events of every kind through an engine: while all its peers are blocked the keys only wait.
 fn take_every(
-    rt: &(impl AllocGlobal + Clock),
+    rt: &(impl AllocGlobal + Clock + Print),
     engine: &mut Engine,
     size: u64,
     peers: u16,
-) -> Result<Vec<Spent>, Fault> {
+    with_time: bool,
+) -> Result<(), Fault> {
     block_all(rt.alloc(), engine, peers)?;
-    let mut spent = Vec::with_capacity(rt.alloc(), 4)?;
-    spent.push(take_all(rt, engine, Kind::Wait, size)?)?;
-    take(engine, Event::Blocked(Vec::new(rt.alloc())))?;
-    for kind in [Kind::Ask, Kind::Answer, Kind::Complete] {
-        spent.push(take_all(rt, engine, kind, size)?)?;
-    }
-    Ok(spent)
+    take_each(rt, engine, &[Kind::Wait], size, with_time)?;
+    block(engine, Vec::new(rt.alloc()))?;
+    take_each(rt, engine, KINDS, size, with_time)
 }
 
 /// The engine knows this many peers, and all are blocked.
 fn block_all(alloc: Global, engine: &mut Engine, peers: u16) -> Result<(), Fault> {
     let known = named(alloc, peers)?;
-    take(
-        engine,
-        Event::PeerSet {
-            index: 0,
-            peers: known,
-        },
-    )?;
-    take(engine, Event::Blocked(named(alloc, peers)?))?;
+    know(engine, known)?;
+    let blocked = named(alloc, peers)?;
+    block(engine, blocked)
+}
+
+/// The engine knows these peers.
+fn know(engine: &mut Engine, peers: Vec<u16>) -> Result<(), Fault> {
+    take(engine, Event::PeerSet { index: 0, peers })?;
     Ok(())
 }
 
-/// The peers of the set, in their order.
-fn named(alloc: Global, count: u16) -> Result<Vec<u16>, Fault> {
-    let mut peers = Vec::with_capacity(alloc, usize::from(count))?;
-    for peer in 0..count {
-        peers.push(peer)?;
-    }
-    Ok(peers)
+/// These peers are blocked, and no other.
+fn block(engine: &mut Engine, peers: Vec<u16>) -> Result<(), Fault> {
+    take(engine, Event::Blocked(peers))?;
+    Ok(())
 }
 
-/// Takes steps of one kind, and measures them.
-fn take_all(
-    rt: &(impl AllocGlobal + Clock),
-    engine: &mut Engine,
-    kind: Kind,
-    steps: u64,
-) -> Result<Spent, Fault> {
-    let began = Instant::now(rt)?;
-    let mut counted: u64 = 0;
-    for i in 0..steps {
-        let event = event_of(rt.alloc(), kind, i)?;
-        counted = counted.saturating_add(take(engine, event)?);
+impl Driven for Engine {
+    /// It counts the effects.
+    fn take(&mut self, alloc: Global, kind: Kind, i: u64) -> Result<u64, Fault> {
+        take(self, event_of(alloc, kind, i)?)
     }
-    Ok(Spent {
-        kind,
-        steps,
-        counted,
-        nanoseconds: began.elapsed(rt)?.as_nanos(),
-    })
 }
 
 /// Takes one event, and the scan that it begins. It counts the effects.
@@ -149,7 +129,14 @@ fn answer_to(told: &Told) -> Option<Answer> {
 /// The event of one key. Requests and deliveries have the numbers of their keys' order.
 fn event_of(alloc: Global, kind: Kind, i: u64) -> Result<Step, Fault> {
     Ok(match kind {
-        Kind::Wait => Event::Fetch(fetch(alloc, Name::scattered(i))?),
+        Kind::Wait => {
+            let fetch = FetchKey {
+                key: Name::scattered(i),
+                subscribers: listed(alloc, SUBSCRIBERS)?,
+                metadata: None,
+            };
+            Event::Fetch(alone(alloc, fetch)?)
+        }
         Kind::Ask => Event::PendingDue,
         Kind::Answer => Event::Net {
             peer: 0,
@@ -160,24 +147,6 @@ fn event_of(alloc: Global, kind: Kind, i: u64) -> Result<Step, Fault> {
             outcome: Some(Outcome::Resolved(Resolution::Complete)),
         },
     })
-}
-
-/// A fetch of one key for its subscribers, from any peer.
-fn fetch(
-    alloc: Global,
-    key: Name,
-) -> Result<Vec<FetchKey<Name, u16, Option<NonEmptyVec<u16>>>>, Fault> {
-    let mut subscribers = NonEmptyVec::new(alloc, (0, 0))?;
-    for subscriber in 1..SUBSCRIBERS {
-        subscribers.push((subscriber, 0))?;
-    }
-    let mut items = Vec::with_capacity(alloc, 1)?;
-    items.push(FetchKey {
-        key,
-        subscribers,
-        metadata: None,
-    })?;
-    Ok(items)
 }
 
 /// A response of one byte to the request of this id.

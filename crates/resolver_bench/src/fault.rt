@@ -1,52 +1,57 @@
 //! Why a run ended before its end.
 
-ghost use Rattle.std.specs.Prelude.{◌≡◌};
-ghost use Rattle.resolver_bench.specs.declared.fault.Fault.TheVariants.{Host, Memory, Refused};
-
 use std::alloc::{AllocError, AllocFailed};
 use std::io;
-use thiserror::Error;
 
-#[derive(Clone, Copy, Debug, Error, PartialEq, Eq)]
+#[derive(Clone, Copy)]
 pub enum Fault {
-    #[error("no number of keys or peers")]
+    /// An argument is neither `rows` nor a number.
     Size,
-    #[error("memory")]
     Memory,
-    #[error("clock or output")]
     Host,
-    #[error("the actor refused an input")]
+    /// A part refused what it was given.
     Refused,
+    /// A part was another once it was refused memory.
+    Changed,
+}
+
+impl Fault {
+    /// The words that are printed.
+    pub fn text(self) -> &'static str {
+        match self {
+            Fault::Size => "no number of keys or peers",
+            Fault::Memory => "memory",
+            Fault::Host => "arguments, clock or output",
+            Fault::Refused => "the actor refused an input",
+            Fault::Changed => "a row changed what it was refused for",
+        }
+    }
 }
 
 impl From<AllocError> for Fault {
-    ghost from_gives = { λ _ fault. fault ≡ Memory };
-
     fn from(_: AllocError) -> Fault {
         Fault::Memory
     }
 }
 
 impl<T: Drop> From<AllocFailed<T>> for Fault {
-    ghost from_gives = { λ _ fault. fault ≡ Memory };
-
     fn from(_: AllocFailed<T>) -> Fault {
         Fault::Memory
     }
 }
 
 impl From<io::Error> for Fault {
-    ghost from_gives = { λ _ fault. fault ≡ Host };
-
-    fn from(_: io::Error) -> Fault {
-        Fault::Host
+    fn from(error: io::Error) -> Fault {
+        if error.kind() == io::ErrorKind::OutOfMemory {
+            Fault::Memory
+        } else {
+            Fault::Host
+        }
     }
 }
 
-impl From<resolver::base::Fault> for Fault {
-    ghost from_gives = { λ _ fault. fault ≡ Refused };
-
-    fn from(_: resolver::base::Fault) -> Fault {
+impl From<resolver_base::base::Fault> for Fault {
+    fn from(_: resolver_base::base::Fault) -> Fault {
         Fault::Refused
     }
 }

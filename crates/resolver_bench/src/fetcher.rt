@@ -4,9 +4,10 @@
 //! be counted by its name.
 
 use crate::fault::Fault;
-use crate::workload::scattered;
-use resolver::base::{Check, NonEmptyVec};
-use resolver::p2p::fetcher::{Answer, Ask, Config, Fetcher};
+use crate::workload::{named, scattered};
+use resolver_base::base::Check;
+use resolver_fetch::fetcher::{Answer, Ask, Fetcher};
+use resolver_root::NonEmptyVec;
 use std::alloc::Global;
 
 /// A fetcher of numbered keys, which asks numbered peers.
@@ -18,26 +19,8 @@ type Asked = Option<Ask<u64, u16>>;
 /// A second, in nanoseconds.
 const SECOND: u128 = 1_000_000_000;
 
-/// A fetcher that knows this many peers, each with a weight of its own.
-pub fn among(alloc: Global, peers: u16) -> Result<Node, Fault> {
-    let config = Config {
-        me: None,
-        fetch_timeout: 1,
-        retry_delay: 1,
-        priority_requests: false,
-    };
-    let mut fetcher = Fetcher::new(alloc, config);
-    match know(alloc, &mut fetcher, peers) {
-        Ok(()) => Ok(fetcher),
-        Err(fault) => {
-            drop(fetcher);
-            Err(fault)
-        }
-    }
-}
-
-/// Has a fetcher know so many peers, and take in a response of each.
-fn know(alloc: Global, fetcher: &mut Node, peers: u16) -> Result<(), Fault> {
+/// Has a fetcher know so many peers, and take in a response of each, so that each has a weight of its own.
+pub fn know(alloc: Global, fetcher: &mut Node, peers: u16) -> Result<(), Fault> {
     if fetcher.is_scanning() {
         return Err(Fault::Refused);
     }
@@ -46,15 +29,6 @@ fn know(alloc: Global, fetcher: &mut Node, peers: u16) -> Result<(), Fault> {
         record(fetcher, peer, u64::from(peer));
     }
     Ok(())
-}
-
-/// So many peers, in their order.
-pub fn named(alloc: Global, count: u16) -> Result<Vec<u16>, Fault> {
-    let mut peers = Vec::with_capacity(alloc, usize::from(count))?;
-    for peer in 0..count {
-        peers.push(peer)?;
-    }
-    Ok(peers)
 }
 
 /// Has these peers blocked.
@@ -91,11 +65,17 @@ pub fn aim(
     if fetcher.is_scanning() {
         return Err(Fault::Refused);
     }
-    let mut targets = NonEmptyVec::new(alloc, first)?;
-    for more in 1..count {
-        targets.push(first.wrapping_add(more))?;
-    }
+    let targets = from_on(alloc, first, count)?;
     Ok(fetcher.add_targets(key, targets)?)
+}
+
+/// This peer and those that follow it, so many in all.
+fn from_on(alloc: Global, first: u16, count: u16) -> Result<NonEmptyVec<u16>, Fault> {
+    let mut peers = NonEmptyVec::new(alloc, first)?;
+    for more in 1..count {
+        peers.push(first.wrapping_add(more))?;
+    }
+    Ok(peers)
 }
 
 /// Whether a key waits, of which the wake-up tells.
@@ -104,46 +84,74 @@ pub fn wakes(fetcher: &Node) -> bool {
     fetcher.get_pending_deadline().is_some()
 }
 
-/// Begins a scan.
+/// Begins a scan. It says whether the scan asks something.
 #[inline(never)]
-pub fn begin(fetcher: &mut Node) -> Result<Asked, Fault> {
+pub fn begin(fetcher: &mut Node) -> Result<bool, Fault> {
     if fetcher.is_scanning() {
         return Err(Fault::Refused);
     }
-    Ok(fetcher.scan_begin(0)?)
+    Ok(is_asked(fetcher.scan_begin(0)?))
 }
 
-/// Has the peer drawn by weight.
+/// Whether something is asked.
+fn is_asked(asked: Asked) -> bool {
+    let is_some = asked.is_some();
+    drop(asked);
+    is_some
+}
+
+/// Has the peer drawn by weight. It answers the bound of the next draw.
 #[inline(never)]
-fn draw_mode(fetcher: &mut Node) -> Result<Asked, Fault> {
-    Ok(fetcher.scan_answer(Answer::Drawn(3))?)
+fn draw_mode(fetcher: &mut Node) -> Result<u128, Fault> {
+    let asked = answer(fetcher, Answer::Drawn(3))?;
+    let bound = match &asked {
+        Some(Ask::Draw(bound)) => Ok(*bound),
+        _ => Err(Fault::Refused),
+    };
+    drop(asked);
+    bound
+}
+
+/// Answers what a scan asks.
+fn answer(fetcher: &mut Node, answer: Answer) -> Result<Asked, Fault> {
+    Ok(fetcher.scan_answer(answer)?)
 }
 
 /// Draws the peer.
 #[inline(never)]
-fn draw_peer(fetcher: &mut Node, number: u128) -> Result<Asked, Fault> {
-    Ok(fetcher.scan_answer(Answer::Drawn(number))?)
+fn draw_peer(fetcher: &mut Node, number: u128) -> Result<bool, Fault> {
+    Ok(is_asked(answer(fetcher, Answer::Drawn(number))?))
 }
 
-/// The peer may be sent to, and the first id is 0.
+/// The peer may be sent to, and the first id is 0. It answers the id of the request, and its peer.
 #[inline(never)]
-fn allow(fetcher: &mut Node) -> Result<Asked, Fault> {
-    match fetcher.scan_answer(Answer::Checked(Check::Clear))? {
-        Some(Ask::Draw(_)) => Ok(fetcher.scan_answer(Answer::Drawn(0))?),
-        asked => Ok(asked),
+fn allow(fetcher: &mut Node) -> Result<(u64, u16), Fault> {
+    match answer(fetcher, Answer::Checked(Check::Clear))? {
+        Some(Ask::Draw(_)) => requested(answer(fetcher, Answer::Drawn(0))?),
+        asked => requested(asked),
     }
 }
 
-/// The peer may not be sent to.
+/// The id and the peer of a request that is asked for.
+fn requested(asked: Asked) -> Result<(u64, u16), Fault> {
+    let request = match &asked {
+        Some(Ask::Request { peer, id, .. }) => Ok((*id, *peer)),
+        _ => Err(Fault::Refused),
+    };
+    drop(asked);
+    request
+}
+
+/// The peer may not be sent to. It says whether the scan asks something more.
 #[inline(never)]
-fn forbid(fetcher: &mut Node) -> Result<Asked, Fault> {
-    Ok(fetcher.scan_answer(Answer::Checked(Check::Until(1)))?)
+fn forbid(fetcher: &mut Node) -> Result<bool, Fault> {
+    Ok(is_asked(answer(fetcher, Answer::Checked(Check::Until(1)))?))
 }
 
 /// The request is on its way.
 #[inline(never)]
-fn send(fetcher: &mut Node) -> Result<Asked, Fault> {
-    Ok(fetcher.scan_answer(Answer::Sent(true))?)
+fn send(fetcher: &mut Node) -> Result<bool, Fault> {
+    Ok(is_asked(answer(fetcher, Answer::Sent(true))?))
 }
 
 /// Takes in a response of a peer.
@@ -171,28 +179,23 @@ pub fn request_of(fetcher: &Node, key: u64) -> Option<(u64, u16)> {
 #[inline(never)]
 pub fn scan(fetcher: &mut Node, seed: u64) -> Result<(u64, u16), Fault> {
     begin(fetcher)?;
-    drawn(fetcher, seed)?;
-    let Some(Ask::Request { peer, id, .. }) = allow(fetcher)? else {
-        return Err(Fault::Refused);
-    };
+    draw(fetcher, seed)?;
+    let request = allow(fetcher)?;
     send(fetcher)?;
-    Ok((id, peer))
+    Ok(request)
 }
 
 /// An open scan tries a peer in vain. It says whether the scan goes on.
 #[inline(never)]
 pub fn limit(fetcher: &mut Node, seed: u64) -> Result<bool, Fault> {
-    drawn(fetcher, seed)?;
-    Ok(forbid(fetcher)?.is_some())
+    draw(fetcher, seed)?;
+    forbid(fetcher)
 }
 
 /// Draws a peer by weight.
-fn drawn(fetcher: &mut Node, seed: u64) -> Result<Asked, Fault> {
-    let Some(Ask::Draw(total)) = draw_mode(fetcher)? else {
-        return Err(Fault::Refused);
-    };
-    if total == 0 {
-        return Err(Fault::Refused);
+fn draw(fetcher: &mut Node, seed: u64) -> Result<bool, Fault> {
+    match draw_mode(fetcher)? {
+        0 => Err(Fault::Refused),
+        total => draw_peer(fetcher, u128::from(scattered(seed)) % total),
     }
-    draw_peer(fetcher, u128::from(scattered(seed)) % total)
 }

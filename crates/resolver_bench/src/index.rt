@@ -1,41 +1,58 @@
 //! An index of as many weights as there are peers: it is made, places are drawn, and weights are set.
 
 use crate::fault::Fault;
-use crate::spent::{Kind, Spent};
+use crate::spent::{Driven, Kind, take_each};
 use crate::workload::scattered;
-use resolver::p2p::sampling::WeightedIndex;
+use resolver_request::sampling::WeightedIndex;
 use std::alloc::Global;
 use std::rt::Clock;
-use std::time::Instant;
 
 /// How often the index is made.
 const MADE: u64 = 16;
 
+/// An index, and the weights that it was made of.
+struct Choices {
+    weights: Vec<u64>,
+    index: WeightedIndex,
+}
+
+impl Drop for Choices {
+    fn drop(self) {
+        let Self {
+            weights: _,
+            index: _,
+        } = self;
+    }
+}
+
 /// Takes an index of so many places through so many draws and weights.
-pub fn run(rt: &(impl AllocGlobal + Clock), size: u64, places: u16) -> Result<Vec<Spent>, Fault> {
+pub fn run(
+    rt: &(impl AllocGlobal + Clock + Print),
+    size: u64,
+    places: u16,
+    with_time: bool,
+) -> Result<(), Fault> {
     let weights = weights(rt.alloc(), places)?;
     match WeightedIndex::new(rt.alloc(), &weights) {
-        Ok(mut index) => {
-            let spent = take_every(rt, &weights, &mut index, size);
-            drop(index);
-            spent
+        Ok(index) => {
+            let mut choices = Choices { weights, index };
+            let taken = take_every(rt, &mut choices, size, with_time);
+            drop(choices);
+            taken
         }
         Err(fault) => Err(fault.into()),
     }
 }
 
-/// The same of an index of these weights that is lent.
+/// The same of an index that is lent.
 fn take_every(
-    rt: &(impl AllocGlobal + Clock),
-    weights: &[u64],
-    index: &mut WeightedIndex,
+    rt: &(impl AllocGlobal + Clock + Print),
+    choices: &mut Choices,
     size: u64,
-) -> Result<Vec<Spent>, Fault> {
-    let mut spent = Vec::with_capacity(rt.alloc(), 3)?;
-    spent.push(make_all(rt, weights)?)?;
-    spent.push(pick_all(rt, index, size)?)?;
-    spent.push(set_all(rt, index, size)?)?;
-    Ok(spent)
+    with_time: bool,
+) -> Result<(), Fault> {
+    take_each(rt, choices, &[Kind::Index], MADE, with_time)?;
+    take_each(rt, choices, &[Kind::Pick, Kind::Set], size, with_time)
 }
 
 /// So many weights that differ.
@@ -47,19 +64,16 @@ fn weights(alloc: Global, places: u16) -> Result<Vec<u64>, Fault> {
     Ok(weights)
 }
 
-/// Makes the index again and again.
-fn make_all(rt: &(impl AllocGlobal + Clock), weights: &[u64]) -> Result<Spent, Fault> {
-    let began = Instant::now(rt)?;
-    let mut counted: u64 = 0;
-    for _ in 0..MADE {
-        counted = counted.saturating_add(make(rt.alloc(), weights)?);
+impl Driven for Choices {
+    /// It counts places: those of an index that is made, those of a positive weight that are drawn, and those
+    /// that have another weight then.
+    fn take(&mut self, alloc: Global, kind: Kind, i: u64) -> Result<u64, Fault> {
+        match kind {
+            Kind::Index => make(alloc, &self.weights),
+            Kind::Pick => Ok(pick(&self.index, scattered(i))),
+            _ => Ok(set(&mut self.index, scattered(i))),
+        }
     }
-    Ok(Spent {
-        kind: Kind::Index,
-        steps: MADE,
-        counted,
-        nanoseconds: began.elapsed(rt)?.as_nanos(),
-    })
 }
 
 /// Makes the index once, and counts its places.
@@ -71,25 +85,6 @@ fn make(alloc: Global, weights: &[u64]) -> Result<u64, Fault> {
     Ok(places)
 }
 
-/// Draws places, and counts the draws of a positive weight.
-fn pick_all(
-    rt: &(impl AllocGlobal + Clock),
-    index: &WeightedIndex,
-    steps: u64,
-) -> Result<Spent, Fault> {
-    let began = Instant::now(rt)?;
-    let mut counted: u64 = 0;
-    for i in 0..steps {
-        counted = counted.saturating_add(pick(index, scattered(i)));
-    }
-    Ok(Spent {
-        kind: Kind::Pick,
-        steps,
-        counted,
-        nanoseconds: began.elapsed(rt)?.as_nanos(),
-    })
-}
-
 /// Draws a place, and counts it where it has a weight.
 #[inline(never)]
 fn pick(index: &WeightedIndex, seed: u64) -> u64 {
@@ -99,25 +94,6 @@ fn pick(index: &WeightedIndex, seed: u64) -> u64 {
     }
     let place = index.pick(u128::from(seed) % total);
     u64::from(index.weight(place) > 0)
-}
-
-/// Gives places other weights, and counts them.
-fn set_all(
-    rt: &(impl AllocGlobal + Clock),
-    index: &mut WeightedIndex,
-    steps: u64,
-) -> Result<Spent, Fault> {
-    let began = Instant::now(rt)?;
-    let mut counted: u64 = 0;
-    for i in 0..steps {
-        counted = counted.saturating_add(set(index, scattered(i)));
-    }
-    Ok(Spent {
-        kind: Kind::Set,
-        steps,
-        counted,
-        nanoseconds: began.elapsed(rt)?.as_nanos(),
-    })
 }
 
 /// Gives a place another weight, and counts it.

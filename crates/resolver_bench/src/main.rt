@@ -1,7 +1,10 @@
-//! `resolver-bench` drives the opaque actor, the engine's core, a fetcher and a full mailbox with many keys, one
-//! key with many subscribers, and an index with many places, and prints how many steps that took and what they
-//! had. With a number of keys as its argument, and of that key's subscribers, it prints nanoseconds a step too;
-//! with a number of peers as a second argument it drives only what knows peers. It is no part of the product.
+//! `resolver-bench` tries the parts that a resolver is made of. It is no part of the product.
+//!
+//! It takes worked rows through the parts, call by call. Then it drives the opaque actor, the engine's core, a
+//! fetcher and a full mailbox with many keys, one key with many subscribers, and an index with many places, and
+//! prints how many steps that took and what they had. With the word `rows` as its argument it takes the rows
+//! alone. With a number of keys, and of that key's subscribers, it takes none, and prints nanoseconds a step too;
+//! with a number of peers as a second argument it drives only what knows peers.
 #![tactic(auto)]
 
 mod actor;
@@ -11,13 +14,13 @@ mod fetcher;
 mod index;
 mod mailbox;
 mod name;
+mod refused;
 mod scans;
 mod spent;
 mod tracker;
 mod workload;
 
 use fault::Fault;
-use spent::Spent;
 use std::env;
 use std::env::Env;
 use std::process::ExitCode;
@@ -30,13 +33,25 @@ use std::sync::Wait;
 const FEW: u64 = 100;
 
 /// How many peers there are, in turn, where no argument says it.
-const PEERS: [u16; 3] = [16, 256, 4_096];
+const PEERS: &[u16] = &[16, 256, 4_096];
+
+/// What is done, by the arguments.
+enum Work {
+    /// The rows, and a few keys through all.
+    Everything,
+    /// The rows alone.
+    Rows,
+    /// So many keys through all.
+    Keys(u64),
+    /// So many keys through what knows peers, with so many of them.
+    Peers(u64, u16),
+}
 
 fn main(rt: HostRuntime) -> ExitCode {
     match run(&rt) {
         Ok(()) => ExitCode::SUCCESS,
         Err(fault) => {
-            let _ = eprintln!(rt; "fault: {fault}");
+            let _ = eprintln!(rt; "fault: {}", fault.text());
             ExitCode::FAILURE
         }
     }
@@ -45,11 +60,14 @@ fn main(rt: HostRuntime) -> ExitCode {
 fn run<R: AllocGlobal + Clock + Env + Print + Wait + RandomSource + Copy + Drop>(
     rt: &R,
 ) -> Result<(), Fault> {
-    let (size, peers) = asked(rt)?;
-    let keys = size.unwrap_or(FEW);
-    match peers {
-        Some(count) => run_peers(rt, keys, count, true),
-        None => run_all(rt, keys, size.is_some()),
+    match asked(rt)? {
+        Work::Everything => {
+            refused::run(rt)?;
+            run_all(rt, FEW, false)
+        }
+        Work::Rows => refused::run(rt),
+        Work::Keys(keys) => run_all(rt, keys, true),
+        Work::Peers(keys, peers) => run_peers(rt, keys, peers, true),
     }
 }
 
@@ -59,11 +77,11 @@ fn run_all<R: AllocGlobal + Clock + Print + Wait + RandomSource + Copy + Drop>(
     keys: u64,
     with_time: bool,
 ) -> Result<(), Fault> {
-    print_all(rt, &actor::run(rt, keys)?, with_time)?;
-    print_all(rt, &mailbox::run(*rt, keys)?, with_time)?;
-    print_all(rt, &tracker::run(rt, keys)?, with_time)?;
+    actor::run(rt, keys, with_time)?;
+    mailbox::run(*rt, keys, with_time)?;
+    tracker::run(rt, keys, with_time)?;
     for count in PEERS {
-        run_peers(rt, keys, count, with_time)?;
+        run_peers(rt, keys, *count, with_time)?;
     }
     Ok(())
 }
@@ -76,52 +94,43 @@ fn run_peers(
     with_time: bool,
 ) -> Result<(), Fault> {
     println!(rt; "with {peers} peers:")?;
-    print_all(rt, &engine::run(rt, keys, peers)?, with_time)?;
-    print_all(rt, &scans::run(rt, keys, peers)?, with_time)?;
-    print_all(rt, &index::run(rt, keys, peers)?, with_time)
+    engine::run(rt, keys, peers, with_time)?;
+    scans::run(rt, keys, peers, with_time)?;
+    index::run(rt, keys, peers, with_time)
 }
 
-/// The numbers of keys and of peers that the arguments say, where they do.
-fn asked(rt: &(impl AllocGlobal + Env)) -> Result<(Option<u64>, Option<u16>), Fault> {
+/// The work that the arguments ask for.
+fn asked(rt: &(impl AllocGlobal + Env)) -> Result<Work, Fault> {
     let mut arguments = env::args(rt)?;
     let _ = arguments.next();
-    let keys = number(arguments.next());
-    let peers = number(arguments.next());
+    let first = arguments.next();
+    let second = arguments.next();
     drop(arguments);
-    Ok((keys?, peers?))
+    match first {
+        Some(word) => asked_by(&word, second.as_deref()),
+        None => Ok(Work::Everything),
+    }
 }
 
-/// The number that an argument writes, where there is one.
-fn number<T: FromStr>(argument: Option<String>) -> Result<Option<T>, Fault>
+/// The work that a first argument asks for, with the second one where there is one.
+fn asked_by(word: &str, second: Option<&str>) -> Result<Work, Fault> {
+    if word == "rows" {
+        return Ok(Work::Rows);
+    }
+    let keys = number(word)?;
+    match second {
+        Some(digits) => Ok(Work::Peers(keys, number(digits)?)),
+        None => Ok(Work::Keys(keys)),
+    }
+}
+
+/// The number that an argument writes.
+fn number<T: FromStr>(digits: &str) -> Result<T, Fault>
 where
     T::Err: Drop,
 {
-    let Some(digits) = argument else {
-        return Ok(None);
-    };
     match digits.parse::<T>() {
-        Ok(number) => Ok(Some(number)),
+        Ok(number) => Ok(number),
         Err(_) => Err(Fault::Size),
     }
-}
-
-fn print_all(rt: &impl Print, all: &[Spent], with_time: bool) -> Result<(), Fault> {
-    for one in all {
-        print(rt, one, with_time)?;
-    }
-    Ok(())
-}
-
-fn print(rt: &impl Print, spent: &Spent, with_time: bool) -> Result<(), Fault> {
-    let name = spent.kind.name();
-    let steps = spent.steps;
-    let counted = spent.counted;
-    let what = spent.kind.counts();
-    if with_time {
-        let each = spent.nanoseconds_a_step();
-        println!(rt; "{name}: {steps} steps, {counted} {what}, {each} ns a step")?;
-    } else {
-        println!(rt; "{name}: {steps} steps, {counted} {what}")?;
-    }
-    Ok(())
 }

@@ -4,12 +4,13 @@ ghost use Rattle.std.specs.Prelude.{refl};
 ghost use Rattle.std.proofs.Common.{rules};
 ghost use Rattle.resolver_bench.specs.Names.{bytes_of, read_from, own_bytes};
 
+use crate::workload::scattered;
 use bytes::BytesMut;
-use resolver::base::Span;
+use resolver_base::base::Span;
 use std::alloc::AllocError;
 
 /// A key of four bytes.
-#[derive(Clone, Copy, Debug, PartialEq, Eq, PartialOrd, Ord, Hash)]
+#[derive(Clone, Copy, PartialEq, Eq, PartialOrd, Ord, Hash)]
 pub struct Name {
     first: u8,
     second: u8,
@@ -20,14 +21,29 @@ pub struct Name {
 impl Name {
     /// Keys that don't come in their order, each once.
     pub fn scattered(i: u64) -> Name {
-        let bytes = i.wrapping_mul(0x9e37_79b9_7f4a_7c15).to_be_bytes();
-        let [_, _, _, _, first, second, third, fourth] = bytes;
+        let [_, _, _, _, first, second, third, fourth] = scattered(i).to_be_bytes();
         Name {
             first,
             second,
             third,
             fourth,
         }
+    }
+
+    /// The key whose bytes are this number's. Keys are ordered as their numbers are.
+    pub fn numbered(number: u32) -> Name {
+        let [first, second, third, fourth] = number.to_be_bytes();
+        Name {
+            first,
+            second,
+            third,
+            fourth,
+        }
+    }
+
+    /// The number that its bytes are.
+    pub fn number(&self) -> u32 {
+        u32::from_be_bytes([self.first, self.second, self.third, self.fourth])
     }
 }
 

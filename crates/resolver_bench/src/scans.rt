@@ -3,14 +3,13 @@
 
 use crate::fault::Fault;
 use crate::fetcher::{
-    Node, aim, among, begin, block, limit, may_wait, named, record, request_of, respond, scan,
-    wait, wakes,
+    Node, aim, begin, block, know, limit, may_wait, record, request_of, respond, scan, wait, wakes,
 };
-use crate::spent::{Kind, Spent};
-use crate::workload::scattered;
+use crate::spent::{Driven, Kind, take_each};
+use crate::workload::{CONFIG, named, scattered};
+use resolver_fetch::fetcher::Fetcher;
 use std::alloc::Global;
 use std::rt::Clock;
-use std::time::Instant;
 
 /// The targets of a key that has some.
 const TARGETS: u16 = 4;
@@ -18,116 +17,83 @@ const TARGETS: u16 = 4;
 /// How many scans go over new peers.
 const ANEW: u64 = 16;
 
+/// The steps that a fetcher takes in turn, and each of those that has one of its own.
+const TURNS: &[&[Kind]] = &[
+    &[
+        Kind::Ready,
+        Kind::Idle,
+        Kind::Wake,
+        Kind::Scan,
+        Kind::Respond,
+    ],
+    &[Kind::Round],
+    &[Kind::Aimed],
+    &[Kind::Limit],
+    &[Kind::Anew],
+];
+
 /// Takes so many keys through fetchers that know this many peers.
-pub fn run(rt: &(impl AllocGlobal + Clock), size: u64, peers: u16) -> Result<Vec<Spent>, Fault> {
-    let mut spent = Vec::with_capacity(rt.alloc(), 9)?;
-    take_every(rt, &mut spent, size, peers)?;
-    for kind in [Kind::Round, Kind::Aimed, Kind::Limit, Kind::Anew] {
-        spent.push(take_new(rt, kind, size, peers)?)?;
-    }
-    Ok(spent)
-}
-
-/// Keys wait while every peer is blocked. Then each is asked for, and after that each request is answered.
-fn take_every(
-    rt: &(impl AllocGlobal + Clock),
-    spent: &mut Vec<Spent>,
+pub fn run(
+    rt: &(impl AllocGlobal + Clock + Print),
     size: u64,
     peers: u16,
+    with_time: bool,
 ) -> Result<(), Fault> {
-    match among(rt.alloc(), peers) {
-        Ok(mut fetcher) => {
-            let taken = take_in_turn(rt, &mut fetcher, spent, size, peers);
-            drop(fetcher);
-            taken
-        }
-        Err(fault) => Err(fault),
-    }
-}
-
-/// The same of a fetcher that is lent.
-fn take_in_turn(
-    rt: &(impl AllocGlobal + Clock),
-    fetcher: &mut Node,
-    spent: &mut Vec<Spent>,
-    size: u64,
-    peers: u16,
-) -> Result<(), Fault> {
-    block(fetcher, named(rt.alloc(), peers)?)?;
-    for kind in [Kind::Ready, Kind::Idle, Kind::Wake] {
-        spent.push(take_all(rt, fetcher, kind, size)?)?;
-    }
-    block(fetcher, Vec::new(rt.alloc()))?;
-    for kind in [Kind::Scan, Kind::Respond] {
-        spent.push(take_all(rt, fetcher, kind, size)?)?;
+    for kinds in TURNS {
+        let mut fetcher = Fetcher::new(rt.alloc(), CONFIG);
+        let taken = take_in_turn(rt, &mut fetcher, kinds, (size, peers), with_time);
+        drop(fetcher);
+        taken?;
     }
     Ok(())
 }
 
-/// Takes the steps of one kind through a fetcher of their own.
-fn take_new(
-    rt: &(impl AllocGlobal + Clock),
-    kind: Kind,
-    size: u64,
-    peers: u16,
-) -> Result<Spent, Fault> {
-    match among(rt.alloc(), peers) {
-        Ok(mut fetcher) => {
-            let spent = take_kind(rt, &mut fetcher, kind, size, peers);
-            drop(fetcher);
-            spent
-        }
-        Err(fault) => Err(fault),
+/// The same of one fetcher that is lent.
+fn take_in_turn(
+    rt: &(impl AllocGlobal + Clock + Print),
+    fetcher: &mut Node,
+    kinds: &[Kind],
+    (size, peers): (u64, u16),
+    with_time: bool,
+) -> Result<(), Fault> {
+    know(rt.alloc(), fetcher, peers)?;
+    for kind in kinds {
+        prepare(rt.alloc(), fetcher, *kind, (size, peers))?;
+        let steps = match kind {
+            Kind::Limit => u64::from(peers),
+            Kind::Anew => ANEW,
+            _ => size,
+        };
+        take_each(rt, fetcher, &[*kind], steps, with_time)?;
     }
+    Ok(())
 }
 
-/// The same of a fetcher that is lent.
-fn take_kind(
-    rt: &(impl AllocGlobal + Clock),
+/// What a fetcher needs before the steps of a kind: keys wait while every peer is blocked, and then each is asked
+/// for; in a round keys wait, and so they do for new peers; keys with targets have a few each; and one key is
+/// tried with each peer in vain.
+fn prepare(
+    alloc: Global,
     fetcher: &mut Node,
     kind: Kind,
-    size: u64,
-    peers: u16,
-) -> Result<Spent, Fault> {
+    (size, peers): (u64, u16),
+) -> Result<(), Fault> {
     match kind {
-        Kind::Aimed => take_aimed(rt, fetcher, size, peers),
-        Kind::Limit => take_limits(rt, fetcher, peers),
-        Kind::Anew => take_waiting(rt, fetcher, kind, ANEW),
-        _ => take_waiting(rt, fetcher, kind, size),
+        Kind::Ready => block(fetcher, named(alloc, peers)?),
+        Kind::Scan => block(fetcher, Vec::new(alloc)),
+        Kind::Round => wait_all(fetcher, size),
+        Kind::Anew => wait_all(fetcher, ANEW),
+        Kind::Aimed => {
+            aim_all(alloc, fetcher, size, peers)?;
+            wait_all(fetcher, size)
+        }
+        Kind::Limit => {
+            wait_all(fetcher, 1)?;
+            begin(fetcher)?;
+            Ok(())
+        }
+        _ => Ok(()),
     }
-}
-
-/// So many keys wait, and each has a few targets.
-fn take_aimed(
-    rt: &(impl AllocGlobal + Clock),
-    fetcher: &mut Node,
-    size: u64,
-    peers: u16,
-) -> Result<Spent, Fault> {
-    aim_all(rt.alloc(), fetcher, size, peers)?;
-    take_waiting(rt, fetcher, Kind::Aimed, size)
-}
-
-/// A key is tried with each peer in vain.
-fn take_limits(
-    rt: &(impl AllocGlobal + Clock),
-    fetcher: &mut Node,
-    peers: u16,
-) -> Result<Spent, Fault> {
-    wait_all(fetcher, 1)?;
-    begin(fetcher)?;
-    take_all(rt, fetcher, Kind::Limit, u64::from(peers))
-}
-
-/// So many keys wait, and a step is taken for each.
-fn take_waiting(
-    rt: &(impl AllocGlobal + Clock),
-    fetcher: &mut Node,
-    kind: Kind,
-    size: u64,
-) -> Result<Spent, Fault> {
-    wait_all(fetcher, size)?;
-    take_all(rt, fetcher, kind, size)
 }
 
 /// Has so many keys wait.
@@ -147,26 +113,11 @@ fn aim_all(alloc: Global, fetcher: &mut Node, size: u64, peers: u16) -> Result<(
     Ok(())
 }
 
-/// Takes steps of one kind, and measures them.
-fn take_all(
-    rt: &(impl AllocGlobal + Clock),
-    fetcher: &mut Node,
-    kind: Kind,
-    steps: u64,
-) -> Result<Spent, Fault> {
-    let began = Instant::now(rt)?;
-    let mut counted: u64 = 0;
-    for i in 0..steps {
-        if take(rt.alloc(), fetcher, kind, i)? {
-            counted = counted.saturating_add(1);
-        }
+impl Driven for Node {
+    /// It counts a key that waits then, is asked for or answered, or a scan that goes on.
+    fn take(&mut self, alloc: Global, kind: Kind, i: u64) -> Result<u64, Fault> {
+        Ok(u64::from(take(alloc, self, kind, i)?))
     }
-    Ok(Spent {
-        kind,
-        steps,
-        counted,
-        nanoseconds: began.elapsed(rt)?.as_nanos(),
-    })
 }
 
 /// Takes one step, and says whether a key waits then, is asked for or answered, or a scan goes on.
@@ -178,7 +129,7 @@ fn take(alloc: Global, fetcher: &mut Node, kind: Kind, i: u64) -> Result<bool, F
             }
             wait(fetcher, scattered(i))?;
         }
-        Kind::Idle => return Ok(begin(fetcher)?.is_some()),
+        Kind::Idle => return begin(fetcher),
         Kind::Wake => return Ok(wakes(fetcher)),
         Kind::Respond => return Ok(answer(fetcher, scattered(i))),
         Kind::Round => return round(fetcher, i),

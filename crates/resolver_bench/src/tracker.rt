@@ -4,9 +4,10 @@
 use crate::fault::Fault;
 use crate::spent::{Kind, Spent};
 use crate::workload::{All, scattered};
-use resolver::base::NonEmptyVec;
-use resolver::ingress::{FetchKey, Message, Pending};
-use resolver::subscribers::Tracker;
+use resolver_backlog::Pending;
+use resolver_demand::subscribers::Tracker;
+use resolver_ingress::ingress::{FetchKey, Message};
+use resolver_root::NonEmptyVec;
 use std::alloc::Global;
 use std::rt::Clock;
 use std::time::Instant;
@@ -15,14 +16,16 @@ use std::time::Instant;
 const KEY: u64 = 0;
 
 /// Takes the subscribers through the tracker and through an overflow.
-pub fn run(rt: &(impl AllocGlobal + Clock), size: u64) -> Result<Vec<Spent>, Fault> {
-    let mut spent = Vec::with_capacity(rt.alloc(), 3)?;
-    spent.push(attach_each(rt, size)?)?;
+pub fn run(
+    rt: &(impl AllocGlobal + Clock + Print),
+    size: u64,
+    with_time: bool,
+) -> Result<(), Fault> {
+    attach_each(rt, size)?.print(rt, with_time)?;
     if let Ok(subscribers) = NonEmptyVec::try_from(named(rt.alloc(), 0, size)?) {
-        spent.push(attach_together(rt, subscribers)?)?;
+        attach_together(rt, subscribers)?.print(rt, with_time)?;
     }
-    spent.push(merge(rt, size)?)?;
-    Ok(spent)
+    merge(rt, size)?.print(rt, with_time)
 }
 
 /// Subscribers one by one.

@@ -4,12 +4,13 @@ ghost use Rattle.std.specs.Prelude.{true};
 ghost use Rattle.std.proofs.Common.{rules};
 
 use crate::fault::Fault;
-use resolver::base::{Faithful, NonEmptyVec, Predicate};
-use resolver::ingress::FetchKey;
-use std::alloc::Global;
+use resolver_base::base::Faithful;
+use resolver_fetch::fetcher::Config;
+use resolver_root::{NonEmptyVec, Predicate};
+use std::alloc::{AllocError, Global};
 
 /// Keeps every subscriber. No workload has a retain.
-#[derive(Clone, Copy, Debug)]
+#[derive(Clone, Copy)]
 pub struct All;
 
 impl<K: Eq, S: Eq> Predicate<K, S> for All {
@@ -26,23 +27,37 @@ impl Faithful for All {
     ghost clones = { λ x y is. Prim.search rules };
 }
 
-/// A fetch of one key for this many subscribers.
-pub fn fetch(
-    alloc: Global,
-    key: u64,
-    subscribers: u16,
-) -> Result<Vec<FetchKey<u64, u16, ()>>, Fault> {
-    let mut listed = NonEmptyVec::new(alloc, (0, 0))?;
-    for subscriber in 1..subscribers {
-        listed.push((subscriber, 0))?;
-    }
+/// What a fetcher and an engine are made with.
+pub const CONFIG: Config<u16> = Config {
+    me: None,
+    fetch_timeout: 1,
+    retry_delay: 1,
+    priority_requests: false,
+};
+
+/// A list of one item, and with room for no other.
+pub fn alone<T: Drop>(alloc: Global, item: T) -> Result<Vec<T>, AllocError> {
     let mut items = Vec::with_capacity(alloc, 1)?;
-    items.push(FetchKey {
-        key,
-        subscribers: listed,
-        metadata: (),
-    })?;
+    items.push(item)?;
     Ok(items)
+}
+
+/// So many subscribers, from 0 on.
+pub fn listed(alloc: Global, count: u16) -> Result<NonEmptyVec<(u16, u64)>, Fault> {
+    let mut subscribers = NonEmptyVec::new(alloc, (0, 0))?;
+    for subscriber in 1..count {
+        subscribers.push((subscriber, 0))?;
+    }
+    Ok(subscribers)
+}
+
+/// So many peers, in their order.
+pub fn named(alloc: Global, count: u16) -> Result<Vec<u16>, Fault> {
+    let mut peers = Vec::with_capacity(alloc, usize::from(count))?;
+    for peer in 0..count {
+        peers.push(peer)?;
+    }
+    Ok(peers)
 }
 
 /// Keys that don't come in their order, each once.

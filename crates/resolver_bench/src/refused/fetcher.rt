@@ -1,14 +1,15 @@
 //! Keys that wait and are asked of peers.
 
-use crate::part::{Part, note, note_if_any};
+use crate::name::Name;
+use crate::refused::part::{Part, Way, note, note_all, note_if_any};
 use bytes::Bytes;
-use resolver::base::{Check, Draws, Fault, Feedback, PrioritySet, PublicKey, Sender, Unreliable};
-use resolver::p2p::fetcher::{Config, Fetcher, Request};
-use resolver::p2p::mocks::Key;
+use resolver_base::base::{Check, Draws, Fault, Feedback, PublicKey, Sender, Unreliable};
+use resolver_fetch::fetcher::{Config, Fetcher, Request};
+use resolver_priorities::PrioritySet;
 use std::alloc::Global;
 
 /// A name of a peer.
-#[derive(Clone, Copy, Debug, PartialEq, Eq, PartialOrd, Ord, Hash)]
+#[derive(Clone, Copy, PartialEq, Eq, PartialOrd, Ord, Hash)]
 pub struct Peer(u8);
 
 impl PublicKey for Peer {}
@@ -41,7 +42,7 @@ impl Sender for Willing {
 
 /// A call of a fetcher, with its moment in nanoseconds.
 pub enum Call {
-    Ready(u8, u32),
+    Ready(u32, u32),
     Reconcile(&'static [u8]),
     Block(&'static [u8]),
     Fetch(u32),
@@ -62,7 +63,7 @@ pub const FIRST_REQUEST: &[Call] = &[
 
 /// A fetcher.
 pub struct Asker {
-    fetcher: Fetcher<Key, Peer>,
+    fetcher: Fetcher<Name, Peer>,
     alloc: Global,
 }
 
@@ -96,35 +97,23 @@ impl Part for Asker {
             return Err(Fault::Busy);
         }
         match call {
-            Call::Ready(name, now) => self.ready(Key(*name), *now),
+            Call::Ready(name, now) => self.ready(Name::numbered(*name), *now),
             Call::Reconcile(names) => self.fetcher.reconcile(peers(self.alloc, names)?),
             Call::Block(names) => self.fetcher.set_blocked(peers(self.alloc, names)?),
-            Call::Fetch(now) => {
-                self.fetcher
-                    .fetch(&mut Willing, &mut Zeros, u128::from(*now))
-            }
+            Call::Fetch(now) => self.ask(*now),
         }
-    }
-
-    fn show(&mut self, text: &mut String) -> Result<(), Fault> {
-        for name in 0..4_u8 {
-            let id = self.fetcher.request(&Key(name)).map(|it| it.0);
-            note_if_any(text, id.map(u128::from))?;
-        }
-        self.show_end(text)
     }
 
     /// A request that is made again has the next id.
-    fn show_end(&mut self, text: &mut String) -> Result<(), Fault> {
-        note(text, u128::from(self.fetcher.is_scanning()))?;
-        note(text, self.fetcher.len_pending() as u128)?;
-        note(text, self.fetcher.len_active() as u128)?;
-        note_if_any(text, self.fetcher.get_pending_deadline())?;
-        note_if_any(text, self.fetcher.get_active_deadline())?;
+    fn show(&mut self, way: Way, text: &mut String) -> Result<(), Fault> {
+        if let Way::Compared = way {
+            self.show_ids(text)?;
+        }
+        self.show_counts(text)?;
         note_queue(text, self.fetcher.fresh_queue())?;
         note_queue(text, self.fetcher.retry_queue())?;
-        for name in 0..4_u8 {
-            self.show_key(text, &Key(name))?;
+        for number in 0..4_u32 {
+            self.show_key(text, &Name::numbered(number))?;
         }
         for name in 0..6_u8 {
             note_if_any(text, self.fetcher.weight(&Peer(name)).map(u128::from))?;
@@ -134,17 +123,27 @@ impl Part for Asker {
 }
 
 /// Writes the keys of a queue with their dues.
-fn note_queue(text: &mut String, queue: &PrioritySet<Key, u128>) -> Result<(), Fault> {
+fn note_queue(text: &mut String, queue: &PrioritySet<Name, u128>) -> Result<(), Fault> {
     for (due, key) in queue.iter() {
         note(text, *due)?;
-        note(text, u128::from(key.0))?;
+        note(text, u128::from(key.number()))?;
     }
     Ok(())
 }
 
 impl Asker {
+    /// Asks for a key that is due, where no scan is open.
+    fn ask(&mut self, now: u32) -> Result<(), Fault> {
+        if self.fetcher.is_scanning() {
+            return Err(Fault::Busy);
+        }
+        let (mut network, mut draws) = (Willing, Zeros);
+        self.fetcher
+            .fetch(&mut network, &mut draws, u128::from(now))
+    }
+
     /// Has a key wait, where it is in no phase and no scan is open.
-    fn ready(&mut self, key: Key, now: u32) -> Result<(), Fault> {
+    fn ready(&mut self, key: Name, now: u32) -> Result<(), Fault> {
         let is_idle = !self.fetcher.is_waiting(&key) && !self.fetcher.is_asked(&key);
         if self.fetcher.is_scanning() || !is_idle {
             return Err(Fault::Busy);
@@ -152,8 +151,29 @@ impl Asker {
         self.fetcher.add_ready(key, u128::from(now))
     }
 
+    /// Writes the ids of the requests.
+    fn show_ids(&self, text: &mut String) -> Result<(), Fault> {
+        for number in 0..4_u32 {
+            let id = self.fetcher.request(&Name::numbered(number)).map(|it| it.0);
+            note_if_any(text, id.map(u128::from))?;
+        }
+        Ok(())
+    }
+
+    /// Writes whether a scan is open, how many keys wait and are asked, and when to look again.
+    fn show_counts(&self, text: &mut String) -> Result<(), Fault> {
+        let numbers = [
+            u128::from(self.fetcher.is_scanning()),
+            self.fetcher.len_pending() as u128,
+            self.fetcher.len_active() as u128,
+        ];
+        note_all(text, &numbers)?;
+        note_if_any(text, self.fetcher.get_pending_deadline())?;
+        note_if_any(text, self.fetcher.get_active_deadline())
+    }
+
     /// Writes where a key waits, who was asked for it and when, its targets and its retries.
-    fn show_key(&self, text: &mut String, key: &Key) -> Result<(), Fault> {
+    fn show_key(&self, text: &mut String, key: &Name) -> Result<(), Fault> {
         let place = self.fetcher.place(key);
         note_if_any(text, place.map(|it| u128::from(it.is_retry)))?;
         note_if_any(text, place.map(|it| it.due))?;
@@ -164,14 +184,12 @@ impl Asker {
 }
 
 /// Writes a request: its key, its peer and its moments.
-fn note_request(text: &mut String, request: Option<&Request<Key, Peer>>) -> Result<(), Fault> {
+fn note_request(text: &mut String, request: Option<&Request<Name, Peer>>) -> Result<(), Fault> {
     let Some(request) = request else {
         return note_if_any(text, None);
     };
-    note(text, u128::from(request.key.0))?;
-    note(text, u128::from(request.peer.0))?;
-    note(text, request.start)?;
-    note(text, request.deadline)
+    let (key, peer) = (u128::from(request.key.number()), u128::from(request.peer.0));
+    note_all(text, &[key, peer, request.start, request.deadline])
 }
 
 /// Writes a key's targets, if it has some.

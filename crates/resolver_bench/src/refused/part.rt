@@ -1,11 +1,11 @@
 //! A part, and the calls of a row.
 
-use resolver::base::Fault;
+use resolver_base::base::Fault;
 use std::alloc::Global;
 use std::fmt::Write;
 
 /// How a row ended.
-#[derive(Clone, Copy, Debug, PartialEq, Eq)]
+#[derive(Clone, Copy)]
 pub enum Ending {
     /// No call was refused.
     Whole,
@@ -33,7 +33,7 @@ impl Ending {
 }
 
 /// What is done where a call is refused.
-#[derive(Clone, Copy, Debug, PartialEq, Eq)]
+#[derive(Clone, Copy)]
 pub enum Way {
     /// The part is compared with one that took the calls before it.
     Compared,
@@ -63,13 +63,9 @@ pub trait Part: Drop {
     /// Takes one call.
     fn take(&mut self, call: &Self::Call) -> Result<(), Fault>;
 
-    /// Writes all that the part's calls show of it. It may be used up then.
-    fn show(&mut self, text: &mut String) -> Result<(), Fault>;
-
-    /// Writes what a row leads to, also where one of its calls was made twice.
-    fn show_end(&mut self, text: &mut String) -> Result<(), Fault> {
-        self.show(text)
-    }
+    /// Writes all that the part's calls show of it, or, on the way on, what a row leads to, also where one of its
+    /// calls was made twice. It may be used up then.
+    fn show(&mut self, way: Way, text: &mut String) -> Result<(), Fault>;
 }
 
 /// Takes the calls of a row one after another.
@@ -88,10 +84,8 @@ fn compared<T: Part>(alloc: Global, calls: &[T::Call]) -> Ending {
         match part.take(call) {
             Ok(()) => {}
             Err(Fault::OutOfMemory) => {
-                return judged(
-                    Ending::AsItWas,
-                    is_as_after(alloc, &mut part, &calls[..count]),
-                );
+                let same = is_as_after(alloc, Way::Compared, &mut part, &calls[..count]);
+                return judged(Ending::AsItWas, same);
             }
             Err(_) => return Ending::Changed,
         }
@@ -111,7 +105,10 @@ fn gone_on<T: Part>(alloc: Global, calls: &[T::Call]) -> Ending {
         }
     }
     if is_refused {
-        judged(Ending::WentOn, leads_there(alloc, &mut part, calls))
+        judged(
+            Ending::WentOn,
+            is_as_after(alloc, Way::GoneOn, &mut part, calls),
+        )
     } else {
         Ending::Whole
     }
@@ -140,22 +137,17 @@ pub fn judged(same: Ending, is_same: Result<bool, Fault>) -> Ending {
 }
 
 /// Whether a part shows what one shows that took these calls.
-fn is_as_after<T: Part>(alloc: Global, part: &mut T, calls: &[T::Call]) -> Result<bool, Fault> {
+fn is_as_after<T: Part>(
+    alloc: Global,
+    way: Way,
+    part: &mut T,
+    calls: &[T::Call],
+) -> Result<bool, Fault> {
     let mut twin = twin_after::<T>(alloc, calls)?;
     let mut seen = String::new(alloc);
     let mut expected = String::new(alloc);
-    part.show(&mut seen)?;
-    twin.show(&mut expected)?;
-    Ok(seen.as_str() == expected.as_str())
-}
-
-/// Whether a part came to where these calls lead.
-fn leads_there<T: Part>(alloc: Global, part: &mut T, calls: &[T::Call]) -> Result<bool, Fault> {
-    let mut twin = twin_after::<T>(alloc, calls)?;
-    let mut seen = String::new(alloc);
-    let mut expected = String::new(alloc);
-    part.show_end(&mut seen)?;
-    twin.show_end(&mut expected)?;
+    part.show(way, &mut seen)?;
+    twin.show(way, &mut expected)?;
     Ok(seen.as_str() == expected.as_str())
 }
 
@@ -168,9 +160,28 @@ fn twin_after<T: Part>(alloc: Global, calls: &[T::Call]) -> Result<T, Fault> {
     Ok(twin)
 }
 
+/// Lets go what a call answers.
+pub fn done<T: Drop>(answered: Result<T, Fault>) -> Result<(), Fault> {
+    match answered {
+        Ok(answer) => {
+            drop(answer);
+            Ok(())
+        }
+        Err(fault) => Err(fault),
+    }
+}
+
 /// Writes a number behind the others.
 pub fn note(text: &mut String, number: u128) -> Result<(), Fault> {
     Ok(write!(text, " {number}")?)
+}
+
+/// Writes numbers behind the others.
+pub fn note_all(text: &mut String, numbers: &[u128]) -> Result<(), Fault> {
+    for number in numbers {
+        note(text, *number)?;
+    }
+    Ok(())
 }
 
 /// Writes a number behind the others, or that there is none.

@@ -1,11 +1,14 @@
 //! Deliveries by their numbers.
 
-use crate::demand::{listed, note_subscribers};
-use crate::part::{Part, note, note_if_any};
-use resolver::base::Fault;
-use resolver::delivery::{Entries, Open, Response};
-use resolver::{Delivery, Outcome};
+use crate::refused::demand::{listed, note_subscribers};
+use crate::refused::part::{Part, Way, done, note, note_all, note_if_any};
+use resolver_base::base::Fault;
+use resolver_demand::delivery::{Entries, Entry, Open, Response};
+use resolver_root::{Delivery, Outcome};
 use std::alloc::Global;
+
+/// Who wants each key, with their marks.
+const NAMED: &[(u16, u64)] = &[(10, 7), (11, 8)];
 
 /// A call of the entries.
 pub enum Call {
@@ -57,26 +60,23 @@ impl Part for Deliveries {
 
     fn take(&mut self, call: &Call) -> Result<(), Fault> {
         match call {
-            Call::Insert(key) => {
-                self.entries.insert(*key)?;
-            }
+            Call::Insert(key) => done(self.entries.insert(*key)),
             Call::Remove(key) => {
                 self.entries.remove(key);
+                Ok(())
             }
-            Call::Deliver(key) => self.deliver(*key)?,
-            Call::Redeliver(key) => self.redeliver(*key)?,
+            Call::Deliver(key) => self.deliver(*key),
+            Call::Redeliver(key) => self.redeliver(*key),
             Call::Complete(number) => {
                 drop(self.entries.completed(*number, Some(Outcome::Unresolved)));
+                Ok(())
             }
         }
-        Ok(())
     }
 
-    fn show(&mut self, text: &mut String) -> Result<(), Fault> {
+    fn show(&mut self, _: Way, text: &mut String) -> Result<(), Fault> {
         for (key, entry) in self.entries.iter() {
-            note(text, u128::from(*key))?;
-            note_if_any(text, entry.number.map(u128::from))?;
-            note_response(text, entry.response.as_ref())?;
+            note_entry(text, *key, entry)?;
         }
         for number in 0..4_u64 {
             note_open(text, self.entries.open(number))?;
@@ -85,11 +85,26 @@ impl Part for Deliveries {
     }
 }
 
+/// Writes a key, its delivery in progress and its cached response.
+fn note_entry(text: &mut String, key: u8, entry: &Entry<u64, (), ()>) -> Result<(), Fault> {
+    note(text, u128::from(key))?;
+    note_if_any(text, entry.number.map(u128::from))?;
+    note_response(text, entry.response.as_ref())
+}
+
 /// Writes a cached response: its name, its value, and whether it was accepted.
 fn note_response(text: &mut String, response: Option<&Response<u64, ()>>) -> Result<(), Fault> {
-    note_if_any(text, response.map(|it| u128::from(it.name)))?;
-    note_if_any(text, response.map(|it| u128::from(it.value)))?;
-    note_if_any(text, response.map(|it| u128::from(it.accepted)))
+    match response {
+        Some(it) => note_all(
+            text,
+            &[
+                u128::from(it.name),
+                u128::from(it.value),
+                u128::from(it.accepted),
+            ],
+        ),
+        None => note_if_any(text, None),
+    }
 }
 
 /// Writes an open delivery: its response, whether that was accepted, its key and its subscribers.
@@ -97,37 +112,37 @@ fn note_open(text: &mut String, open: Option<&Open<u8, u16, ()>>) -> Result<(), 
     let Some(open) = open else {
         return note_if_any(text, None);
     };
-    note(text, u128::from(open.response))?;
-    note(text, u128::from(open.accepted))?;
-    note(text, u128::from(open.delivery.key))?;
+    let numbers = [
+        u128::from(open.response),
+        u128::from(open.accepted),
+        u128::from(open.delivery.key),
+    ];
+    note_all(text, &numbers)?;
     note_subscribers(text, open.delivery.subscribers.as_slice())
 }
 
 impl Deliveries {
     /// Hands a value out, where a delivery of the key may begin.
     fn deliver(&mut self, key: u8) -> Result<(), Fault> {
-        let delivery = delivery(self.alloc, key)?;
-        if self.entries.contains(&delivery.key) && self.entries.number(&delivery.key).is_none() {
-            self.entries.deliver(delivery, (), 7)?;
+        let subscribers = listed(self.alloc, NAMED)?;
+        let delivery = Delivery { key, subscribers };
+        if self.entries.contains(&key) && self.entries.number(&key).is_none() {
+            done(self.entries.deliver(delivery, (), 7))
+        } else {
+            drop(delivery);
+            Ok(())
         }
-        Ok(())
     }
 
     /// Hands the cached value out once more, where that may begin.
     fn redeliver(&mut self, key: u8) -> Result<(), Fault> {
-        let delivery = delivery(self.alloc, key)?;
-        if self.entries.response(&delivery.key).is_some()
-            && self.entries.number(&delivery.key).is_none()
-        {
-            self.entries.redeliver(delivery)?;
+        let subscribers = listed(self.alloc, NAMED)?;
+        let delivery = Delivery { key, subscribers };
+        if self.entries.response(&key).is_some() && self.entries.number(&key).is_none() {
+            done(self.entries.redeliver(delivery))
+        } else {
+            drop(delivery);
+            Ok(())
         }
-        Ok(())
     }
-}
-
-fn delivery(alloc: Global, key: u8) -> Result<Delivery<u8, u16>, Fault> {
-    Ok(Delivery {
-        key,
-        subscribers: listed(alloc, &[(10, 7), (11, 8)])?,
-    })
 }

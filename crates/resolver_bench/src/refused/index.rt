@@ -1,8 +1,8 @@
 //! A weighted index.
 
-use crate::part::{Part, note};
-use resolver::base::Fault;
-use resolver::p2p::sampling::WeightedIndex;
+use crate::refused::part::{Part, Way, note};
+use resolver_base::base::Fault;
+use resolver_request::sampling::WeightedIndex;
 use std::alloc::Global;
 
 /// A call of an index.
@@ -44,7 +44,7 @@ impl Part for Index {
         }
     }
 
-    fn show(&mut self, text: &mut String) -> Result<(), Fault> {
+    fn show(&mut self, _: Way, text: &mut String) -> Result<(), Fault> {
         let Some(index) = &self.index else {
             return Ok(());
         };

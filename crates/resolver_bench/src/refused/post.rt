@@ -3,15 +3,16 @@
 ghost use Rattle.std.specs.Prelude.{◌≡◌, true};
 ghost use Rattle.std.proofs.Common.{rules};
 
-use crate::part::{Ending, Way, judged};
-use crate::spelled::{Told, spell, spell_all, spell_book, spell_share};
+use crate::refused::part::{Ending, Way, judged};
+use crate::refused::spelled::{Told, spell, spell_all, spell_book, spell_share};
 use futures::Stream;
 use futures::task::Poll;
 use futures::test::MockTask;
-use resolver::base::{Faithful, Fault, Predicate};
-use resolver::ingress::{FetchKey, Message};
-use resolver::mailbox::{Entry, Exact, Naming, Pages, Receiver, Sender, Share};
-use resolver::{Fetch, mailbox};
+use resolver_base::base::{Faithful, Fault};
+use resolver_ingress::ingress::{FetchKey, Message};
+use resolver_mailbox::mailbox;
+use resolver_mailbox::mailbox::{Entry, Exact, Naming, Pages, Receiver, Sender, Share};
+use resolver_root::{Fetch, Predicate};
 use std::alloc::{AllocGlobal, Global};
 use std::fmt::Write;
 use std::random::RandomSource;
@@ -151,7 +152,7 @@ fn walked<N: Naming, R: Wait + Drop>(
         match take(alloc, mail, task, call) {
             Ok(()) => {}
             Err(Fault::OutOfMemory) => {
-                if way == Way::Compared {
+                if let Way::Compared = way {
                     return judged(Ending::AsItWas, shows(alloc, mail, before));
                 }
                 is_refused = true;

@@ -3,9 +3,10 @@
 ghost use Rattle.std.specs.Prelude.{◌==◌, ◌%◌};
 ghost use Rattle.std.proofs.Common.{rules};
 
-use crate::part::{Part, note};
-use resolver::base::{Fault, NonEmptyVec, Predicate};
-use resolver::subscribers::Tracker;
+use crate::refused::part::{Part, Way, done, note};
+use resolver_base::base::Fault;
+use resolver_demand::subscribers::Tracker;
+use resolver_root::{NonEmptyVec, Predicate};
 use std::alloc::Global;
 
 /// Keeps the subscribers with even names.
@@ -72,32 +73,37 @@ impl Part for Demand {
         match call {
             Call::Insert(key, named) => {
                 let subscribers = listed(self.alloc, named)?;
-                self.tracker.insert(*key, subscribers)?;
+                done(self.tracker.insert(*key, subscribers))
             }
-            Call::Pending(key) => {
-                self.tracker.pending(key)?;
-            }
-            Call::RetainEven => {
-                self.tracker.retain(&Even)?;
-            }
+            Call::Pending(key) => done(self.tracker.pending(key)),
+            Call::RetainEven => done(self.tracker.retain(&Even)),
             Call::RemoveDelivered(key, named) => {
                 let delivered = listed(self.alloc, named)?;
-                self.tracker.remove_delivered(key, &delivered)?;
+                let left = self.tracker.remove_delivered(key, &delivered);
+                drop(delivered);
+                done(left)
             }
             Call::Remove(key) => {
                 self.tracker.remove(key);
+                Ok(())
             }
         }
-        Ok(())
     }
 
-    fn show(&mut self, text: &mut String) -> Result<(), Fault> {
+    fn show(&mut self, _: Way, text: &mut String) -> Result<(), Fault> {
         for (key, subscribers) in self.tracker.iter() {
             note(text, u128::from(*key))?;
-            note_subscribers(text, subscribers.copied(self.alloc)?.as_slice())?;
+            note_copied(text, subscribers.copied(self.alloc)?)?;
         }
         Ok(())
     }
+}
+
+/// Writes subscribers with their marks, and lets them go.
+fn note_copied(text: &mut String, subscribers: Vec<(u16, u64)>) -> Result<(), Fault> {
+    let noted = note_subscribers(text, subscribers.as_slice());
+    drop(subscribers);
+    noted
 }
 
 /// Writes subscribers with their marks.

@@ -1,9 +1,9 @@
 //! A mailbox as text.
 
-use crate::post::All;
-use resolver::base::Fault;
-use resolver::ingress::Message;
-use resolver::mailbox::{Entry, Naming, Share};
+use crate::refused::post::All;
+use resolver_base::base::Fault;
+use resolver_ingress::ingress::Message;
+use resolver_mailbox::mailbox::{Entry, Naming, Share};
 use std::fmt::Write;
 
 /// A message of the row.

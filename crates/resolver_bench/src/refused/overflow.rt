@@ -3,16 +3,19 @@
 ghost use Rattle.std.specs.Prelude.{nat_le};
 ghost use Rattle.std.proofs.Common.{rules};
 
-use crate::demand::note_subscribers;
-use crate::part::{Ending, Part, Way, note, taken};
-use resolver::base::{Fault, NonEmptyVec};
-use resolver::ingress::{FetchKey, Message, Metadata, Pending, Predicate};
+use crate::refused::demand::note_subscribers;
+use crate::refused::part::{Ending, Part, Way, note, taken};
+use crate::workload::alone;
+use resolver_backlog::Pending;
+use resolver_base::base::Fault;
+use resolver_ingress::ingress::{FetchKey, Message, Metadata, Predicate};
+use resolver_root::NonEmptyVec;
 use std::alloc::Global;
 
 type Targets = Option<NonEmptyVec<u16>>;
 
 /// Keeps the subscribers of the keys from this one on.
-#[derive(Clone, Copy, Debug)]
+#[derive(Clone, Copy)]
 pub struct From(u16);
 
 impl Predicate<u16, u16> for From {
@@ -26,7 +29,7 @@ impl Predicate<u16, u16> for From {
 }
 
 /// A call of an overflow.
-#[derive(Drop)]
+#[derive(Clone, Copy)]
 pub enum Call {
     /// A fetch of a key for a subscriber, of these peers; with none of them any peer may be asked.
     Fetch(u16, u16, &'static [u16]),
@@ -57,14 +60,19 @@ pub fn retain(alloc: Global, way: Way) -> Ending {
     }
 }
 
+/// The retain, and what comes behind it.
+const RETAINED: &[Call] = &[
+    Call::Retain(99),
+    Call::Fetch(99, 11, &[]),
+    Call::Fetch(0, 12, &[]),
+];
+
 fn retain_calls(alloc: Global) -> Result<Vec<Call>, Fault> {
     let mut calls = Vec::with_capacity(alloc, 103)?;
     for key in 0..100_u16 {
         calls.push(Call::Fetch(key, 10, &[]))?;
     }
-    calls.push(Call::Retain(99))?;
-    calls.push(Call::Fetch(99, 11, &[]))?;
-    calls.push(Call::Fetch(0, 12, &[]))?;
+    calls.extend_from_slice(RETAINED)?;
     Ok(calls)
 }
 
@@ -123,7 +131,7 @@ impl Part for Overflow {
         }
     }
 
-    fn show(&mut self, text: &mut String) -> Result<(), Fault> {
+    fn show(&mut self, _: Way, text: &mut String) -> Result<(), Fault> {
         note(text, u128::from(self.pending.is_empty()))?;
         for _ in 0..16 {
             let Some(message) = self.pending.pop() else {
@@ -144,13 +152,12 @@ fn fetch(
 ) -> Result<Message<u16, u16, Targets, From>, Fault> {
     let subscribers = NonEmptyVec::new(alloc, (subscriber, u64::from(key)))?;
     let metadata = NonEmptyVec::try_from(peers.to_vec(alloc)?).ok();
-    let mut items = Vec::new(alloc);
-    items.push(FetchKey {
+    let fetch = FetchKey {
         key,
         subscribers,
         metadata,
-    })?;
-    Ok(Message::Fetch(items))
+    };
+    Ok(Message::Fetch(alone(alloc, fetch)?))
 }
 
 /// Writes a message whole.
