@@ -1,18 +1,15 @@
 //! What a test does to a world, one thing at a time.
 
 use crate::names::{Below, Peer};
-use crate::world::{Looped, Setting, World, make_loop, peers, turn};
+use crate::world::{Asked, Held, World, peers};
 use bytes::Bytes;
-use futures::test::MockTask;
 use resolver_base::base::{Fault, Feedback};
 use resolver_loop::{Resolver, TargetedResolver};
+use resolver_p2p::Mailbox;
 use resolver_p2p::mocks::Key;
 use resolver_root::{Fetch, NonEmptyVec, Outcome};
-use std::alloc::{AllocGlobal, Global};
-use std::fmt::Write;
-use std::random::RandomSource;
+use std::alloc::Global;
 use std::sync::Wait;
-use std::test::Fail;
 
 /// What a test does. Peers and keys go by their numbers.
 #[derive(Clone, Copy)]
@@ -78,50 +75,79 @@ pub fn targeted(
     Ok(fetches)
 }
 
-impl<R: Wait + Copy + Send + 'static> World<R> {
+/// A handle of a mailbox, as a test asks by it.
+pub trait Asks {
     /// Subscribers want keys: one by `fetch`, and several by `fetch_all`.
-    pub fn fetch(&mut self, wants: &[(u8, u16)]) -> Result<Feedback, Fault> {
-        match wants {
-            [(key, subscriber)] => self.mailbox.fetch(wanted(*key, *subscriber)),
-            _ => self.mailbox.fetch_all(fetches(self.alloc, wants)?),
-        }
-    }
+    fn fetch(&mut self, alloc: Global, wants: &[(u8, u16)]) -> Result<Feedback, Fault>;
 
     /// Subscriber 10 wants keys, each of one peer: one by `fetch_targeted`, and several by
     /// `fetch_all_targeted`.
-    fn fetch_from(&mut self, wants: &[(u8, u8)]) -> Result<(), Fault> {
+    fn fetch_from(&mut self, alloc: Global, wants: &[(u8, u8)]) -> Result<Feedback, Fault>;
+
+    /// Subscribers from this one on are let go.
+    fn retain(&mut self, below: u16) -> Result<Feedback, Fault>;
+
+    fn close(&mut self);
+}
+
+impl<R: Wait + Copy + Send + 'static> Asks for Asked<R> {
+    fn fetch(&mut self, alloc: Global, wants: &[(u8, u16)]) -> Result<Feedback, Fault> {
+        match wants {
+            [(key, subscriber)] => Resolver::fetch(self, wanted(*key, *subscriber)),
+            _ => self.fetch_all(fetches(alloc, wants)?),
+        }
+    }
+
+    fn fetch_from(&mut self, alloc: Global, wants: &[(u8, u8)]) -> Result<Feedback, Fault> {
         match wants {
             [(key, peer)] => {
-                let peers = NonEmptyVec::new(self.alloc, Peer(*peer))?;
-                self.mailbox.fetch_targeted(wanted(*key, 10), peers)?;
+                let peers = NonEmptyVec::new(alloc, Peer(*peer))?;
+                self.fetch_targeted(wanted(*key, 10), peers)
             }
-            _ => {
-                let fetches = targeted(self.alloc, wants)?;
-                self.mailbox.fetch_all_targeted(fetches)?;
+            _ => self.fetch_all_targeted(targeted(alloc, wants)?),
+        }
+    }
+
+    fn retain(&mut self, below: u16) -> Result<Feedback, Fault> {
+        Resolver::retain(self, Below(below))
+    }
+
+    fn close(&mut self) {
+        Mailbox::close(self);
+    }
+}
+
+impl<M: Asks> World<M> {
+    /// Does this, without a poll.
+    pub fn act(&mut self, act: Act<'_>) -> Result<(), Fault> {
+        let alloc = self.held.alloc;
+        match act {
+            Act::Fetch(wants) => {
+                self.mailbox.fetch(alloc, wants)?;
             }
+            Act::LastFetch(wants) => {
+                self.mailbox.fetch(alloc, wants)?;
+                self.mailbox.close();
+            }
+            Act::FetchFrom(wants) => {
+                self.mailbox.fetch_from(alloc, wants)?;
+            }
+            Act::Retain(below) => {
+                self.mailbox.retain(below)?;
+            }
+            Act::CloseMailbox => self.mailbox.close(),
+            _ => self.held.act(act)?,
         }
         Ok(())
     }
+}
 
-    fn retain(&mut self, below: u16) -> Result<(), Fault> {
-        self.mailbox.retain(Below(below))?;
-        Ok(())
-    }
-
-    /// Does this, without a poll.
-    pub fn act(&mut self, act: Act<'_>) -> Result<(), Fault> {
+impl Held {
+    /// Does this, of what needs no handle.
+    fn act(&mut self, act: Act<'_>) -> Result<(), Fault> {
         match act {
             Act::Peers(index, numbers) => self.set_peers(index, numbers)?,
             Act::Block(numbers) => self.block(numbers)?,
-            Act::Fetch(wants) => {
-                self.fetch(wants)?;
-            }
-            Act::LastFetch(wants) => {
-                self.fetch(wants)?;
-                self.mailbox.close();
-            }
-            Act::FetchFrom(wants) => self.fetch_from(wants)?,
-            Act::Retain(below) => self.retain(below)?,
             Act::Net(peer, bytes) => self.receive(peer, bytes)?,
             Act::Judge(outcome) => self.judge(outcome),
             Act::Drop | Act::IsWanted => {
@@ -132,13 +158,15 @@ impl<R: Wait + Copy + Send + 'static> World<R> {
             Act::ClosePeers => self.sets.close_channel(),
             Act::CloseBlocked => self.blocked.close_channel(),
             Act::CloseNetwork => self.network.close_channel(),
-            Act::CloseMailbox => self.mailbox.close(),
+            Act::Fetch(_)
+            | Act::LastFetch(_)
+            | Act::FetchFrom(_)
+            | Act::Retain(_)
+            | Act::CloseMailbox => {}
         }
         Ok(())
     }
-}
 
-impl<R> World<R> {
     fn set_peers(&self, index: u64, numbers: &[u8]) -> Result<(), Fault> {
         let peers = peers(self.alloc, numbers)?;
         let _ = self.sets.unbounded_send((index, peers));
@@ -163,7 +191,7 @@ impl<R> World<R> {
     }
 
     /// Whether anybody waits for what is said of the first delivery, which is dropped.
-    fn is_wanted(&mut self) -> bool {
+    pub fn is_wanted(&mut self) -> bool {
         match self.verdicts.try_recv() {
             Ok(verdict) => !verdict.is_canceled(),
             Err(_) => false,
@@ -176,55 +204,5 @@ impl<R> World<R> {
             let _ = serve.send(bytes);
         }
         Ok(())
-    }
-}
-
-/// Does this, and polls the loop.
-fn step<R: Wait + Copy + Drop + Send + 'static>(
-    text: &mut String,
-    task: &MockTask,
-    looped: &mut Looped<R>,
-    world: &mut World<R>,
-    act: Act<'_>,
-) -> Result<(), Fail> {
-    if let Act::IsWanted = act {
-        writeln!(text, "wanted {}", world.is_wanted())?;
-        return Ok(());
-    }
-    world.act(act)?;
-    turn(text, task, looped, world)
-}
-
-fn act_all<R: Wait + Copy + Drop + Send + 'static>(
-    text: &mut String,
-    task: &MockTask,
-    looped: &mut Looped<R>,
-    world: &mut World<R>,
-    acts: &[Act<'_>],
-) -> Result<(), Fail> {
-    for act in acts {
-        step(text, task, looped, world, *act)?;
-    }
-    writeln!(text, "{:?}", world.fetch(&[(200, 20)])?)?;
-    Ok(())
-}
-
-/// Does these in a world of its own, and polls the loop after each. Gives what the fakes were asked, how each
-/// poll ended, and last what one more fetch is answered.
-pub fn play<R>(rt: R, setting: Setting, acts: &[Act<'_>]) -> Result<String, Fail>
-where
-    R: Wait + RandomSource + AllocGlobal + Copy + Drop + Send + 'static,
-{
-    let task = MockTask::new(&rt)?;
-    let mut text = String::new(rt.alloc());
-    match make_loop(rt, rt.alloc(), setting) {
-        Ok((mut world, mut looped)) => {
-            let played = act_all(&mut text, &task, &mut looped, &mut world, acts);
-            drop(looped);
-            drop(world);
-            played?;
-            Ok(text)
-        }
-        Err(fault) => Err(fault.into()),
     }
 }

@@ -170,12 +170,12 @@ impl Consumer for Judge {
     ) -> Result<oneshot::Receiver<Outcome>, Fault>
         ensures only { IfErr result (λ fault. fault ≡ OutOfMemory) }
     {
-        if self.wrong == Wrong::Consumer {
+        if matches!(self.wrong, Wrong::Consumer) {
             return Err(Fault::OutOfMemory);
         }
         let (verdict, receiver) = oneshot::channel(self.alloc)?;
         let _ = self.told.unbounded_send(Seen::Delivered(delivery, value));
-        if self.wrong != Wrong::Drops {
+        if !matches!(self.wrong, Wrong::Drops) {
             let _ = self.verdicts.unbounded_send(verdict);
         }
         Ok(receiver)
@@ -207,7 +207,7 @@ impl Producer for Store {
     fn produce(&mut self, key: Key) -> Result<oneshot::Receiver<Bytes>, Fault>
         ensures only { IfErr result (λ fault. fault ≡ OutOfMemory) }
     {
-        if self.wrong == Wrong::Producer {
+        if matches!(self.wrong, Wrong::Producer) {
             return Err(Fault::OutOfMemory);
         }
         let (serve, receiver) = oneshot::channel(self.alloc)?;

@@ -4,11 +4,12 @@ ghost use Rattle.std.specs.Prelude.{◌≡◌, nat_lt};
 ghost use Rattle.std.proofs.Common.{rules};
 
 use resolver_base::base::{Faithful, PublicKey};
+use resolver_mailbox::mailbox::Exact;
 use resolver_p2p::mocks::Key;
 use resolver_root::Predicate;
 
 /// A name of a peer.
-#[derive(Clone, Copy, Debug, PartialEq, Eq, PartialOrd, Ord, Hash)]
+#[derive(Clone, Copy, PartialEq, Eq, PartialOrd, Ord, Hash)]
 pub struct Peer(pub u8);
 
 impl PublicKey for Peer {}
@@ -33,4 +34,10 @@ impl Predicate<Key, u16> for Below {
 
 impl Faithful for Below {
     ghost clones = { Prim.search rules };
+}
+
+impl Exact for Below {
+    fn is_same(&self, other: &Below) -> bool {
+        self.0 == other.0
+    }
 }

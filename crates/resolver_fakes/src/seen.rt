@@ -6,12 +6,12 @@ use futures::channel::mpsc;
 use resolver_base::base::Check;
 use resolver_p2p::mocks::Key;
 use resolver_root::Delivery;
+use std::alloc::AllocError;
 use std::fmt;
 use std::fmt::{Formatter, Write};
-use std::test::Fail;
 
 /// What goes wrong around an engine. Checks and sends are counted from 1.
-#[derive(Clone, Copy, Debug, PartialEq, Eq)]
+#[derive(Clone, Copy, Debug)]
 pub enum Wrong {
     Nothing,
     /// The consumer has no memory.
@@ -119,7 +119,10 @@ fn write_delivery<W: Write>(
 pub type Told = mpsc::UnboundedSender<Seen>;
 
 /// Writes what some fakes were asked since the last time.
-pub fn spell(text: &mut String, told: &mut mpsc::UnboundedReceiver<Seen>) -> Result<(), Fail> {
+pub fn spell(
+    text: &mut String,
+    told: &mut mpsc::UnboundedReceiver<Seen>,
+) -> Result<(), AllocError> {
     for _ in 0..100_000_u64 {
         let Ok(seen) = told.try_recv() else {
             return Ok(());

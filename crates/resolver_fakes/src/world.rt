@@ -3,7 +3,7 @@
 use crate::both::both;
 use crate::lent::{Dice, Given, Judge, Store, Wire};
 use crate::names::{Below, Peer};
-use crate::seen::{Seen, Told, Wrong, spell};
+use crate::seen::{Seen, Told, Wrong};
 use crate::watch::{Standing, Watch};
 use bytes::Bytes;
 use futures::channel::{mpsc, oneshot};
@@ -16,11 +16,9 @@ use resolver_p2p::mocks::Key;
 use resolver_p2p::{Config, Engine, Loop, Mailbox};
 use resolver_root::Outcome;
 use std::alloc::{AllocGlobal, Global};
-use std::fmt::Write;
 use std::num::NonZeroUsize;
 use std::random::RandomSource;
 use std::sync::{Arc, Wait};
-use std::test::Fail;
 use std::thread::Threads;
 
 /// What differs between worlds.
@@ -84,12 +82,38 @@ pub type Looped<R> = Loop<
 >;
 
 /// A handle of its mailbox.
-type Asked<R> = Mailbox<Key, Peer, u16, Below, Unrecorded, R>;
+pub type Asked<R> = Mailbox<Key, Peer, u16, Below, Unrecorded, R>;
 
-/// What a test holds.
-pub struct World<R> {
+/// A machine's loop, as a test knows it, which polls it by hand.
+pub trait Polled {
+    /// Polls it once.
+    fn poll_once(&mut self, task: &MockTask) -> Poll<Ending>;
+}
+
+impl<R: Wait + Copy + Drop> Polled for Looped<R> {
+    fn poll_once(&mut self, task: &MockTask) -> Poll<Ending> {
+        task.poll(self)
+    }
+}
+
+/// A handle of the mailbox, and what a test holds besides.
+pub struct World<M> {
+    pub mailbox: M,
+    pub held: Held,
+}
+
+impl<M: Drop> Drop for World<M> {
+    fn drop(self) {
+        let Self {
+            mailbox: _,
+            held: _,
+        } = self;
+    }
+}
+
+/// What a test holds besides a handle.
+pub struct Held {
     pub alloc: Global,
-    pub mailbox: Asked<R>,
     pub sets: mpsc::UnboundedSender<(u64, Vec<Peer>)>,
     pub blocked: mpsc::UnboundedSender<Vec<Peer>>,
     pub network: mpsc::UnboundedSender<(Peer, Bytes)>,
@@ -99,11 +123,10 @@ pub struct World<R> {
     pub told: mpsc::UnboundedReceiver<Seen>,
 }
 
-impl<R: Drop> Drop for World<R> {
+impl Drop for Held {
     fn drop(self) {
         let Self {
             alloc: _,
-            mailbox: _,
             sets: _,
             blocked: _,
             network: _,
@@ -268,7 +291,7 @@ pub fn make_world<R: Copy>(
     rt: R,
     alloc: Global,
     setting: Setting,
-) -> Result<(World<R>, Made<R>, Lent), Fault> {
+) -> Result<(World<Asked<R>>, Made<R>, Lent), Fault> {
     let (told, seen) = mpsc::unbounded(alloc)?;
     match both(
         make_sources(alloc, &told),
@@ -290,7 +313,7 @@ fn make_between<R: Copy>(
     channel: (Told, mpsc::UnboundedReceiver<Seen>),
     sources: Sources,
     hands: Hands,
-) -> Result<(World<R>, Made<R>, Lent), Fault> {
+) -> Result<(World<Asked<R>>, Made<R>, Lent), Fault> {
     let (told, seen) = channel;
     let Sources {
         sets,
@@ -313,9 +336,8 @@ fn make_between<R: Copy>(
     );
     match both(make_lent(alloc, told, setting), engine) {
         Ok(((network, watch, lent), (engine, mailbox))) => {
-            let world = World {
+            let held = Held {
                 alloc,
-                mailbox,
                 sets,
                 blocked,
                 network,
@@ -324,7 +346,7 @@ fn make_between<R: Copy>(
                 serves,
                 told: seen,
             };
-            Ok((world, engine, lent))
+            Ok((World { mailbox, held }, engine, lent))
         }
         Err(fault) => {
             drop((seen, sets, blocked, verdicts, serves));
@@ -373,7 +395,7 @@ pub fn make_loop<R: Copy>(
     rt: R,
     alloc: Global,
     setting: Setting,
-) -> Result<(World<R>, Looped<R>), Fault> {
+) -> Result<(World<Asked<R>>, Looped<R>), Fault> {
     match make_world(rt, alloc, setting) {
         Ok((world, engine, lent)) => match into_loop(engine, lent) {
             Ok(looped) => Ok((world, looped)),
@@ -411,38 +433,12 @@ pub fn peers(alloc: Global, numbers: &[u8]) -> Result<Vec<Peer>, Fault> {
 
 /// Polls the loop until it is over, or nothing is left for it: what is new in a set of futures wakes the
 /// task that polls it, and so does a loop that took many turns.
-pub fn settle<R: Wait + Copy + Drop>(task: &MockTask, looped: &mut Looped<R>) -> Poll<Ending> {
+pub fn settle<L: Polled>(task: &MockTask, looped: &mut L) -> Poll<Ending> {
     for _ in 0..1000_u64 {
-        let polled = task.enter(|cx| looped.poll(cx));
+        let polled = looped.poll_once(task);
         if polled.is_ready() || !task.is_woken() {
             return polled;
         }
     }
     Poll::Pending
-}
-
-/// Writes whether a loop waits, is busy or over, and then what its owner is told.
-pub fn spell_polled(text: &mut String, polled: Poll<Ending>, is_busy: bool) -> Result<(), Fail> {
-    let said = match polled {
-        Poll::Ready(ending) => match ending.into_result() {
-            Ok(()) => "complete",
-            Err(fault) => fault.name(),
-        },
-        Poll::Pending if is_busy => "busy",
-        Poll::Pending => "-",
-    };
-    writeln!(text, "{said}")?;
-    Ok(())
-}
-
-/// Polls the loop, and writes what the fakes were asked, and whether it waits, is busy or over.
-pub fn turn<R: Wait + Copy + Drop>(
-    text: &mut String,
-    task: &MockTask,
-    looped: &mut Looped<R>,
-    world: &mut World<R>,
-) -> Result<(), Fail> {
-    let polled = settle(task, looped);
-    spell(text, &mut world.told)?;
-    spell_polled(text, polled, task.is_woken())
 }

@@ -1,19 +1,18 @@
 //! Checks that say Until, and sends that are refused: for each place of these in a run that fetches three
 //! keys from three peers.
 
-use crate::pair::{Pair, make_pair};
+use crate::pair::{Pair, Side, make_pair};
 use crate::twin::{Counts, Twin};
 use resolver::{Outcome, Resolution};
 use resolver_fakes::acts::Act;
 use resolver_fakes::seen::Wrong;
 use resolver_fakes::world::Setting;
 use std::alloc::AllocGlobal;
-use std::io::Eprint;
+use std::io::Print;
 use std::panic::Expect;
 use std::process::Abort;
 use std::random::RandomSource;
 use std::sync::Wait;
-use std::test::Fail;
 
 /// What a run is like.
 #[derive(Clone, Copy)]
@@ -72,45 +71,49 @@ fn answers(tenth: u64) -> &'static [(u8, bool)] {
 }
 
 /// Fails unless every key was delivered once.
-fn judge(rt: &impl Abort, twin: &mut Twin) -> Result<(), Fail> {
-    twin.delivered.sort().expect(rt, "memory");
-    if twin.delivered.as_slice() != [(1, 10), (2, 10), (3, 10)].as_slice() {
-        return Err("a key was not delivered once".into());
+fn judge(rt: &(impl Abort + Print), twin: &mut Twin) {
+    twin.hands.delivered.sort().expect(rt, "memory");
+    if twin.hands.delivered.as_slice() != DELIVERED {
+        twin.hands.fail(rt, "a key was not delivered once");
     }
-    if !twin.rows(rt).expect(rt, "memory").is_empty() || twin.counts.credits != 3 {
-        return Err("a key is left, or a response without its credit".into());
+    if !twin.has_no_row(rt) || twin.hands.counts.credits != 3 {
+        twin.hands
+            .fail(rt, "a key is left, or a response without its credit");
     }
-    Ok(())
+}
+
+/// Three keys, each delivered once.
+const DELIVERED: &[(u8, u16)] = &[(1, 10), (2, 10), (3, 10)];
+
+/// The keys are answered whose turn it is in this tenth moment, and what is handed out is complete.
+fn answer<S: Side>(rt: &(impl Abort + Print), pair: &mut Pair<S>, tenth: u64) {
+    pair.act(rt, Act::At(tenth.saturating_mul(10)));
+    for &(key, is_there) in answers(tenth) {
+        if is_there {
+            pair.reply(rt, key, &[1, 1, key]);
+            pair.act(rt, Act::Judge(Outcome::Resolved(Resolution::Complete)));
+        } else {
+            pair.reply(rt, key, &[2]);
+        }
+    }
 }
 
 /// The run, in which what is handed out is complete, and after which every key was delivered once. Gives what was
 /// counted.
-fn play<R: Wait + Copy + Drop + Send + 'static>(
-    rt: &(impl Abort + Eprint),
-    pair: &mut Pair<R>,
-    is_targeted: bool,
-) -> Result<Counts, Fail> {
-    pair.act(rt, Act::Peers(1, &[3, 4, 5, 9]))?;
-    pair.act(rt, wants(is_targeted))?;
+fn play<S: Side>(rt: &(impl Abort + Print), pair: &mut Pair<S>, is_targeted: bool) -> Counts {
+    pair.act(rt, Act::Peers(1, &[3, 4, 5, 9]));
+    pair.act(rt, wants(is_targeted));
     for tenth in 1..22_u64 {
-        pair.act(rt, Act::At(tenth.saturating_mul(10)))?;
-        for &(key, is_there) in answers(tenth) {
-            if is_there {
-                pair.reply(rt, key, &[1, 1, key])?;
-                pair.act(rt, Act::Judge(Outcome::Resolved(Resolution::Complete)))?;
-            } else {
-                pair.reply(rt, key, &[2])?;
-            }
-        }
+        answer(rt, pair, tenth);
     }
-    judge(rt, &mut pair.twin)?;
-    Ok(pair.twin.counts)
+    judge(rt, &mut pair.twin);
+    pair.twin.hands.counts
 }
 
 /// A run in which this one and those behind it go wrong. Gives what was counted.
-fn run<R>(rt: R, plan: Plan, wrong: Wrong) -> Result<Counts, Fail>
+fn run<R>(rt: R, plan: Plan, wrong: Wrong) -> Counts
 where
-    R: Abort + Eprint + Wait + RandomSource + AllocGlobal + Copy + Drop + Send + 'static,
+    R: Abort + Print + Wait + RandomSource + AllocGlobal + Copy + Drop + Send + 'static,
 {
     let setting = Setting {
         me: 9,
@@ -124,33 +127,29 @@ where
     counts
 }
 
-/// The run for every N that it meets, of which there are five at the least.
-fn every_n<R>(rt: R, plan: Plan, until: Option<u64>) -> Result<(), Fail>
+/// The run for every N that it meets. Gives how many these are.
+fn every_n<R>(rt: R, plan: Plan, until: Option<u64>) -> u64
 where
-    R: Abort + Eprint + Wait + RandomSource + AllocGlobal + Copy + Drop + Send + 'static,
+    R: Abort + Print + Wait + RandomSource + AllocGlobal + Copy + Drop + Send + 'static,
 {
     for first in 1..1000_u64 {
-        let counts = run(rt, plan, wrong(first, plan.count, until))?;
+        let counts = run(rt, plan, wrong(first, plan.count, until));
         let met = if until.is_some() {
             counts.checks
         } else {
             counts.sends
         };
         if met < first {
-            return if first > 5 {
-                Ok(())
-            } else {
-                Err("a run that hardly asks".into())
-            };
+            return first - 1;
         }
     }
-    Err("a run without an end".into())
+    panic!(rt; "a run without an end")
 }
 
-/// The same for every plan.
-fn every_plan<R>(rt: R, until: Option<u64>) -> Result<(), Fail>
+/// The same for every plan. A run meets five at the least.
+fn every_plan<R>(rt: R, until: Option<u64>)
 where
-    R: Abort + Eprint + Wait + RandomSource + AllocGlobal + Copy + Drop + Send + 'static,
+    R: Abort + Print + Wait + RandomSource + AllocGlobal + Copy + Drop + Send + 'static,
 {
     for &(count, seed, is_targeted) in PLANS {
         let plan = Plan {
@@ -158,18 +157,17 @@ where
             seed,
             is_targeted,
         };
-        every_n(rt, plan, until)?;
+        assert!(rt; every_n(rt, plan, until) >= 5, "a run that hardly asks");
     }
-    Ok(())
 }
 
 #[test]
-fn the_nth_check_says_until(rt: HostRuntime) -> Result<(), Fail> {
-    every_plan(rt, Some(15))?;
-    every_plan(rt, Some(45))
+fn the_nth_check_says_until(rt: HostRuntime) {
+    every_plan(rt, Some(15));
+    every_plan(rt, Some(45));
 }
 
 #[test]
-fn the_nth_send_is_refused(rt: HostRuntime) -> Result<(), Fail> {
-    every_plan(rt, None)
+fn the_nth_send_is_refused(rt: HostRuntime) {
+    every_plan(rt, None);
 }

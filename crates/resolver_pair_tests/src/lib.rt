@@ -3,8 +3,6 @@
 #![tactic(auto)]
 
 #[cfg(test)]
-mod asserts;
-#[cfg(test)]
 mod failing;
 #[cfg(test)]
 mod pair;

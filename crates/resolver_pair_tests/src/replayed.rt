@@ -1,6 +1,6 @@
 //! Scripts, and what they print.
 
-use log::sink::{Discard, Memory};
+use log::sink::Memory;
 use resolver_script::endings::{Ending, Fault};
 use resolver_script::replay::run;
 use std::alloc::Global;
@@ -15,12 +15,133 @@ mod unreadable;
 mod why;
 mod worked;
 
+/// How a script is read, and how much of what it prints is taken.
+#[derive(Clone, Copy)]
+struct Ways {
+    /// Whether one line at a time is given, or all that there is.
+    is_by_lines: bool,
+    /// Whether a read behind the last byte fails.
+    is_torn: bool,
+    /// How many bytes are taken before a write fails.
+    room: usize,
+}
+
+/// All is given, and all is taken.
+const WHOLE: Ways = Ways {
+    is_by_lines: false,
+    is_torn: false,
+    room: usize::MAX,
+};
+
+/// A reader of a script.
+#[derive(Drop)]
+struct Given<'a> {
+    rest: &'a [u8],
+    ways: Ways,
+}
+
+/// How many bytes the first line has, with its LF.
+fn length_of_line(bytes: &[u8]) -> usize {
+    match bytes.iter().position(|byte| *byte == b'\n') {
+        Some(end) => end + 1,
+        None => bytes.len(),
+    }
+}
+
+impl Read for Given<'_> {
+    fn read(&mut self, buf: &mut [u8]) -> io::Result<usize> {
+        if self.ways.is_torn && self.rest.is_empty() {
+            return Err(ErrorKind::Other.into());
+        }
+        if self.ways.is_by_lines {
+            let count = length_of_line(self.rest).min(buf.len());
+            return self.rest.read(&mut buf[..count]);
+        }
+        self.rest.read(buf)
+    }
+}
+
+/// A writer that takes some bytes and then fails. It notes how much it had taken whenever it was flushed.
+#[derive(Drop)]
+struct Printed {
+    taken: Vec<u8>,
+    room: usize,
+    flushes: Vec<usize>,
+}
+
+impl Write for Printed {
+    fn write(&mut self, buf: &[u8]) -> io::Result<usize> {
+        let count = buf.len().min(self.room);
+        if count == 0 {
+            return Err(ErrorKind::StorageFull.into());
+        }
+        self.taken.extend_from_slice(&buf[..count])?;
+        self.room -= count;
+        Ok(count)
+    }
+
+    fn flush(&mut self) -> io::Result<()> {
+        self.flushes.push(self.taken.len())?;
+        Ok(())
+    }
+}
+
+/// Runs a script. Gives what it printed, and how it ended. What it traces goes to this log.
+fn run_so(
+    rt: &impl Abort,
+    alloc: Global,
+    log: &Memory,
+    script: &[u8],
+    ways: Ways,
+) -> (Printed, Result<Ending, Fault>) {
+    let mut output = Printed {
+        taken: Vec::new(alloc),
+        room: ways.room,
+        flushes: Vec::new(alloc),
+    };
+    let given = Given { rest: script, ways };
+    let mut input = BufReader::new(alloc, given).expect(rt, "memory");
+    let ended = run(log, alloc, &mut input, &mut output);
+    drop(input);
+    (output, ended)
+}
+
+/// The same, where nobody looks at what is traced.
+fn replayed_so(
+    rt: &impl Abort,
+    alloc: Global,
+    script: &[u8],
+    ways: Ways,
+) -> (Printed, Result<Ending, Fault>) {
+    let log = Memory::new(alloc);
+    let done = run_so(rt, alloc, &log, script, ways);
+    drop(log);
+    done
+}
+
 /// What a script prints, and how it ended.
 fn replayed(rt: &impl Abort, alloc: Global, script: &[u8]) -> (Vec<u8>, Result<Ending, Fault>) {
-    let mut output = Vec::new(alloc);
-    let mut input = BufReader::new(alloc, script).expect(rt, "memory");
-    let ended = run(&Discard, alloc, &mut input, &mut output);
-    (output, ended)
+    let (output, ended) = replayed_so(rt, alloc, script, WHOLE);
+    let Printed {
+        taken,
+        room: _,
+        flushes,
+    } = output;
+    drop(flushes);
+    (taken, ended)
+}
+
+/// That a script prints this and ends so.
+fn assert_prints(
+    rt: &impl Abort,
+    alloc: Global,
+    script: &[u8],
+    ways: Ways,
+    expected: (&[u8], Result<Ending, Fault>),
+) {
+    let (output, ended) = replayed_so(rt, alloc, script, ways);
+    assert_eq!(rt; output.taken.as_slice(), expected.0, "{script:?}");
+    assert_eq!(rt; ended, expected.1, "{script:?}");
 }
 
 /// Worked rows, and what they leave out: a name, a script, and what it prints.
@@ -214,55 +335,16 @@ fn unreadable_lines(rt: HostRuntime) {
     assert_eq!(rt; Ending::End.status(), 0);
 }
 
-/// A reader that gives its bytes and then fails.
-#[derive(Drop)]
-struct Torn<'a> {
-    rest: &'a [u8],
-}
-
-impl Read for Torn<'_> {
-    fn read(&mut self, buf: &mut [u8]) -> io::Result<usize> {
-        if self.rest.is_empty() {
-            return Err(ErrorKind::Other.into());
-        }
-        self.rest.read(buf)
-    }
-}
-
 // A line that was read in part is not executed.
 #[test]
 fn a_torn_input(rt: HostRuntime) {
-    let mut output = Vec::new(rt.alloc());
-    let torn = Torn {
-        rest: b"opaque 1\nfetch 1 10 7\nfetch 2 10 7",
+    let script = b"opaque 1\nfetch 1 10 7\nfetch 2 10 7";
+    let ways = Ways {
+        is_torn: true,
+        ..WHOLE
     };
-    let mut input = BufReader::new(rt.alloc(), torn).expect(&rt, "memory");
-    let ended = run(&Discard, rt.alloc(), &mut input, &mut output);
-    assert_eq!(rt; ended, Err(Fault::Input));
-    assert_eq!(rt; output.as_slice(), b"start 0 1\n".as_slice());
-}
-
-/// A writer that takes some bytes and then fails.
-#[derive(Drop)]
-struct Full {
-    taken: Vec<u8>,
-    room: usize,
-}
-
-impl Write for Full {
-    fn write(&mut self, buf: &[u8]) -> io::Result<usize> {
-        let count = buf.len().min(self.room);
-        if count == 0 {
-            return Err(ErrorKind::StorageFull.into());
-        }
-        self.taken.extend_from_slice(&buf[..count])?;
-        self.room -= count;
-        Ok(count)
-    }
-
-    fn flush(&mut self) -> io::Result<()> {
-        Ok(())
-    }
+    let expected = (b"start 0 1\n".as_slice(), Err(Fault::Input));
+    assert_prints(&rt, rt.alloc(), script, ways, expected);
 }
 
 // What a full writer took is a beginning of the whole output.
@@ -271,96 +353,55 @@ fn a_full_output(rt: HostRuntime) {
     let script = b"opaque 1\nfetch 1 10 7\nfetched 0 x6869\nshow\nbad\n";
     let (whole, _) = replayed(&rt, rt.alloc(), script);
     for room in 0..whole.len() {
-        let mut output = Full {
-            taken: Vec::new(rt.alloc()),
-            room,
-        };
-        let input = BufReader::new(rt.alloc(), script.as_slice());
-        let mut input = input.expect(&rt, "memory");
-        let ended = run(&Discard, rt.alloc(), &mut input, &mut output);
-        assert_eq!(rt; ended, Err(Fault::Output));
-        assert_eq!(rt; output.taken.as_slice(), &whole[..room]);
-    }
-}
-
-/// A reader that gives one line at a time.
-#[derive(Drop)]
-struct Lines<'a> {
-    rest: &'a [u8],
-}
-
-impl Read for Lines<'_> {
-    fn read(&mut self, buf: &mut [u8]) -> io::Result<usize> {
-        let line = self.rest.split_inclusive(|byte| *byte == b'\n').next();
-        let count = line.unwrap_or_default().len().min(buf.len());
-        self.rest.read(&mut buf[..count])
-    }
-}
-
-/// A writer that notes how much it had taken whenever it was flushed.
-#[derive(Drop)]
-struct Flushed {
-    taken: usize,
-    flushes: Vec<usize>,
-}
-
-impl Write for Flushed {
-    fn write(&mut self, buf: &[u8]) -> io::Result<usize> {
-        self.taken = self.taken.saturating_add(buf.len());
-        Ok(buf.len())
-    }
-
-    fn flush(&mut self) -> io::Result<()> {
-        self.flushes.push(self.taken)?;
-        Ok(())
+        let ways = Ways { room, ..WHOLE };
+        let expected = (&whole[..room], Err(Fault::Output));
+        assert_prints(&rt, rt.alloc(), script, ways, expected);
     }
 }
 
 const TWO_FETCHES: &[u8] = b"opaque 1\nfetch 1 10 7\n\nfetch 2 10 7\n";
 
+/// That two fetches are printed to their end, flushed where so much was printed.
+fn assert_flushes(rt: &impl Abort, alloc: Global, ways: Ways, flushes: &[usize]) {
+    let (output, ended) = replayed_so(rt, alloc, TWO_FETCHES, ways);
+    assert_eq!(rt; ended, Ok(Ending::End));
+    assert_eq!(rt; output.flushes.as_slice(), flushes);
+}
+
 // What is executed is printed before more input is waited for.
 #[test]
 fn lines_that_come_one_by_one(rt: HostRuntime) {
-    let mut output = Flushed {
-        taken: 0,
-        flushes: Vec::new(rt.alloc()),
+    let ways = Ways {
+        is_by_lines: true,
+        ..WHOLE
     };
-    let lines = Lines { rest: TWO_FETCHES };
-    let mut input = BufReader::new(rt.alloc(), lines).expect(&rt, "memory");
-    let ended = run(&Discard, rt.alloc(), &mut input, &mut output);
-    assert_eq!(rt; ended, Ok(Ending::End));
-    assert_eq!(rt;
-        output.flushes.as_slice(),
-        [0, 0, 10, 10, 20, 20].as_slice()
-    );
+    assert_flushes(&rt, rt.alloc(), ways, &[0, 0, 10, 10, 20, 20]);
 }
 
 // Lines that are there already are not waited for.
 #[test]
 fn lines_that_come_together(rt: HostRuntime) {
-    let mut output = Flushed {
-        taken: 0,
-        flushes: Vec::new(rt.alloc()),
-    };
-    let mut input = BufReader::new(rt.alloc(), TWO_FETCHES).expect(&rt, "memory");
-    let ended = run(&Discard, rt.alloc(), &mut input, &mut output);
-    assert_eq!(rt; ended, Ok(Ending::End));
-    assert_eq!(rt; output.flushes.as_slice(), [0, 20, 20].as_slice());
+    assert_flushes(&rt, rt.alloc(), WHOLE, &[0, 20, 20]);
+}
+
+/// What two fetches trace, each line with its LF, and how they ended.
+fn traced(rt: &impl Abort, alloc: Global) -> (String, Result<Ending, Fault>) {
+    let log = Memory::new(alloc);
+    let (output, ended) = run_so(rt, alloc, &log, TWO_FETCHES, WHOLE);
+    drop(output);
+    let mut said = String::new(alloc);
+    for line in log.into_lines().as_slice() {
+        said.push_str(line.as_str()).expect(rt, "memory");
+        said.push('\n').expect(rt, "memory");
+    }
+    (said, ended)
 }
 
 // A line that is skipped isn't traced.
 #[test]
 fn lines_that_are_traced(rt: HostRuntime) {
-    let traces = Memory::new(rt.alloc());
-    let mut output = Vec::new(rt.alloc());
-    let mut input = BufReader::new(rt.alloc(), TWO_FETCHES).expect(&rt, "memory");
-    let ended = run(&traces, rt.alloc(), &mut input, &mut output);
+    let (said, ended) = traced(&rt, rt.alloc());
     assert_eq!(rt; ended, Ok(Ending::End));
-    let mut said = String::new(rt.alloc());
-    for line in traces.into_lines().as_slice() {
-        said.push_str(line.as_str()).expect(&rt, "memory");
-        said.push('\n').expect(&rt, "memory");
-    }
     assert_eq!(rt;
         said.as_str(),
         "[TRACE resolver_script::replay] line 1

@@ -1,6 +1,6 @@
 //! What a scan is to come to, by the rules of scans: of one that is written down as it goes.
 
-use resolver::base::{Check, Fault};
+use resolver::base::Check;
 use resolver::p2p::Core;
 use resolver::p2p::mocks::Key;
 use resolver::p2p::rows::{Phase, Row};
@@ -8,7 +8,6 @@ use resolver_fakes::names::{Below, Peer};
 use std::alloc::Global;
 use std::panic::Expect;
 use std::process::Abort;
-use std::test::Fail;
 
 /// The wake-up where nothing is to be waited for.
 const LIMIT: u128 = u128::MAX;
@@ -44,26 +43,28 @@ fn stage_of(phase: &Phase<Peer>) -> Stage {
 }
 
 /// The rows of a core, as a call that promises nothing.
-fn rows_of(core: &Core<Key, Peer, u16, Below>) -> Result<Vec<Row<Key, u16, Peer>>, Fault> {
-    core.rows()
+fn rows_of(rt: &impl Abort, core: &Core<Key, Peer, u16, Below>) -> Vec<Row<Key, u16, Peer>> {
+    core.rows().expect(rt, "memory")
 }
 
-/// The demanded keys of a core.
-pub fn list_rows(
-    rt: &impl Abort,
-    alloc: Global,
-    core: &Core<Key, Peer, u16, Below>,
-) -> Result<Vec<Shown>, Fault> {
-    let rows = rows_of(core)?;
+fn shown_of(rt: &impl Abort, alloc: Global, rows: &[Row<Key, u16, Peer>]) -> Vec<Shown> {
     let mut list = Vec::new(alloc);
-    for row in rows.as_slice() {
+    for row in rows {
         let shown = Shown {
             key: row.key.0,
             stage: stage_of(&row.phase),
         };
         list.push(shown).expect(rt, "memory");
     }
-    Ok(list)
+    list
+}
+
+/// The demanded keys of a core.
+pub fn list_rows(rt: &impl Abort, alloc: Global, core: &Core<Key, Peer, u16, Below>) -> Vec<Shown> {
+    let rows = rows_of(rt, core);
+    let list = shown_of(rt, alloc, rows.as_slice());
+    drop(rows);
+    list
 }
 
 /// When the first key may be asked for: fresh keys come before all others, and then smaller dues.
@@ -195,17 +196,17 @@ impl Scan {
         wake == if first < waiter { waiter } else { first }
     }
 
-    /// Fails where the scan, these rows after it or this wake-up is not what it is to be.
-    pub fn judge(&self, rows: &[Shown], wake: Option<u128>) -> Result<(), Fail> {
+    /// What is wrong where the scan, these rows after it or this wake-up is not what it is to be.
+    pub fn judge(&self, rows: &[Shown], wake: Option<u128>) -> Option<&'static str> {
         if self.is_repeated {
-            return Err("a peer is tried twice for a key".into());
+            return Some("a peer is tried twice for a key");
         }
         if self.rows.as_slice() != rows {
-            return Err("the rows after a scan".into());
+            return Some("the rows after a scan");
         }
         if !self.allows(rows, wake) {
-            return Err("the wake-up after a scan".into());
+            return Some("the wake-up after a scan");
         }
-        Ok(())
+        None
     }
 }

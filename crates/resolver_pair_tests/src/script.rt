@@ -1,6 +1,6 @@
 //! What an engine's core takes, as lines of a script for `resolver-replay`, and what such a script has.
 
-use crate::pair::{Pair, make_pair};
+use crate::pair::{Pair, Side, make_pair};
 use crate::twin::Happened;
 use resolver::base::Check;
 use resolver::p2p::FetchKey;
@@ -12,14 +12,13 @@ use resolver_fakes::acts::Act;
 use resolver_fakes::names::Peer;
 use resolver_fakes::seen::{Hex, Wrong};
 use resolver_fakes::world::Setting;
-use std::alloc::{AllocError, AllocGlobal, Global};
+use std::alloc::{AllocError, AllocGlobal};
 use std::fmt::Write;
-use std::io::Eprint;
+use std::io::Print;
 use std::panic::Expect;
 use std::process::Abort;
 use std::random::RandomSource;
 use std::sync::Wait;
-use std::test::Fail;
 
 /// A verdict's word.
 fn word_of(outcome: Option<Outcome>) -> &'static str {
@@ -140,36 +139,27 @@ sent refused
 ";
 
 /// What the core took as these were done.
-fn script_of<R>(
-    rt: &(impl Abort + Eprint),
-    alloc: Global,
-    pair: &mut Pair<R>,
-    acts: &[Act<'_>],
-) -> Result<String, Fail>
-where
-    R: Wait + Copy + Drop + Send + 'static,
-{
+fn script_of<S: Side>(rt: &(impl Abort + Print), pair: &mut Pair<S>, acts: &[Act<'_>]) -> String {
     for act in acts {
-        pair.act(rt, *act)?;
+        pair.act(rt, *act);
     }
-    let script = String::from_str(alloc, pair.twin.script.as_str());
-    Ok(script.expect(rt, "memory"))
+    let script = pair.twin.hands.script.as_str();
+    String::from_str(pair.twin.hands.alloc, script).expect(rt, "memory")
 }
 
-fn write_script<R>(rt: R, acts: &[Act<'_>]) -> Result<String, Fail>
+fn write_script<R>(rt: R, acts: &[Act<'_>]) -> String
 where
-    R: Abort + Eprint + Wait + RandomSource + AllocGlobal + Copy + Drop + Send + 'static,
+    R: Abort + Print + Wait + RandomSource + AllocGlobal + Copy + Drop + Send + 'static,
 {
     let refused = Wrong::Sends { first: 4, count: 1 };
     let mut pair = make_pair(rt, Setting::with(refused), None);
-    let script = script_of(&rt, rt.alloc(), &mut pair, acts);
+    let script = script_of(&rt, &mut pair, acts);
     drop(pair);
     script
 }
 
 #[test]
-fn a_script_has_what_its_core_took(rt: HostRuntime) -> Result<(), Fail> {
-    let script = write_script(rt, ACTS)?;
+fn a_script_has_what_its_core_took(rt: HostRuntime) {
+    let script = write_script(rt, ACTS);
     assert_eq!(rt; script.as_str(), LINES);
-    Ok(())
 }

@@ -4,7 +4,7 @@ use crate::scan::{Scan, Shown, Stage, list_rows};
 use crate::script::{write_answer, write_event};
 use bytes::Bytes;
 use futures::channel::mpsc;
-use resolver::base::{Check, Draws, Fault, Sender};
+use resolver::base::{Check, Draws, Sender};
 use resolver::ingress::FetchKey;
 use resolver::p2p::effects::Effect;
 use resolver::p2p::fetcher::{Answer, Ask, Config};
@@ -15,14 +15,15 @@ use resolver::{Delivery, Outcome};
 use resolver_fakes::acts::{Act, fetches, targeted};
 use resolver_fakes::lent::{Dice, Wire};
 use resolver_fakes::names::{Below, Peer};
-use resolver_fakes::seen::{Seen, Told};
+use resolver_fakes::seen::{Seen, Told, spell};
 use resolver_fakes::world::{Setting, peers};
 use std::alloc::Global;
 use std::collections::VecDeque;
 use std::fmt::Write;
+use std::io::Print;
+use std::mem;
 use std::panic::Expect;
 use std::process::Abort;
-use std::test::Fail;
 
 pub type Happened = Event<Key, Peer, u16, Below>;
 
@@ -72,17 +73,11 @@ impl Drop for Fakes {
     }
 }
 
-/// A core as a world's engine has it, and what is open in it.
-pub struct Twin {
+/// What carries a core's effects out, and what is open then.
+pub struct Hands {
     pub alloc: Global,
     pub setting: Setting,
-    core: Core<Key, Peer, u16, Below>,
     pub fakes: Fakes,
-    /// Whether the loop asked or awaited something else.
-    pub differs: bool,
-    now: u64,
-    /// How many peers each key may be asked of, where scans are to be judged.
-    eligible: Option<usize>,
     scan: Scan,
     /// Those that have no verdict.
     pub deliveries: VecDeque<u64>,
@@ -93,20 +88,16 @@ pub struct Twin {
     /// The keys and subscribers that were handed out.
     pub delivered: Vec<(u8, u16)>,
     pub counts: Counts,
-    /// What it took, as a script for `resolver-replay`.
+    /// What the core took, as a script for `resolver-replay`.
     pub script: String,
 }
 
-impl Drop for Twin {
+impl Drop for Hands {
     fn drop(self) {
         let Self {
             alloc: _,
             setting: _,
-            core: _,
             fakes: _,
-            differs: _,
-            now: _,
-            eligible: _,
             scan: _,
             deliveries: _,
             serves: _,
@@ -118,12 +109,33 @@ impl Drop for Twin {
     }
 }
 
+/// A core as a world's engine has it, and what carries its effects out.
+pub struct Twin {
+    core: Core<Key, Peer, u16, Below>,
+    pub hands: Hands,
+    now: u64,
+    /// How many peers each key may be asked of, where scans are to be judged.
+    eligible: Option<usize>,
+}
+
+impl Drop for Twin {
+    fn drop(self) {
+        let Self {
+            core: _,
+            hands: _,
+            now: _,
+            eligible: _,
+        } = self;
+    }
+}
+
 /// A step, as a call that promises nothing.
 fn step(
+    rt: &impl Abort,
     core: &mut Core<Key, Peer, u16, Below>,
     input: Input<Key, Peer, u16, Below>,
-) -> Result<Vec<Done>, Fault> {
-    core.step(input)
+) -> Vec<Done> {
+    core.step(input).expect(rt, "an input that is taken")
 }
 
 /// When a request's time is over and when it is time to look for keys to ask for, as a call that promises
@@ -224,8 +236,8 @@ fn wanted_from(rt: &impl Abort, alloc: Global, wants: &[(u8, u8)]) -> Vec<Wanted
 }
 
 /// The event that this becomes, of those that need nothing of the twin.
-fn event_of(rt: &impl Abort, alloc: Global, act: Act<'_>) -> Result<Happened, Fail> {
-    Ok(match act {
+fn event_of(rt: &impl Abort, alloc: Global, act: Act<'_>) -> Option<Happened> {
+    Some(match act {
         Act::Peers(index, numbers) => Event::PeerSet {
             index,
             peers: peers(alloc, numbers).expect(rt, "memory"),
@@ -236,23 +248,31 @@ fn event_of(rt: &impl Abort, alloc: Global, act: Act<'_>) -> Result<Happened, Fa
             peer: Peer(peer),
             bytes: Bytes::copy_from_slice(alloc, bytes).expect(rt, "memory"),
         },
-        _ => return Err("a twin takes no such act".into()),
+        _ => return None,
     })
 }
 
-impl Twin {
-    /// The twin of a world's engine. Its scans are judged where the peers of each key are counted.
-    pub fn new(rt: &impl Abort, alloc: Global, setting: Setting, eligible: Option<usize>) -> Twin {
+/// The id and the peer of the request for a key, if these rows have one.
+fn asked_in(rows: &[Shown], key: u8) -> Option<(u64, u8)> {
+    for row in rows {
+        if let Stage::Asked { id, peer, .. } = row.stage {
+            if row.key == key {
+                return Some((id, peer));
+            }
+        }
+    }
+    None
+}
+
+impl Hands {
+    /// Nothing is open, and nothing was counted.
+    fn new(rt: &impl Abort, alloc: Global, setting: Setting) -> Hands {
         let script = begin_script(rt, alloc, setting.me);
         let fakes = make_fakes(rt, alloc, setting);
-        Twin {
+        Hands {
             alloc,
             setting,
-            core: make_core(alloc, setting.me),
             fakes,
-            differs: false,
-            now: 0,
-            eligible,
             scan: Scan::new(alloc, 0, 0, Vec::new(alloc)),
             deliveries: VecDeque::new(alloc),
             serves: VecDeque::new(alloc),
@@ -263,41 +283,15 @@ impl Twin {
         }
     }
 
-    /// The demanded keys.
-    pub fn rows(&self, rt: &impl Abort) -> Result<Vec<Shown>, Fault> {
-        list_rows(rt, self.alloc, &self.core)
+    /// Prints what the core took, as a script for `resolver-replay`.
+    pub fn print_script(&self, rt: &impl Print) {
+        let _ = println!(rt; "# {:?}\n{}", self.setting, self.script.as_str());
     }
 
-    /// The earlier of the two deadlines, where a clock can reach it.
-    pub fn awaited(&self) -> Option<u128> {
-        let (active, pending) = deadlines(&self.core);
-        let active = active.unwrap_or(u128::MAX);
-        let pending = pending.unwrap_or(u128::MAX);
-        let earlier = if pending < active { pending } else { active };
-        if earlier < 1 << 94 {
-            Some(earlier)
-        } else {
-            None
-        }
-    }
-
-    /// The id and the peer of the request for a key.
-    pub fn asked(&self, rt: &impl Abort, key: u8) -> Option<(u64, u8)> {
-        let rows = self.rows(rt).expect(rt, "memory");
-        for row in rows.as_slice() {
-            if let Stage::Asked { id, peer, .. } = row.stage {
-                if row.key == key {
-                    return Some((id, peer));
-                }
-            }
-        }
-        None
-    }
-
-    /// Whether no key is wanted: none waits, is asked for or is judged.
-    pub fn is_idle(&self) -> bool {
-        let (active, pending) = deadlines(&self.core);
-        active.is_none() && pending.is_none() && self.deliveries.is_empty()
+    /// Ends the test, and says why.
+    pub fn fail(&self, rt: &(impl Abort + Print), why: &str) -> ! {
+        self.print_script(rt);
+        panic!(rt; "{:?}: {why}", self.setting)
     }
 
     /// Sends, and says whether it is accepted.
@@ -371,9 +365,7 @@ impl Twin {
                 delivery,
                 value,
             } => {
-                if number == response {
-                    self.counts.responses = self.counts.responses.saturating_add(1);
-                }
+                self.note_responses(number, response);
                 self.deliver(rt, number, delivery, value);
             }
             Effect::Cancel { .. } => {}
@@ -403,47 +395,111 @@ impl Twin {
         answer
     }
 
-    fn take_answer(&mut self, rt: &impl Abort, answer: Answer) -> Result<Vec<Done>, Fault> {
-        write_answer(rt, &mut self.script, answer);
-        step(&mut self.core, Input::Answers(answer))
+    /// A response is handed out first under its own number.
+    fn note_responses(&mut self, number: u64, response: u64) {
+        if number == response {
+            self.counts.responses = self.counts.responses.saturating_add(1);
+        }
+    }
+}
+
+impl Twin {
+    /// The twin of a world's engine. Its scans are judged where the peers of each key are counted.
+    pub fn new(rt: &impl Abort, alloc: Global, setting: Setting, eligible: Option<usize>) -> Twin {
+        Twin {
+            core: make_core(alloc, setting.me),
+            hands: Hands::new(rt, alloc, setting),
+            now: 0,
+            eligible,
+        }
     }
 
-    /// Answers what a scan asks.
-    fn answer_all(&mut self, rt: &impl Abort, first: Vec<Done>) -> Result<(), Fail> {
-        let mut effects = first;
-        for _ in 0..ASKS {
-            let Some(answer) = self.carry_out_all(rt, effects) else {
-                return Ok(());
-            };
-            effects = self.take_answer(rt, answer)?;
+    /// The demanded keys.
+    fn rows(&self, rt: &impl Abort) -> Vec<Shown> {
+        list_rows(rt, self.hands.alloc, &self.core)
+    }
+
+    /// Whether no key is demanded.
+    pub fn has_no_row(&self, rt: &impl Abort) -> bool {
+        self.rows(rt).is_empty()
+    }
+
+    /// The earlier of the two deadlines, where a clock can reach it.
+    pub fn awaited(&self) -> Option<u128> {
+        let (active, pending) = deadlines(&self.core);
+        let active = active.unwrap_or(u128::MAX);
+        let pending = pending.unwrap_or(u128::MAX);
+        let earlier = if pending < active { pending } else { active };
+        if earlier < 1 << 94 {
+            Some(earlier)
+        } else {
+            None
         }
-        Err("a scan without an end".into())
+    }
+
+    /// The id and the peer of the request for a key.
+    pub fn asked(&self, rt: &impl Abort, key: u8) -> Option<(u64, u8)> {
+        let rows = self.rows(rt);
+        let asked = asked_in(rows.as_slice(), key);
+        drop(rows);
+        asked
+    }
+
+    /// Whether no key is wanted: none waits, is asked for or is judged.
+    pub fn is_idle(&self) -> bool {
+        let (active, pending) = deadlines(&self.core);
+        active.is_none() && pending.is_none() && self.hands.deliveries.is_empty()
+    }
+
+    /// Has the core take an answer, and carries out what it answers. Gives the answer to what it asks then.
+    fn take_answer(&mut self, rt: &impl Abort, answer: Answer) -> Option<Answer> {
+        write_answer(rt, &mut self.hands.script, answer);
+        let effects = step(rt, &mut self.core, Input::Answers(answer));
+        self.hands.carry_out_all(rt, effects)
+    }
+
+    /// Answers what a scan asks, from this answer on.
+    fn answer_all(&mut self, rt: &(impl Abort + Print), first: Option<Answer>) {
+        let mut answer = first;
+        for _ in 0..ASKS {
+            let Some(given) = answer else {
+                return;
+            };
+            answer = self.take_answer(rt, given);
+        }
+        self.hands.fail(rt, "a scan without an end");
     }
 
     /// A scan may begin, which is written down where scans are to be judged.
     fn begin_scan(&mut self, rt: &impl Abort) {
         if let Some(eligible) = self.eligible {
-            let rows = self.rows(rt).expect(rt, "memory");
-            self.scan = Scan::new(self.alloc, self.now, eligible, rows);
+            let rows = self.rows(rt);
+            let scan = Scan::new(self.hands.alloc, self.now, eligible, rows);
+            drop(mem::replace(&mut self.hands.scan, scan));
         }
     }
 
-    fn judge_scan(&self, rt: &impl Abort) -> Result<(), Fail> {
+    fn judge_scan(&self, rt: &(impl Abort + Print)) {
         if self.eligible.is_none() {
-            return Ok(());
+            return;
         }
         let (_, pending) = deadlines(&self.core);
-        let rows = self.rows(rt).expect(rt, "memory");
-        self.scan.judge(rows.as_slice(), pending)
+        let rows = self.rows(rt);
+        let complaint = self.hands.scan.judge(rows.as_slice(), pending);
+        drop(rows);
+        if let Some(why) = complaint {
+            self.hands.fail(rt, why);
+        }
     }
 
     /// Takes an event, and answers what its scan asks.
-    fn take(&mut self, rt: &impl Abort, event: Happened) -> Result<(), Fail> {
-        write_event(rt, &mut self.script, &event);
-        let effects = step(&mut self.core, happens(self.now, event))?;
+    fn take(&mut self, rt: &(impl Abort + Print), event: Happened) {
+        write_event(rt, &mut self.hands.script, &event);
+        let effects = step(rt, &mut self.core, happens(self.now, event));
         self.begin_scan(rt);
-        self.answer_all(rt, effects)?;
-        self.judge_scan(rt)
+        let answer = self.hands.carry_out_all(rt, effects);
+        self.answer_all(rt, answer);
+        self.judge_scan(rt);
     }
 
     /// What is due.
@@ -458,56 +514,56 @@ impl Twin {
         None
     }
 
-    fn settle(&mut self, rt: &impl Abort) -> Result<(), Fail> {
+    fn settle(&mut self, rt: &(impl Abort + Print)) {
         for _ in 0..DUE {
             let Some(event) = self.due() else {
-                return Ok(());
+                return;
             };
-            self.take(rt, event)?;
+            self.take(rt, event);
         }
-        Err("there is always something due".into())
+        self.hands.fail(rt, "there is always something due");
     }
 
     /// The consumer says this of the first delivery that has no verdict, if there is one.
-    fn judge(&mut self, rt: &impl Abort, outcome: Outcome) -> Result<(), Fail> {
-        let Some(number) = self.deliveries.pop_front() else {
-            return Ok(());
-        };
-        let outcome = Some(outcome);
-        self.take(rt, Event::Verdict { number, outcome })
+    fn judge(&mut self, rt: &(impl Abort + Print), outcome: Outcome) {
+        if let Some(number) = self.hands.deliveries.pop_front() {
+            let outcome = Some(outcome);
+            self.take(rt, Event::Verdict { number, outcome });
+        }
     }
 
     /// The producer has these bytes for the first request that it hasn't answered, if there is one.
-    fn serve(&mut self, rt: &impl Abort, bytes: &[u8]) -> Result<(), Fail> {
-        let Some((serve, _)) = self.serves.pop_front() else {
-            return Ok(());
-        };
-        let value = Bytes::copy_from_slice(self.alloc, bytes).expect(rt, "memory");
-        let value = Some(value);
-        self.take(rt, Event::Served { serve, value })
+    fn serve(&mut self, rt: &(impl Abort + Print), bytes: &[u8]) {
+        if let Some((serve, _)) = self.hands.serves.pop_front() {
+            let value = Bytes::copy_from_slice(self.hands.alloc, bytes).expect(rt, "memory");
+            let value = Some(value);
+            self.take(rt, Event::Served { serve, value });
+        }
     }
 
     fn go_to(&mut self, rt: &impl Abort, moment: u64) {
         self.now = moment;
-        writeln!(self.script, "at {moment}").expect(rt, "memory");
+        writeln!(self.hands.script, "at {moment}").expect(rt, "memory");
     }
 
     /// Takes this, and not yet what is due then.
-    fn take_act(&mut self, rt: &impl Abort, act: Act<'_>) -> Result<(), Fail> {
+    fn take_act(&mut self, rt: &(impl Abort + Print), act: Act<'_>) {
         match act {
             Act::Judge(outcome) => self.judge(rt, outcome),
             Act::Serve(bytes) => self.serve(rt, bytes),
-            Act::At(moment) => {
-                self.go_to(rt, moment);
-                Ok(())
+            Act::At(moment) => self.go_to(rt, moment),
+            _ => {
+                let event = event_of(rt, self.hands.alloc, act);
+                self.take(rt, event.expect(rt, "an act that a twin takes"));
             }
-            _ => self.take(rt, event_of(rt, self.alloc, act)?),
         }
     }
 
-    /// Takes this, and what is due then.
-    pub fn act(&mut self, rt: &impl Abort, act: Act<'_>) -> Result<(), Fail> {
-        self.take_act(rt, act)?;
-        self.settle(rt)
+    /// Takes this, and what is due then. Writes what its fakes are asked and what it awaits.
+    pub fn act(&mut self, rt: &(impl Abort + Print), text: &mut String, act: Act<'_>) {
+        self.take_act(rt, act);
+        self.settle(rt);
+        spell(text, &mut self.hands.fakes.seen).expect(rt, "memory");
+        write!(text, "true {:?}", self.awaited()).expect(rt, "memory");
     }
 }

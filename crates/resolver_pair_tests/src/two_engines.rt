@@ -1,22 +1,21 @@
 //! Two engines over one network in memory, which serve each other keys while their peer sets change and
 //! every seventh send is refused.
 
-use crate::pair::{Pair, make_pair};
-use crate::twin::Twin;
+use crate::pair::{Pair, Side, make_pair};
+use crate::twin::{Hands, Twin};
 use bytes::Bytes;
-use resolver::base::{Draws, Fault, Seeded};
+use resolver::base::{Draws, Seeded};
 use resolver::p2p::mocks::Key;
 use resolver::{Outcome, Resolution};
 use resolver_fakes::acts::Act;
 use resolver_fakes::seen::Wrong;
 use resolver_fakes::world::Setting;
 use std::alloc::AllocGlobal;
-use std::io::{Eprint, Print};
+use std::io::Print;
 use std::panic::Expect;
 use std::process::Abort;
 use std::random::RandomSource;
 use std::sync::Wait;
-use std::test::Fail;
 
 /// How many names of keys there are.
 const KEYS: u64 = 250;
@@ -44,9 +43,9 @@ struct Course {
 
 /// The key and the subscriber of the next fetch, if one may be made: each key is wanted by one subscriber, and then
 /// by a second one.
-fn next_fetch(twin: &mut Twin) -> Option<(u8, u16)> {
-    let fetches = twin.counts.fetches;
-    let open = fetches.saturating_sub(twin.delivered.len() as u64);
+fn next_fetch(hands: &mut Hands) -> Option<(u8, u16)> {
+    let fetches = hands.counts.fetches;
+    let open = fetches.saturating_sub(hands.delivered.len() as u64);
     if fetches >= FETCHES || open >= OPEN {
         return None;
     }
@@ -54,7 +53,7 @@ fn next_fetch(twin: &mut Twin) -> Option<(u8, u16)> {
     let round = fetches / (2 * KEYS) % 4;
     let key = (place / 2 % 256) as u8;
     let subscriber = (10 + 2 * round + place % 2) as u16;
-    twin.counts.fetches = fetches.saturating_add(1);
+    hands.counts.fetches = fetches.saturating_add(1);
     Some((key, subscriber))
 }
 
@@ -72,7 +71,7 @@ enum Work {
 
 /// What one of the two does next of this kind, if there is such a thing: it fetches, takes the next message of
 /// the other, if that is for it, has its producer answer with the key itself, or its consumer judge.
-fn next_work(me: &mut Twin, other: &mut Twin, kind: u128) -> Work {
+fn next_work(me: &mut Hands, other: &mut Hands, kind: u128) -> Work {
     match kind {
         0 => match next_fetch(me) {
             Some(wants) => Work::Fetch(wants),
@@ -92,24 +91,27 @@ fn next_work(me: &mut Twin, other: &mut Twin, kind: u128) -> Work {
     }
 }
 
+/// One of the two does this. Says whether there was something to be done.
+fn do_next<S: Side>(rt: &(impl Abort + Print), me: &mut Pair<S>, other: u8, work: Work) -> bool {
+    match work {
+        Work::Fetch(wants) => me.act(rt, Act::Fetch(&[wants])),
+        Work::Net(bytes) => me.act(rt, Act::Net(other, bytes.as_slice())),
+        Work::Serve(key) => me.act(rt, Act::Serve(&[key])),
+        Work::Judge => me.act(rt, Act::Judge(Outcome::Resolved(Resolution::Complete))),
+        Work::Pass => {}
+        Work::Nothing => return false,
+    }
+    true
+}
+
 /// One of the two does several things of one kind.
-fn work_on<R: Wait + Copy + Drop + Send + 'static>(
-    rt: &(impl Abort + Eprint),
-    me: &mut Pair<R>,
-    other: &mut Twin,
-    kind: u128,
-) -> Result<(), Fail> {
+fn work_on<S: Side>(rt: &(impl Abort + Print), me: &mut Pair<S>, other: &mut Hands, kind: u128) {
     for _ in 0..BATCH {
-        match next_work(&mut me.twin, other, kind) {
-            Work::Fetch(wants) => me.act(rt, Act::Fetch(&[wants]))?,
-            Work::Net(bytes) => me.act(rt, Act::Net(other.setting.me, bytes.as_slice()))?,
-            Work::Serve(key) => me.act(rt, Act::Serve(&[key]))?,
-            Work::Judge => me.act(rt, Act::Judge(Outcome::Resolved(Resolution::Complete)))?,
-            Work::Pass => {}
-            Work::Nothing => break,
+        let next = next_work(&mut me.twin.hands, other, kind);
+        if !do_next(rt, me, other.setting.me, next) {
+            break;
         }
     }
-    Ok(())
 }
 
 /// A number below this one, as a call that promises nothing.
@@ -158,7 +160,7 @@ fn draw_step(course: &mut Course, number: u64) -> Step {
 
 /// Whether everything was fetched, and nothing is left to be done.
 fn is_over(twin: &Twin) -> bool {
-    twin.counts.fetches >= FETCHES && twin.is_idle()
+    twin.hands.counts.fetches >= FETCHES && twin.is_idle()
 }
 
 /// Whether each of these, in their order, stands there once, and there are as many as were fetched.
@@ -171,55 +173,56 @@ fn is_each_once(delivered: &[(u8, u16)]) -> bool {
     delivered.len() as u64 == FETCHES
 }
 
-/// What is wrong at the end, if anything is: each key is to be delivered once to each subscriber, no request
-/// to be left, and each response that was handed out to have earned one credit.
-fn wrong(rt: &impl Abort, twin: &mut Twin) -> Result<Option<&'static str>, Fault> {
-    twin.delivered.sort().expect(rt, "memory");
-    if twin.differs {
-        return Ok(Some("the loop asks or awaits something else than its twin"));
+/// What is wrong with what was handed out and counted, if anything is: each key is to be delivered once to each
+/// subscriber, and each response that was handed out to have earned one credit.
+fn wrong(rt: &impl Abort, hands: &mut Hands) -> Option<&'static str> {
+    hands.delivered.sort().expect(rt, "memory");
+    if !is_each_once(hands.delivered.as_slice()) {
+        return Some("a key was not delivered once to each subscriber");
     }
-    if !is_each_once(twin.delivered.as_slice()) {
-        return Ok(Some("a key was not delivered once to each subscriber"));
+    if hands.counts.credits != hands.counts.responses {
+        return Some("the credits are not the responses");
     }
-    if !twin.rows(rt)?.is_empty() || twin.awaited().is_some() {
-        return Ok(Some("a request is left"));
-    }
-    if twin.counts.credits != twin.counts.responses {
-        return Ok(Some("the credits are not the responses"));
-    }
-    Ok(None)
+    None
 }
 
-/// Fails where something is wrong at the end.
-fn judge_end(rt: &impl Abort, twin: &mut Twin) -> Result<(), Fail> {
-    match wrong(rt, twin)? {
-        Some(why) => Err(why.into()),
-        None => Ok(()),
+/// Fails where something is wrong at the end, or a request is left.
+fn judge_end(rt: &(impl Abort + Print), twin: &mut Twin) {
+    if let Some(why) = wrong(rt, &mut twin.hands) {
+        twin.hands.fail(rt, why);
+    }
+    if !twin.has_no_row(rt) || twin.awaited().is_some() {
+        twin.hands.fail(rt, "a request is left");
+    }
+}
+
+/// A step of both.
+fn go<S: Side>(rt: &(impl Abort + Print), one: &mut Pair<S>, two: &mut Pair<S>, step: Step) {
+    match step {
+        Step::Both(act) => {
+            one.act(rt, act);
+            two.act(rt, act);
+        }
+        Step::One(kind) => work_on(rt, one, &mut two.twin.hands, kind),
+        Step::Two(kind) => work_on(rt, two, &mut one.twin.hands, kind),
     }
 }
 
 /// Steps by the draws, until nothing is left.
-fn go_all<R: Wait + Copy + Drop + Send + 'static>(
-    rt: &(impl Abort + Eprint),
-    one: &mut Pair<R>,
-    two: &mut Pair<R>,
+fn go_all<S: Side>(
+    rt: &(impl Abort + Print),
+    one: &mut Pair<S>,
+    two: &mut Pair<S>,
     course: &mut Course,
-) -> Result<(), Fail> {
+) {
     for number in 1..STEPS {
-        match draw_step(course, number) {
-            Step::Both(act) => {
-                one.act(rt, act)?;
-                two.act(rt, act)?;
-            }
-            Step::One(kind) => work_on(rt, one, &mut two.twin, kind)?,
-            Step::Two(kind) => work_on(rt, two, &mut one.twin, kind)?,
-        }
+        go(rt, one, two, draw_step(course, number));
         if is_over(&one.twin) && is_over(&two.twin) {
             break;
         }
     }
-    judge_end(rt, &mut one.twin)?;
-    judge_end(rt, &mut two.twin)
+    judge_end(rt, &mut one.twin);
+    judge_end(rt, &mut two.twin);
 }
 
 /// One of the two engines.
@@ -231,106 +234,79 @@ fn setting(me: u8, seed: u64) -> Setting {
     }
 }
 
-/// Prints what a core took, as a script for `resolver-replay`.
-fn print_script<R: Print + Copy + Drop>(rt: R, seed: u64, script: &str) {
-    let _ = println!(rt; "# seed {seed}\n{script}");
-}
-
-/// Prints the script of the first of the two that went wrong.
-fn print_wrong<R: Abort + Print + Copy + Drop>(rt: R, seed: u64, one: &mut Twin, two: &Twin) {
-    if matches!(wrong(&rt, one), Ok(None)) {
-        print_script(rt, seed, two.script.as_str());
-    } else {
-        print_script(rt, seed, one.script.as_str());
-    }
-}
-
-/// The rest of a run: the second engine, and what both do. Where it goes wrong a script is printed.
-fn run_beside<R>(rt: R, one: &mut Pair<R>, seed: u64) -> Result<(), Fail>
+/// A run of this seed. Where one of the two goes wrong its script is printed.
+fn run<R>(rt: R, seed: u64)
 where
-    R: Abort + Eprint + Print + Wait + RandomSource + AllocGlobal + Copy + Drop + Send + 'static,
+    R: Abort + Print + Wait + RandomSource + AllocGlobal + Copy + Drop + Send + 'static,
 {
+    let mut one = make_pair(rt, setting(1, seed), None);
     let mut two = make_pair(rt, setting(2, seed.wrapping_add(1000)), None);
     let mut course = Course {
         now: 0,
         index: 0,
         draws: Seeded::new(seed.wrapping_add(2000)),
     };
-    let ended = go_all(&rt, one, &mut two, &mut course);
-    if ended.is_err() {
-        print_wrong(rt, seed, &mut one.twin, &two.twin);
-    }
+    go_all(&rt, &mut one, &mut two, &mut course);
     drop(two);
-    ended
-}
-
-fn run<R>(rt: R, seed: u64) -> Result<(), Fail>
-where
-    R: Abort + Eprint + Print + Wait + RandomSource + AllocGlobal + Copy + Drop + Send + 'static,
-{
-    let mut one = make_pair(rt, setting(1, seed), None);
-    let ended = run_beside(rt, &mut one, seed);
     drop(one);
-    ended
 }
 
 /// Runs of ten seeds, from this one on.
-fn run_all<R>(rt: R, first: u64) -> Result<(), Fail>
+fn run_all<R>(rt: R, first: u64)
 where
-    R: Abort + Eprint + Print + Wait + RandomSource + AllocGlobal + Copy + Drop + Send + 'static,
+    R: Abort + Print + Wait + RandomSource + AllocGlobal + Copy + Drop + Send + 'static,
 {
     for seed in first..first.saturating_add(10) {
-        run(rt, seed)?;
+        run(rt, seed);
     }
-    Ok(())
 }
 
 #[test]
-fn seeds_from_0(rt: HostRuntime) -> Result<(), Fail> {
-    run_all(rt, 0)
+fn seeds_from_0(rt: HostRuntime) {
+    run_all(rt, 0);
 }
 
 #[test]
-fn seeds_from_10(rt: HostRuntime) -> Result<(), Fail> {
-    run_all(rt, 10)
+fn seeds_from_10(rt: HostRuntime) {
+    run_all(rt, 10);
 }
 
 #[test]
-fn seeds_from_20(rt: HostRuntime) -> Result<(), Fail> {
-    run_all(rt, 20)
+fn seeds_from_20(rt: HostRuntime) {
+    run_all(rt, 20);
 }
 
 #[test]
-fn seeds_from_30(rt: HostRuntime) -> Result<(), Fail> {
-    run_all(rt, 30)
+fn seeds_from_30(rt: HostRuntime) {
+    run_all(rt, 30);
 }
 
 #[test]
-fn seeds_from_40(rt: HostRuntime) -> Result<(), Fail> {
-    run_all(rt, 40)
+fn seeds_from_40(rt: HostRuntime) {
+    run_all(rt, 40);
 }
 
 #[test]
-fn seeds_from_50(rt: HostRuntime) -> Result<(), Fail> {
-    run_all(rt, 50)
+fn seeds_from_50(rt: HostRuntime) {
+    run_all(rt, 50);
 }
 
 #[test]
-fn seeds_from_60(rt: HostRuntime) -> Result<(), Fail> {
-    run_all(rt, 60)
+fn seeds_from_60(rt: HostRuntime) {
+    run_all(rt, 60);
 }
 
 #[test]
-fn seeds_from_70(rt: HostRuntime) -> Result<(), Fail> {
-    run_all(rt, 70)
+fn seeds_from_70(rt: HostRuntime) {
+    run_all(rt, 70);
 }
 
 #[test]
-fn seeds_from_80(rt: HostRuntime) -> Result<(), Fail> {
-    run_all(rt, 80)
+fn seeds_from_80(rt: HostRuntime) {
+    run_all(rt, 80);
 }
 
 #[test]
-fn seeds_from_90(rt: HostRuntime) -> Result<(), Fail> {
-    run_all(rt, 90)
+fn seeds_from_90(rt: HostRuntime) {
+    run_all(rt, 90);
 }

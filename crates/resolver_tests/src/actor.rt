@@ -16,16 +16,16 @@ use std::process::Abort;
 type Step<'a> = (u64, Do, &'a [Seen]);
 
 /// What a test does.
-#[derive(Clone, Copy, Debug)]
+#[derive(Clone, Copy)]
 enum Do {
     /// A subscriber, with its trace mark, wants a key.
-    Fetch(u8, (u16, u64)),
+    Fetch(u64, (u16, u64)),
     /// The source answers an attempt.
     Fetched(u64, Option<u32>),
     /// The consumer judges the delivery of this number.
     Verdict(u64, Option<Outcome>),
     /// Nobody wants this key any more.
-    LetGo(u8),
+    LetGo(u64),
     RetriesDue,
     End,
     /// No input: the rows are listed, and then the moment of the next retry.
@@ -38,14 +38,14 @@ enum Seen {
     /// An input was taken, and what follows is its answer.
     Taken,
     /// A key is to be asked for, under this attempt.
-    Start(u64, u8),
+    Start(u64, u64),
     /// An attempt is called off.
     Abort(u64),
     /// A value is to be handed out.
     Deliver {
         number: u64,
         response: u64,
-        key: u8,
+        key: u64,
         first: (u16, u64),
         value: u32,
     },
@@ -54,32 +54,35 @@ enum Seen {
     /// The input was refused.
     Refused(Fault),
     /// A demanded key, its first subscriber, and what is being done for it.
-    Row(u8, (u16, u64), Phase),
+    Row(u64, (u16, u64), Phase),
     /// The moment of the next retry, after the last row.
     Due(Option<u128>),
 }
 
 /// Keeps the subscribers of every key but one.
 #[derive(Drop)]
-struct AllBut(u8);
+struct AllBut(u64);
 
-impl Predicate<u8, u16> for AllBut {
+impl Predicate<u64, u16> for AllBut {
     ghost keeps = { λ q key _. not (key == q.0) };
 
-    fn keep(&self, key: &u8, _subscriber: &u16) -> bool {
+    fn keep(&self, key: &u64, _subscriber: &u16) -> bool {
         *key != self.0
     }
 
     ghost alike = { λ q k l s t same_key same_subscriber. Prim.search rules };
 }
 
-type Plain = Actor<u8, u32, u16, AllBut>;
+type Plain = Actor<u64, u32, u16, AllBut>;
 
-type PlainEvent = Event<u8, u32, u16, AllBut>;
+type PlainEvent = Event<u64, u32, u16, AllBut>;
 
-type PlainInput = Input<u8, u32, u16, AllBut>;
+type PlainInput = Input<u64, u32, u16, AllBut>;
 
-type PlainEffect = Effect<u8, u32, u16>;
+/// A key that is wanted.
+type PlainItem = FetchKey<u64, u16, ()>;
+
+type PlainEffect = Effect<u64, u32, u16>;
 
 /// What an input gives.
 type PlainAnswer = Result<Vec<PlainEffect>, Fault>;
@@ -99,7 +102,7 @@ fn run_shows(rt: &impl Abort, alloc: Global, table: &[Step]) {
 /// That this was seen.
 fn assert_seen(rt: &impl Abort, alloc: Global, table: &[Step], seen: Vec<Seen>) {
     let expected = expected_of(rt, alloc, table);
-    assert_eq!(rt; seen.as_slice(), expected.as_slice(), "of {table:?}");
+    assert_eq!(rt; seen.as_slice(), expected.as_slice());
 }
 
 fn expected_of(rt: &impl Abort, alloc: Global, table: &[Step]) -> Vec<Seen> {
@@ -182,15 +185,20 @@ fn event_of(rt: &impl Abort, alloc: Global, what: Do) -> Option<PlainEvent> {
     }
 }
 
-fn fetch(rt: &impl Abort, alloc: Global, key: u8, subscriber: (u16, u64)) -> PlainEvent {
-    let item = FetchKey {
+fn fetch(rt: &impl Abort, alloc: Global, key: u64, subscriber: (u16, u64)) -> PlainEvent {
+    let mut items = Vec::new(alloc);
+    items
+        .push(item(rt, alloc, key, subscriber))
+        .expect(rt, "memory");
+    Event::Fetch(items)
+}
+
+fn item(rt: &impl Abort, alloc: Global, key: u64, subscriber: (u16, u64)) -> PlainItem {
+    FetchKey {
         key,
         subscribers: NonEmptyVec::new(alloc, subscriber).expect(rt, "memory"),
         metadata: (),
-    };
-    let mut items = Vec::new(alloc);
-    items.push(item).expect(rt, "memory");
-    Event::Fetch(items)
+    }
 }
 
 fn at(now: u64, event: PlainEvent) -> PlainInput {
@@ -250,7 +258,7 @@ fn look(rt: &impl Abort, actor: &Plain, seen: &mut Vec<Seen>) {
         .expect(rt, "memory");
 }
 
-fn note_rows(rt: &impl Abort, rows: &[Row<u8, u16>], seen: &mut Vec<Seen>) {
+fn note_rows(rt: &impl Abort, rows: &[Row<u64, u16>], seen: &mut Vec<Seen>) {
     for row in rows {
         let seen_row = Seen::Row(row.key, *row.subscribers.first(), row.phase);
         seen.push(seen_row).expect(rt, "memory");
@@ -368,16 +376,14 @@ const WAITS: &[Seen] = &[
 ];
 
 /// Each outcome, and what it leaves of a key that no subscriber came to late.
-fn outcomes() -> [(Option<Outcome>, &'static [Seen]); 6] {
-    [
-        (COMPLETE, RETIRED),
-        (None, RETIRED),
-        (Some(Outcome::Ignored), RETIRED),
-        (Some(Outcome::Resolved(Resolution::Partial)), WAITS),
-        (Some(Outcome::Unresolved), WAITS),
-        (Some(Outcome::Invalid), WAITS),
-    ]
-}
+const OUTCOMES: &[(Option<Outcome>, &[Seen])] = &[
+    (COMPLETE, RETIRED),
+    (None, RETIRED),
+    (Some(Outcome::Ignored), RETIRED),
+    (Some(Outcome::Resolved(Resolution::Partial)), WAITS),
+    (Some(Outcome::Unresolved), WAITS),
+    (Some(Outcome::Invalid), WAITS),
+];
 
 /// What a verdict is answered with, and what it leaves of its key.
 type Verdict = (&'static [Seen], &'static [Seen]);
@@ -396,53 +402,65 @@ fn with_late_subscriber(outcome: Option<Outcome>, alone: &'static [Seen]) -> Ver
     }
 }
 
+/// That a new actor shows what the table says, and then these answers to verdicts of one outcome on its first
+/// delivery, and last what is left.
+fn shows_verdicts(
+    rt: &impl Abort,
+    alloc: Global,
+    before: &[Step<'static>],
+    outcome: Option<Outcome>,
+    answers: &[&'static [Seen]],
+    left: &'static [Seen],
+) {
+    let mut table = before.to_vec(alloc).expect(rt, "memory");
+    for answer in answers {
+        let verdict = (5, Do::Verdict(0, outcome), *answer);
+        table.push(verdict).expect(rt, "memory");
+    }
+    table.push((5, Do::Look, left)).expect(rt, "memory");
+    shows(rt, alloc, table.as_slice());
+}
+
 // The table of verdicts, with no subscriber left and with one that came late.
 #[test]
 fn every_outcome(rt: HostRuntime) {
-    for (outcome, left) in outcomes() {
-        let table: [Step; 4] = [
-            (0, Do::Fetch(1, (10, 7)), &[Seen::Start(0, 1)]),
-            (0, Do::Fetched(0, Some(0x6869)), &[HANDED_OUT]),
-            (5, Do::Verdict(0, outcome), &[]),
-            (5, Do::Look, left),
-        ];
-        shows(&rt, rt.alloc(), &table);
+    const ALONE: &[Step] = &[
+        (0, Do::Fetch(1, (10, 7)), &[Seen::Start(0, 1)]),
+        (0, Do::Fetched(0, Some(0x6869)), &[HANDED_OUT]),
+    ];
+    const JOINED: &[Step] = &[
+        (0, Do::Fetch(1, (10, 7)), &[Seen::Start(0, 1)]),
+        (0, Do::Fetched(0, Some(0x6869)), &[HANDED_OUT]),
+        (0, Do::Fetch(1, (11, 8)), &[]),
+    ];
+    for &(outcome, left) in OUTCOMES {
+        shows_verdicts(&rt, rt.alloc(), ALONE, outcome, &[&[]], left);
         let (answer, left) = with_late_subscriber(outcome, left);
-        let table: [Step; 5] = [
-            (0, Do::Fetch(1, (10, 7)), &[Seen::Start(0, 1)]),
-            (0, Do::Fetched(0, Some(0x6869)), &[HANDED_OUT]),
-            (0, Do::Fetch(1, (11, 8)), &[]),
-            (5, Do::Verdict(0, outcome), answer),
-            (5, Do::Look, left),
-        ];
-        shows(&rt, rt.alloc(), &table);
+        shows_verdicts(&rt, rt.alloc(), JOINED, outcome, &[answer], left);
     }
 }
 
 // A number whose key was dropped, or dropped and fetched again, is closed and changes nothing.
 #[test]
 fn every_outcome_canceled(rt: HostRuntime) {
-    const ASKED: Seen = Seen::Row(1, (12, 9), Phase::Asked { attempt: 1 });
-    for (outcome, _) in outcomes() {
-        let table: [Step; 6] = [
-            (0, Do::Fetch(1, (10, 7)), &[Seen::Start(0, 1)]),
-            (0, Do::Fetched(0, Some(0x6869)), &[HANDED_OUT]),
-            (0, Do::LetGo(1), &[Seen::Cancel(0)]),
-            (5, Do::Verdict(0, outcome), &[]),
-            (5, Do::Verdict(0, outcome), &[]),
-            (5, Do::Look, &[Seen::Due(None)]),
-        ];
-        shows(&rt, rt.alloc(), &table);
-        let table: [Step; 7] = [
-            (0, Do::Fetch(1, (10, 7)), &[Seen::Start(0, 1)]),
-            (0, Do::Fetched(0, Some(0x6869)), &[HANDED_OUT]),
-            (0, Do::LetGo(1), &[Seen::Cancel(0)]),
-            (0, Do::Fetch(1, (12, 9)), &[Seen::Start(1, 1)]),
-            (5, Do::Verdict(0, outcome), &[]),
-            (5, Do::Verdict(0, outcome), &[]),
-            (5, Do::Look, &[ASKED, Seen::Due(None)]),
-        ];
-        shows(&rt, rt.alloc(), &table);
+    const CANCELED: &[Step] = &[
+        (0, Do::Fetch(1, (10, 7)), &[Seen::Start(0, 1)]),
+        (0, Do::Fetched(0, Some(0x6869)), &[HANDED_OUT]),
+        (0, Do::LetGo(1), &[Seen::Cancel(0)]),
+    ];
+    const ASKED: &[Step] = &[
+        (0, Do::Fetch(1, (10, 7)), &[Seen::Start(0, 1)]),
+        (0, Do::Fetched(0, Some(0x6869)), &[HANDED_OUT]),
+        (0, Do::LetGo(1), &[Seen::Cancel(0)]),
+        (0, Do::Fetch(1, (12, 9)), &[Seen::Start(1, 1)]),
+    ];
+    const LEFT: &[Seen] = &[
+        Seen::Row(1, (12, 9), Phase::Asked { attempt: 1 }),
+        Seen::Due(None),
+    ];
+    for &(outcome, _) in OUTCOMES {
+        shows_verdicts(&rt, rt.alloc(), CANCELED, outcome, &[&[], &[]], RETIRED);
+        shows_verdicts(&rt, rt.alloc(), ASKED, outcome, &[&[], &[]], LEFT);
     }
 }
 
@@ -500,21 +518,18 @@ fn the_last_attempt_is_given_once(rt: HostRuntime) {
 }
 
 /// A fetch of these keys, each for the subscriber 10.
-fn fetch_of(rt: &impl Abort, alloc: Global, keys: &[u8]) -> PlainEvent {
+fn fetch_of(rt: &impl Abort, alloc: Global, keys: &[u64]) -> PlainEvent {
     let mut items = Vec::new(alloc);
     for key in keys {
-        let item = FetchKey {
-            key: *key,
-            subscribers: NonEmptyVec::new(alloc, (10, 7)).expect(rt, "memory"),
-            metadata: (),
-        };
-        items.push(item).expect(rt, "memory");
+        items
+            .push(item(rt, alloc, *key, (10, 7)))
+            .expect(rt, "memory");
     }
     Event::Fetch(items)
 }
 
 /// What is seen of a new actor where these keys are fetched at once.
-fn fetched_at_once(rt: &impl Abort, alloc: Global, keys: &[u8]) -> Vec<Seen> {
+fn fetched_at_once(rt: &impl Abort, alloc: Global, keys: &[u64]) -> Vec<Seen> {
     let mut actor: Plain = Actor::new(alloc, 100);
     let mut seen = Vec::new(alloc);
     let event = fetch_of(rt, alloc, keys);
@@ -550,11 +565,8 @@ fn fetches_of_each_length(rt: HostRuntime) {
         asked!(3, 0),
         Seen::Due(None),
     ];
-    for (keys, seen) in [
-        ([].as_slice(), NONE),
-        ([1].as_slice(), ONE),
-        ([3, 1, 2].as_slice(), THREE),
-    ] {
+    const TABLE: &[(&[u64], &[Seen])] = &[(&[], NONE), (&[1], ONE), (&[3, 1, 2], THREE)];
+    for &(keys, seen) in TABLE {
         let given = fetched_at_once(&rt, rt.alloc(), keys);
         assert_eq!(rt; given.as_slice(), seen, "of {keys:?}");
     }
@@ -572,24 +584,6 @@ fn runs_of_no_input_and_of_one(rt: HostRuntime) {
     run_shows(&rt, rt.alloc(), ONE);
 }
 
-/// Keeps every subscriber.
-#[derive(Drop)]
-struct Everyone;
-
-impl Predicate<u64, u16> for Everyone {
-    ghost keeps = { λ q key _. true };
-
-    fn keep(&self, _key: &u64, _subscriber: &u16) -> bool {
-        true
-    }
-
-    ghost alike = { λ q k l s t same_key same_subscriber. Prim.search rules };
-}
-
-type Crowd = Actor<u64, u32, u16, Everyone>;
-
-type CrowdEvent = Event<u64, u32, u16, Everyone>;
-
 /// What one or more inputs made of many keys: how many effects each input had, if each had as many,
 /// how many keys are demanded after them, and when one of these is due again.
 #[derive(Clone, Copy, PartialEq, Eq, Debug)]
@@ -598,14 +592,14 @@ struct Tally(Option<usize>, usize, Option<u128>);
 /// Fetches ten thousand keys and hands each out, judges the deliveries from the last on, has the
 /// keys that wait asked for again, and ends.
 fn play_crowd(rt: &impl Abort, alloc: Global) -> Vec<Tally> {
-    let mut actor: Crowd = Actor::new(alloc, 100);
+    let mut actor: Plain = Actor::new(alloc, 100);
     let mut tallies = Vec::new(alloc);
     take_crowd(rt, alloc, &mut actor, &mut tallies);
     drop(actor);
     tallies
 }
 
-fn take_crowd(rt: &impl Abort, alloc: Global, actor: &mut Crowd, tallies: &mut Vec<Tally>) {
+fn take_crowd(rt: &impl Abort, alloc: Global, actor: &mut Plain, tallies: &mut Vec<Tally>) {
     let handed_out = hand_out_each(rt, alloc, actor);
     tallies
         .push(tally_of(rt, actor, handed_out))
@@ -620,7 +614,7 @@ fn take_crowd(rt: &impl Abort, alloc: Global, actor: &mut Crowd, tallies: &mut V
 }
 
 /// Fetches each key and hands it out, and gives up at a value with another count of effects than 1.
-fn hand_out_each(rt: &impl Abort, alloc: Global, actor: &mut Crowd) -> Option<usize> {
+fn hand_out_each(rt: &impl Abort, alloc: Global, actor: &mut Plain) -> Option<usize> {
     for key in 0..10_000 {
         if hand_out_one(rt, alloc, actor, key) != 1 {
             return None;
@@ -630,15 +624,8 @@ fn hand_out_each(rt: &impl Abort, alloc: Global, actor: &mut Crowd) -> Option<us
 }
 
 /// Fetches a key, and hands it out.
-fn hand_out_one(rt: &impl Abort, alloc: Global, actor: &mut Crowd, key: u64) -> usize {
-    let item = FetchKey {
-        key,
-        subscribers: NonEmptyVec::new(alloc, (10, 7)).expect(rt, "memory"),
-        metadata: (),
-    };
-    let mut items = Vec::new(alloc);
-    items.push(item).expect(rt, "memory");
-    let _ = count(rt, actor, 0, Event::Fetch(items));
+fn hand_out_one(rt: &impl Abort, alloc: Global, actor: &mut Plain, key: u64) -> usize {
+    let _ = count(rt, actor, 0, fetch(rt, alloc, key, (10, 7)));
     let value = Event::Fetched {
         attempt: key,
         value: Some(1),
@@ -647,7 +634,7 @@ fn hand_out_one(rt: &impl Abort, alloc: Global, actor: &mut Crowd, key: u64) -> 
 }
 
 /// Judges each number from the last on, and gives up at one with an effect.
-fn judge_each(rt: &impl Abort, actor: &mut Crowd) -> Option<usize> {
+fn judge_each(rt: &impl Abort, actor: &mut Plain) -> Option<usize> {
     for number in (0..10_000).rev() {
         if judge_one(rt, actor, number) != 0 {
             return None;
@@ -657,7 +644,7 @@ fn judge_each(rt: &impl Abort, actor: &mut Crowd) -> Option<usize> {
 }
 
 /// Judges a number: an even one is complete, and the key of an odd one waits.
-fn judge_one(rt: &impl Abort, actor: &mut Crowd, number: u64) -> usize {
+fn judge_one(rt: &impl Abort, actor: &mut Plain, number: u64) -> usize {
     let outcome = if number % 2 == 0 {
         COMPLETE
     } else {
@@ -667,7 +654,7 @@ fn judge_one(rt: &impl Abort, actor: &mut Crowd, number: u64) -> usize {
 }
 
 /// Takes an input, and tallies it.
-fn take(rt: &impl Abort, actor: &mut Crowd, now: u64, event: CrowdEvent, tallies: &mut Vec<Tally>) {
+fn take(rt: &impl Abort, actor: &mut Plain, now: u64, event: PlainEvent, tallies: &mut Vec<Tally>) {
     let effects = count(rt, actor, now, event);
     tallies
         .push(tally_of(rt, actor, Some(effects)))
@@ -675,18 +662,16 @@ fn take(rt: &impl Abort, actor: &mut Crowd, now: u64, event: CrowdEvent, tallies
 }
 
 /// How many effects an input has.
-fn count(rt: &impl Abort, actor: &mut Crowd, now: u64, event: CrowdEvent) -> usize {
-    let input = Input {
-        now: u128::from(now),
-        event,
-    };
-    let effects = actor.step(input).expect(rt, "an input that is taken");
+fn count(rt: &impl Abort, actor: &mut Plain, now: u64, event: PlainEvent) -> usize {
+    let effects = actor
+        .step(at(now, event))
+        .expect(rt, "an input that is taken");
     let count = effects.len();
     drop(effects);
     count
 }
 
-fn tally_of(rt: &impl Abort, actor: &Crowd, effects: Option<usize>) -> Tally {
+fn tally_of(rt: &impl Abort, actor: &Plain, effects: Option<usize>) -> Tally {
     let rows = actor.rows().expect(rt, "memory");
     let demanded = rows.len();
     drop(rows);

@@ -1,12 +1,12 @@
-use crate::names::{All, Peer};
+use crate::cores::{Given, Plain, PlainEffect, PlainInput, input_of, make_core};
 use bytes::Bytes;
-use resolver::base::{Check, Fault, NonEmptyVec};
+use resolver::base::Fault;
 use resolver::p2p::effects::Effect;
-use resolver::p2p::fetcher::{Answer, Ask};
-use resolver::p2p::inputs::{Event, Happening, Input};
+use resolver::p2p::fetcher::Ask;
 use resolver::p2p::mocks::{Consumer, Key, Producer, Quiet};
 use resolver::p2p::rows::{Phase, Row};
-use resolver::p2p::{Config, Engine, FetchKey};
+use resolver::p2p::{Config, Engine, Metrics};
+use resolver_fakes::names::{Below, Peer};
 use std::alloc::Global;
 use std::fmt::Write;
 use std::num::NonZeroUsize;
@@ -22,15 +22,12 @@ type Silent<R> = Engine<
     u16,
     Consumer<Key, Bytes, u16>,
     Producer<Key, &'static str>,
-    All,
+    Below,
     R,
 >;
 
-/// What it takes.
-type Taken = Input<Key, Peer, u16, All>;
-
 /// What it answers.
-type Answered = Result<Vec<Effect<Key, Peer, u16>>, Fault>;
+type Answered = Result<Vec<PlainEffect>, Fault>;
 
 /// An engine that is called 9, with a timeout of 50 and a delay of 10.
 fn open<R: Abort + Copy>(rt: R, alloc: Global) -> Silent<R> {
@@ -52,61 +49,32 @@ fn open<R: Abort + Copy>(rt: R, alloc: Global) -> Silent<R> {
     engine
 }
 
-fn happens(event: Event<Key, Peer, u16, All>) -> Taken {
-    Input::Happens(Happening { now: 0, event })
-}
+/// What the row `peer_refusals` of the worked rows is given: a scan that sends its request, with answers and events
+/// that it refuses.
+const GIVEN: &[Given] = &[
+    Given::Peers(&[3, 4, 9]),
+    Given::Fetch(1, 10),
+    Given::Drawn(0),
+    Given::Drawn(2),
+    Given::Wake,
+    Given::Sent(true),
+    Given::Drawn(1),
+    Given::Clear,
+    Given::Drawn(1234),
+    Given::Sent(true),
+];
 
-/// The peers 3, 4 and 9, as the first set.
-fn peers(rt: &impl Abort, alloc: Global) -> Taken {
-    let mut peers = Vec::new(alloc);
-    for name in [3_u8, 4, 9] {
-        peers.push(Peer(name)).expect(rt, "memory");
-    }
-    happens(Event::PeerSet { index: 1, peers })
-}
-
-/// Subscriber 10 wants key 1, with the trace mark 7.
-fn fetch(rt: &impl Abort, alloc: Global) -> Taken {
-    let subscribers = NonEmptyVec::new(alloc, (10, 7)).expect(rt, "memory");
-    let item: FetchKey<Key, Peer, u16> = FetchKey {
-        key: Key(1),
-        subscribers,
-        metadata: None,
-    };
-    let mut items = Vec::new(alloc);
-    items.push(item).expect(rt, "memory");
-    happens(Event::Fetch(items))
-}
-
-fn drawn(number: u128) -> Taken {
-    Input::Answers(Answer::Drawn(number))
-}
-
-fn push(rt: &impl Abort, inputs: &mut Vec<Taken>, input: Taken) {
-    inputs.push(input).expect(rt, "memory");
-}
-
-/// The inputs of a scan that sends its request, with answers and events that it refuses.
-fn inputs(rt: &impl Abort, alloc: Global) -> Vec<Taken> {
+fn inputs(rt: &impl Abort, alloc: Global) -> Vec<PlainInput> {
     let mut inputs = Vec::new(alloc);
-    push(rt, &mut inputs, peers(rt, alloc));
-    push(rt, &mut inputs, fetch(rt, alloc));
-    push(rt, &mut inputs, drawn(0));
-    push(rt, &mut inputs, drawn(2));
-    push(rt, &mut inputs, happens(Event::PendingDue));
-    push(rt, &mut inputs, Input::Answers(Answer::Sent(true)));
-    push(rt, &mut inputs, drawn(1));
-    push(
-        rt,
-        &mut inputs,
-        Input::Answers(Answer::Checked(Check::Clear)),
-    );
-    push(rt, &mut inputs, drawn(1234));
-    push(rt, &mut inputs, Input::Answers(Answer::Sent(true)));
+    for given in GIVEN {
+        inputs
+            .push(input_of(rt, alloc, 0, *given))
+            .expect(rt, "memory");
+    }
     inputs
 }
 
-fn spell_effect(rt: &impl Abort, text: &mut String, effect: &Effect<Key, Peer, u16>) {
+fn spell_effect(rt: &impl Abort, text: &mut String, effect: &PlainEffect) {
     let written = match effect {
         Effect::Ask(Ask::Draw(below)) => write!(text, " draw {below}"),
         Effect::Ask(Ask::Check(peer)) => write!(text, " check {}", peer.0),
@@ -162,28 +130,33 @@ fn spell_rows(rt: &impl Abort, text: &mut String, rows: &[Row<Key, u16, Peer>]) 
     }
 }
 
-fn rows_of<R>(rt: &impl Abort, engine: &Silent<R>) -> Vec<Row<Key, u16, Peer>> {
-    engine.rows().expect(rt, "memory")
-}
-
 /// Writes how many keys wait, how many requests have no answer, and how many were sent.
-fn spell_counts<R>(rt: &impl Abort, text: &mut String, engine: &Silent<R>) {
-    let counted = engine.metrics();
+fn spell_counts(rt: &impl Abort, text: &mut String, counted: &Metrics) {
     let sent = counted.requests_sent.success;
     let waiting = counted.fetch_pending;
     let asked = counted.fetch_active;
     writeln!(text, "waiting {waiting} asked {asked} sent {sent}").expect(rt, "memory");
 }
 
-/// Writes the rows, both deadlines and the counts.
-fn spell_state<R>(rt: &impl Abort, text: &mut String, engine: &Silent<R>) {
-    let rows = rows_of(rt, engine);
+/// Writes the rows, when it is time to ask again and when a request's time is over, and the counts.
+fn spell_state(
+    rt: &impl Abort,
+    text: &mut String,
+    rows: Vec<Row<Key, u16, Peer>>,
+    due: (Option<u128>, Option<u128>),
+    counted: Metrics,
+) {
     spell_rows(rt, text, rows.as_slice());
     drop(rows);
-    let wake = engine.get_pending_deadline();
-    let timeout = engine.get_active_deadline();
+    let (wake, timeout) = due;
     writeln!(text, "wake {wake:?} timeout {timeout:?}").expect(rt, "memory");
-    spell_counts(rt, text, engine);
+    spell_counts(rt, text, &counted);
+}
+
+fn show<R>(rt: &impl Abort, text: &mut String, engine: &Silent<R>) {
+    let rows = engine.rows().expect(rt, "memory");
+    let due = (engine.get_pending_deadline(), engine.get_active_deadline());
+    spell_state(rt, text, rows, due, engine.metrics());
 }
 
 /// What the row `peer_refusals` of the worked rows prints, with an empty line for each input that
@@ -204,31 +177,26 @@ waiting 0 asked 1 sent 1
 ";
 
 /// Takes an input, and writes the answer.
-fn take<R>(rt: &impl Abort, text: &mut String, engine: &mut Silent<R>, input: Taken) {
+fn take<R>(rt: &impl Abort, text: &mut String, engine: &mut Silent<R>, input: PlainInput) {
     let answer = engine.step(input);
     spell_answer(rt, text, &answer);
     drop(answer);
 }
 
-fn take_all<R>(rt: &impl Abort, engine: &mut Silent<R>, inputs: Vec<Taken>) -> Vec<Answered> {
-    engine.run(inputs).expect(rt, "memory")
-}
-
 /// The inputs one by one.
 fn step_by_step<R>(rt: &impl Abort, text: &mut String, engine: &mut Silent<R>) {
-    for input in inputs(rt, *text.allocator()) {
+    for given in GIVEN {
+        let input = input_of(rt, *text.allocator(), 0, *given);
         take(rt, text, engine, input);
     }
-    spell_state(rt, text, engine);
 }
 
 /// The inputs in one run.
 fn in_one_run<R>(rt: &impl Abort, text: &mut String, engine: &mut Silent<R>) {
     let inputs = inputs(rt, *text.allocator());
-    let answers = take_all(rt, engine, inputs);
+    let answers = engine.run(inputs).expect(rt, "memory");
     spell_answers(rt, text, answers.as_slice());
     drop(answers);
-    spell_state(rt, text, engine);
 }
 
 /// What an engine writes of the inputs, which it takes in one run or one by one.
@@ -240,7 +208,28 @@ fn printed<R: Abort + Copy + Drop>(rt: R, alloc: Global, is_one_run: bool) -> St
     } else {
         step_by_step(&rt, &mut text, &mut engine);
     }
+    show(&rt, &mut text, &engine);
     drop(engine);
+    text
+}
+
+/// A core takes the inputs in one run.
+fn run_core(rt: &impl Abort, text: &mut String, core: &mut Plain) {
+    let inputs = inputs(rt, *text.allocator());
+    let answers = core.run(inputs).expect(rt, "memory");
+    spell_answers(rt, text, answers.as_slice());
+    drop(answers);
+    let rows = core.rows().expect(rt, "memory");
+    let due = (core.get_pending_deadline(), core.get_active_deadline());
+    spell_state(rt, text, rows, due, core.metrics());
+}
+
+/// What a core by itself writes of them.
+fn printed_of_core(rt: &impl Abort, alloc: Global) -> String {
+    let mut core = make_core(alloc, Some(Peer(9)));
+    let mut text = String::new(alloc);
+    run_core(rt, &mut text, &mut core);
+    drop(core);
     text
 }
 
@@ -253,5 +242,11 @@ fn peer_refusals_step_by_step(rt: HostRuntime) {
 #[test]
 fn peer_refusals_in_one_run(rt: HostRuntime) {
     let text = printed(rt, rt.alloc(), true);
+    assert_eq!(rt; text.as_str(), PRINTED);
+}
+
+#[test]
+fn peer_refusals_of_a_core(rt: HostRuntime) {
+    let text = printed_of_core(&rt, rt.alloc());
     assert_eq!(rt; text.as_str(), PRINTED);
 }

@@ -1,62 +1,13 @@
 //! What an engine counts.
 
-ghost use Rattle.std.proofs.Common.{rules};
-
-use bytes::Bytes;
-use resolver::base::{Check, NonEmptyVec};
-use resolver::ingress::{FetchKey, Predicate};
-use resolver::p2p::fetcher::{Answer, Config};
-use resolver::p2p::inputs::{Event, Happening, Input};
-use resolver::p2p::mocks::Key;
-use resolver::p2p::{Core, Durations, Metrics, Tally};
+use crate::cores::{Given, Plain, input_of, make_core};
+use resolver::p2p::{Durations, Metrics, Tally};
 use resolver::{Outcome, Resolution};
+use resolver_fakes::names::Peer;
 use std::alloc::Global;
 use std::fmt::Write;
 use std::panic::Expect;
 use std::process::Abort;
-
-/// Keeps every subscriber, or none.
-#[derive(Drop)]
-struct Keeps {
-    all: bool,
-}
-
-impl Predicate<Key, u16> for Keeps {
-    ghost keeps = { λ q key subscriber. q.all };
-
-    fn keep(&self, _key: &Key, _subscriber: &u16) -> bool {
-        self.all
-    }
-
-    ghost alike = { λ q k l s t same_key same_subscriber. Prim.search rules };
-}
-
-/// An engine of bytes.
-type Plain = Core<Key, u8, u16, Keeps>;
-
-/// What happens around it.
-type PlainEvent = Event<Key, u8, u16, Keeps>;
-
-/// What a test gives.
-#[derive(Clone, Copy, Debug)]
-enum Given {
-    /// These two peers, as the first set. They may be one.
-    Peers(u8, u8),
-    /// The subscriber wants the key.
-    Fetch(u8, u16),
-    /// All subscribers are kept, or none.
-    Retain(bool),
-    Wake,
-    TimeOut,
-    Verdict(u64, Option<Outcome>),
-    /// The producer has two bytes for this serve, or drops it.
-    Served(u64, bool),
-    /// This peer sends these bytes.
-    Net(u8, &'static [u8]),
-    Drawn(u128),
-    Clear,
-    Sent(bool),
-}
 
 const COMPLETE: Option<Outcome> = Some(Outcome::Resolved(Resolution::Complete));
 
@@ -80,8 +31,8 @@ const MISSING: &[u8] = &[0, 0, 0, 0, 0, 0, 0, 5, 2];
 const REQUEST: &[u8] = &[0, 0, 0, 0, 0, 0, 0, 7, 0, 123];
 
 /// Peer 4 is asked for key 1, which subscriber 10 wants, under the id 5.
-const ASKED: &[(u128, Given)] = &[
-    (0, Given::Peers(4, 4)),
+const ASKED: &[(u64, Given)] = &[
+    (0, Given::Peers(&[4, 4])),
     (0, Given::Fetch(1, 10)),
     (0, Given::Drawn(0)),
     (0, Given::Drawn(0)),
@@ -91,13 +42,13 @@ const ASKED: &[(u128, Given)] = &[
 ];
 
 /// Its response waits for its verdict, under the number 0.
-const JUDGED: &[(u128, Given)] = &[(20, Given::Net(4, FIVE))];
+const JUDGED: &[(u64, Given)] = &[(20, Given::Net(4, FIVE))];
 
 /// The same, and subscriber 11 came since.
-const JOINED: &[(u128, Given)] = &[(20, Given::Net(4, FIVE)), (20, Given::Fetch(1, 11))];
+const JOINED: &[(u64, Given)] = &[(20, Given::Net(4, FIVE)), (20, Given::Fetch(1, 11))];
 
 /// The key is asked for again, under the id 6, and its response comes.
-const AGAIN: &[(u128, Given)] = &[
+const AGAIN: &[(u64, Given)] = &[
     (30, Given::Wake),
     (30, Given::Drawn(0)),
     (30, Given::Drawn(0)),
@@ -167,95 +118,35 @@ const COMPLETED: Metrics = Metrics {
     ..CREDITED
 };
 
-fn peers(rt: &impl Abort, alloc: Global, first: u8, second: u8) -> PlainEvent {
-    let mut peers = Vec::new(alloc);
-    peers.push(first).expect(rt, "memory");
-    peers.push(second).expect(rt, "memory");
-    Event::PeerSet { index: 1, peers }
+/// Gives this to a core, which is not to refuse it.
+fn give(rt: &impl Abort, alloc: Global, core: &mut Plain, now: u64, given: Given) {
+    let input = input_of(rt, alloc, now, given);
+    drop(core.step(input).expect(rt, "an input that is taken"));
 }
 
-fn fetch(rt: &impl Abort, alloc: Global, key: u8, subscriber: u16) -> PlainEvent {
-    let item = FetchKey {
-        key: Key(key),
-        subscribers: NonEmptyVec::new(alloc, (subscriber, 7)).expect(rt, "memory"),
-        metadata: None,
-    };
-    let mut items = Vec::new(alloc);
-    items.push(item).expect(rt, "memory");
-    Event::Fetch(items)
-}
-
-fn served(serve: u64, is_answered: bool) -> PlainEvent {
-    let value = if is_answered {
-        Some(Bytes::from_static(&[104, 105]))
-    } else {
-        None
-    };
-    Event::Served { serve, value }
-}
-
-/// The event that is given, or the answer.
-fn event_of(rt: &impl Abort, alloc: Global, given: Given) -> Result<PlainEvent, Answer> {
-    match given {
-        Given::Peers(first, second) => Ok(peers(rt, alloc, first, second)),
-        Given::Fetch(key, subscriber) => Ok(fetch(rt, alloc, key, subscriber)),
-        Given::Retain(all) => Ok(Event::Retain(Keeps { all })),
-        Given::Wake => Ok(Event::PendingDue),
-        Given::TimeOut => Ok(Event::ActiveDue),
-        Given::Verdict(number, outcome) => Ok(Event::Verdict { number, outcome }),
-        Given::Served(serve, is_answered) => Ok(served(serve, is_answered)),
-        Given::Net(peer, bytes) => Ok(Event::Net {
-            peer,
-            bytes: Bytes::from_static(bytes),
-        }),
-        Given::Drawn(number) => Err(Answer::Drawn(number)),
-        Given::Clear => Err(Answer::Checked(Check::Clear)),
-        Given::Sent(is_accepted) => Err(Answer::Sent(is_accepted)),
-    }
-}
-
-/// Gives this to the engine, which is not to refuse it.
-fn give(rt: &impl Abort, alloc: Global, engine: &mut Plain, now: u128, given: Given) {
-    let input = match event_of(rt, alloc, given) {
-        Ok(event) => {
-            assert!(rt; now < 1_000);
-            Input::Happens(Happening { now, event })
-        }
-        Err(answer) => Input::Answers(answer),
-    };
-    drop(engine.step(input).expect(rt, "an input that is taken"));
-}
-
-fn give_all(rt: &impl Abort, alloc: Global, engine: &mut Plain, given: &[(u128, Given)]) {
+fn give_all(rt: &impl Abort, alloc: Global, core: &mut Plain, given: &[(u64, Given)]) {
     for (now, one) in given {
-        give(rt, alloc, engine, *now, *one);
+        give(rt, alloc, core, *now, *one);
     }
 }
 
-/// What a new engine counts of these, one list after another. It is called 9, with a timeout of 50
-/// and a delay of 10.
-fn counts(rt: &impl Abort, alloc: Global, lists: &[&[(u128, Given)]]) -> Metrics {
-    let config = Config {
-        me: Some(9),
-        fetch_timeout: 50,
-        retry_delay: 10,
-        priority_requests: false,
-    };
-    let mut engine: Plain = Core::new(alloc, config, false);
+/// What a new core counts of these, one list after another. It is called 9.
+fn counts(rt: &impl Abort, alloc: Global, lists: &[&[(u64, Given)]]) -> Metrics {
+    let mut core = make_core(alloc, Some(Peer(9)));
     for given in lists {
-        give_all(rt, alloc, &mut engine, given);
+        give_all(rt, alloc, &mut core, given);
     }
-    let counted = engine.metrics();
-    drop(engine);
+    let counted = core.metrics();
+    drop(core);
     counted
 }
 
-fn assert_counts(rt: &impl Abort, alloc: Global, lists: &[&[(u128, Given)]], expected: Metrics) {
+fn assert_counts(rt: &impl Abort, alloc: Global, lists: &[&[(u64, Given)]], expected: Metrics) {
     assert_eq!(rt; counts(rt, alloc, lists), expected);
 }
 
 /// The same, where `rest` follows once peer 4 was asked.
-fn assert_asked(rt: &impl Abort, alloc: Global, rest: &[(u128, Given)], expected: Metrics) {
+fn assert_asked(rt: &impl Abort, alloc: Global, rest: &[(u64, Given)], expected: Metrics) {
     assert_counts(rt, alloc, &[ASKED, rest], expected);
 }
 
@@ -267,7 +158,7 @@ fn assert_judged(rt: &impl Abort, alloc: Global, outcome: Option<Outcome>, expec
 
 /// The same, where the key was called off before.
 fn assert_called_off(rt: &impl Abort, alloc: Global, outcome: Option<Outcome>, expected: Metrics) {
-    let rest = [(20, Given::Retain(false)), (20, Given::Verdict(0, outcome))];
+    let rest = [(20, Given::Retain(0)), (20, Given::Verdict(0, outcome))];
     assert_counts(rt, alloc, &[ASKED, JUDGED, &rest], expected);
 }
 
@@ -304,7 +195,7 @@ fn a_called_off_complete_counts_no_fetch(rt: HostRuntime) {
 #[test]
 fn what_there_is_now(rt: HostRuntime) {
     let alloc = rt.alloc();
-    const WAITS: &[(u128, Given)] = &[(0, Given::Fetch(1, 10)), (0, Given::Fetch(2, 10))];
+    const WAITS: &[(u64, Given)] = &[(0, Given::Fetch(1, 10)), (0, Given::Fetch(2, 10))];
     const TWO: Metrics = Metrics {
         fetch_pending: 2,
         ..UNCOUNTED
@@ -320,7 +211,7 @@ fn what_there_is_now(rt: HostRuntime) {
         },
     );
     assert_asked(&rt, alloc, JUDGED, SENT);
-    const SERVES: &[(u128, Given)] = &[(5, Given::Net(3, REQUEST)), (6, Given::Net(3, REQUEST))];
+    const SERVES: &[(u64, Given)] = &[(5, Given::Net(3, REQUEST)), (6, Given::Net(3, REQUEST))];
     const OPEN: Metrics = Metrics {
         serve_processing: 2,
         ..UNCOUNTED
@@ -471,9 +362,9 @@ fn dropped_verdicts(rt: HostRuntime) {
         },
     );
     assert_judged_again(&rt, alloc, None, COMPLETED);
-    const FIRST: &[(u128, Given)] = &[(20, Given::Verdict(0, None))];
+    const FIRST: &[(u64, Given)] = &[(20, Given::Verdict(0, None))];
     assert_counts(&rt, alloc, &[ASKED, JOINED, FIRST], SENT);
-    const SECOND: &[(u128, Given)] = &[(30, Given::Verdict(1, None))];
+    const SECOND: &[(u64, Given)] = &[(30, Given::Verdict(1, None))];
     assert_counts(&rt, alloc, &[ASKED, JOINED, FIRST, SECOND], LOST);
 }
 
@@ -491,8 +382,8 @@ fn the_time_of_a_fetch(rt: HostRuntime) {
         },
         ..UNCOUNTED
     };
-    const FIRST: &[(u128, Given)] = &[(20, Given::Verdict(0, PARTIAL))];
-    const LAST: &[(u128, Given)] = &[(50, Given::Verdict(1, COMPLETE))];
+    const FIRST: &[(u64, Given)] = &[(20, Given::Verdict(0, PARTIAL))];
+    const LAST: &[(u64, Given)] = &[(50, Given::Verdict(1, COMPLETE))];
     const EXPECTED: Metrics = Metrics {
         fetch_duration: Durations {
             count: 1,
@@ -501,11 +392,11 @@ fn the_time_of_a_fetch(rt: HostRuntime) {
         ..TWICE
     };
     assert_counts(&rt, alloc, &[ASKED, JUDGED, FIRST, AGAIN, LAST], EXPECTED);
-    const BOTH: &[(u128, Given)] = &[
+    const BOTH: &[(u64, Given)] = &[
         (20, Given::Verdict(0, COMPLETE)),
         (20, Given::Verdict(1, PARTIAL)),
     ];
-    const THIRD: &[(u128, Given)] = &[(50, Given::Verdict(2, COMPLETE))];
+    const THIRD: &[(u64, Given)] = &[(50, Given::Verdict(2, COMPLETE))];
     const SOONER: Metrics = Metrics {
         fetch_duration: TWENTY,
         ..TWICE
@@ -517,10 +408,10 @@ fn the_time_of_a_fetch(rt: HostRuntime) {
 #[test]
 fn retains(rt: HostRuntime) {
     let alloc = rt.alloc();
-    const KEYS: &[(u128, Given)] = &[
+    const KEYS: &[(u64, Given)] = &[
         (0, Given::Fetch(1, 10)),
         (0, Given::Fetch(2, 10)),
-        (0, Given::Retain(true)),
+        (0, Given::Retain(100)),
     ];
     const KEPT: Metrics = Metrics {
         fetch_pending: 2,
@@ -528,7 +419,7 @@ fn retains(rt: HostRuntime) {
         ..UNCOUNTED
     };
     assert_counts(&rt, alloc, &[KEYS], KEPT);
-    const CALLED_OFF: &[(u128, Given)] = &[(0, Given::Retain(false))];
+    const CALLED_OFF: &[(u64, Given)] = &[(0, Given::Retain(0))];
     const BOTH: Tally = Tally {
         success: 2,
         dropped: 1,
@@ -549,8 +440,8 @@ fn retains(rt: HostRuntime) {
 #[test]
 fn serves(rt: HostRuntime) {
     let alloc = rt.alloc();
-    const OPEN: &[(u128, Given)] = &[(5, Given::Net(3, REQUEST)), (6, Given::Net(3, REQUEST))];
-    const CLOSED: &[(u128, Given)] = &[
+    const OPEN: &[(u64, Given)] = &[(5, Given::Net(3, REQUEST)), (6, Given::Net(3, REQUEST))];
+    const CLOSED: &[(u64, Given)] = &[
         (7, Given::Served(1, false)),
         (30, Given::Served(0, true)),
         (40, Given::Served(0, true)),
@@ -573,8 +464,8 @@ fn serves(rt: HostRuntime) {
 /// Both peers are asked, and neither request is accepted to be sent.
 #[test]
 fn refused_requests(rt: HostRuntime) {
-    const GIVEN: &[(u128, Given)] = &[
-        (0, Given::Peers(3, 4)),
+    const GIVEN: &[(u64, Given)] = &[
+        (0, Given::Peers(&[3, 4])),
         (0, Given::Fetch(1, 10)),
         (0, Given::Drawn(0)),
         (0, Given::Drawn(0)),

@@ -1,12 +1,12 @@
 ghost use Rattle.std.specs.Prelude.{◌≡◌, ◌<◌, true};
-ghost use Rattle.std.proofs.Common.{rules};
 
 use bytes::BytesMut;
 use resolver::Fetch;
-use resolver::base::{Faithful, Predicate, Span};
+use resolver::base::Span;
 use resolver::ingress::{FetchKey, Message};
-use resolver::mailbox::{Entry, Exact, Naming, Pages, Receiver, Sender, recorded};
+use resolver::mailbox::{Entry, Naming, Pages, Receiver, Sender, recorded};
 use resolver::p2p::mocks::Key;
+use resolver_fakes::names::Below;
 use std::alloc::Global;
 use std::marker::Brand;
 use std::panic::Expect;
@@ -25,35 +25,11 @@ fn a_key_is_read_again(rt: HostRuntime) {
     assert_eq!(rt; shown.as_str(), "Key(123)");
 }
 
-/// Keeps every subscriber.
-#[derive(Clone, Copy)]
-struct All;
-
-impl Predicate<Key, u16> for All {
-    ghost keeps = { λ _ _ _. true };
-
-    fn keep(&self, _key: &Key, _subscriber: &u16) -> bool {
-        true
-    }
-
-    ghost alike = { λ q k l s t same_key same_subscriber. Prim.search rules };
-}
-
-impl Faithful for All {
-    ghost clones = { Prim.search rules };
-}
-
-impl Exact for All {
-    fn is_same(&self, _other: &All) -> bool {
-        true
-    }
-}
-
 /// Puts a fetch of a key.
 fn put<N: Naming, R: Wait>(
     rt: &impl Abort,
     alloc: Global,
-    handle: &mut Sender<Key, u16, (), All, N, R>,
+    handle: &mut Sender<Key, u16, (), Below, N, R>,
     key: Key,
 ) {
     let item = FetchKey::from_fetch(alloc, Fetch::from(key)).expect(rt, "memory");
@@ -63,7 +39,7 @@ fn put<N: Naming, R: Wait>(
 }
 
 /// The key of the fetch that a call of a book put.
-fn key_in(entry: Option<&Entry<Key, u16, (), All>>) -> Option<Key> {
+fn key_in(entry: Option<&Entry<Key, u16, (), Below>>) -> Option<Key> {
     let Entry::Put(posted) = entry? else {
         return None;
     };
@@ -77,8 +53,8 @@ fn key_in(entry: Option<&Entry<Key, u16, (), All>>) -> Option<Key> {
 fn key_of<N: Naming, R: Wait>(
     rt: &impl Abort,
     alloc: Global,
-    handle: &Sender<Key, u16, (), All, N, R>,
-    receiver: &Receiver<Key, u16, (), All, N, R>,
+    handle: &Sender<Key, u16, (), Below, N, R>,
+    receiver: &Receiver<Key, u16, (), Below, N, R>,
 ) -> Option<Key> {
     let share = handle.share()?;
     let book = receiver.book(alloc, &[share]).expect(rt, "a book");
@@ -96,7 +72,7 @@ where
     requires puts { pages.puts.name ≡ N.puts }
     requires takes { pages.takes.name ≡ N.takes }
 {
-    let ends = recorded::<Key, u16, (), All, N, R>(rt, alloc, pages, 1);
+    let ends = recorded::<Key, u16, (), Below, N, R>(rt, alloc, pages, 1);
     let (mut handle, receiver) = ends.expect(&rt, "memory");
     put(&rt, alloc, &mut handle, key);
     let read = key_of(&rt, alloc, &handle, &receiver);

@@ -1,10 +1,9 @@
 //! Sources that close, and parts that fail: what becomes of the engine's loop.
 
-use crate::asserts::answered;
+use crate::playing::sees;
 use resolver::{Outcome, Resolution};
-use resolver_fakes::acts::{Act, play};
+use resolver_fakes::acts::Act;
 use resolver_fakes::seen::Wrong;
-use resolver_fakes::world::Setting;
 
 /// There is peer 3.
 const PEERS: Act = Act::Peers(1, &[3]);
@@ -12,12 +11,19 @@ const PEERS: Act = Act::Peers(1, &[3]);
 /// Subscriber 10 wants key 1.
 const FETCH: Act = Act::Fetch(&[(1, 10)]);
 
+/// Peer 3 answers the request for key 1.
+const RESPONSE: Act = Act::Net(3, b"\0\0\0\0\0\0\0\0\x01\x02hi");
+
+/// Peer 3 asks for key 5.
+const REQUEST: Act = Act::Net(3, b"\0\0\0\0\0\0\0\x07\0\x05");
+
 #[test]
 fn the_peer_set_source_closes(rt: HostRuntime) {
     const ACTS: &[Act] = &[PEERS, FETCH, Act::ClosePeers];
-    let text = answered(&rt, play(rt, Setting::with(Wrong::Nothing), ACTS));
-    assert_eq!(rt;
-        text.as_str(),
+    sees(
+        rt,
+        Wrong::Nothing,
+        ACTS,
         "-
 draw 4
 draw 1
@@ -27,7 +33,7 @@ send 3 x00000000000000000001
 -
 complete
 Closed
-"
+",
     );
 }
 
@@ -41,9 +47,10 @@ fn the_blocked_source_closes(rt: HostRuntime) {
         Act::Fetch(&[(1, 10)]),
         Act::Net(4, b"\0\0\0\0\0\0\0\0\x01\x02hi"),
     ];
-    let text = answered(&rt, play(rt, Setting::with(Wrong::Nothing), ACTS));
-    assert_eq!(rt;
-        text.as_str(),
+    sees(
+        rt,
+        Wrong::Nothing,
+        ACTS,
         "-
 -
 -
@@ -56,16 +63,17 @@ send 4 x00000000000000000001
 deliver 1 to 10 x6869
 -
 Ok
-"
+",
     );
 }
 
 #[test]
 fn the_receiver_closes(rt: HostRuntime) {
     const ACTS: &[Act] = &[PEERS, FETCH, Act::CloseNetwork];
-    let text = answered(&rt, play(rt, Setting::with(Wrong::Nothing), ACTS));
-    assert_eq!(rt;
-        text.as_str(),
+    sees(
+        rt,
+        Wrong::Nothing,
+        ACTS,
         "-
 draw 4
 draw 1
@@ -75,7 +83,7 @@ send 3 x00000000000000000001
 -
 complete
 Closed
-"
+",
     );
 }
 
@@ -83,9 +91,10 @@ Closed
 #[test]
 fn the_mailbox_is_closed_and_nothing_waits(rt: HostRuntime) {
     const ACTS: &[Act] = &[Act::Peers(1, &[3]), Act::LastFetch(&[(1, 10)])];
-    let text = answered(&rt, play(rt, Setting::with(Wrong::Nothing), ACTS));
-    assert_eq!(rt;
-        text.as_str(),
+    sees(
+        rt,
+        Wrong::Nothing,
+        ACTS,
         "-
 draw 4
 draw 1
@@ -94,23 +103,17 @@ draw 18446744073709551616
 send 3 x00000000000000000001
 complete
 Closed
-"
+",
     );
 }
 
 #[test]
 fn the_consumer_answers_1(rt: HostRuntime) {
-    let response = Act::Net(3, b"\0\0\0\0\0\0\0\0\x01\x02hi");
-    let text = answered(
-        &rt,
-        play(
-            rt,
-            Setting::with(Wrong::Consumer),
-            &[PEERS, FETCH, response],
-        ),
-    );
-    assert_eq!(rt;
-        text.as_str(),
+    const ACTS: &[Act] = &[PEERS, FETCH, RESPONSE];
+    sees(
+        rt,
+        Wrong::Consumer,
+        ACTS,
         "-
 draw 4
 draw 1
@@ -120,30 +123,27 @@ send 3 x00000000000000000001
 -
 OutOfMemory
 Closed
-"
+",
     );
 }
 
 #[test]
 fn the_producer_answers_1(rt: HostRuntime) {
-    const REQUEST: Act = Act::Net(3, b"\0\0\0\0\0\0\0\x07\0\x05");
-    let text = answered(
-        &rt,
-        play(rt, Setting::with(Wrong::Producer), &[PEERS, REQUEST]),
-    );
-    assert_eq!(rt;
-        text.as_str(),
+    const ACTS: &[Act] = &[PEERS, REQUEST];
+    sees(
+        rt,
+        Wrong::Producer,
+        ACTS,
         "-
 OutOfMemory
 Closed
-"
+",
     );
 }
 
 /// It isn't sent again; the next request under the same id has a reply of its own, and the loop goes on.
 #[test]
 fn the_send_of_a_reply_is_refused(rt: HostRuntime) {
-    const REQUEST: Act = Act::Net(3, b"\0\0\0\0\0\0\0\x07\0\x05");
     const ACTS: &[Act] = &[
         PEERS,
         REQUEST,
@@ -152,13 +152,14 @@ fn the_send_of_a_reply_is_refused(rt: HostRuntime) {
         REQUEST,
         Act::Serve(b"no"),
         FETCH,
-        Act::Net(3, b"\0\0\0\0\0\0\0\0\x01\x02hi"),
+        RESPONSE,
         Act::Judge(Outcome::Resolved(Resolution::Complete)),
     ];
     let refused = Wrong::Sends { first: 1, count: 1 };
-    let text = answered(&rt, play(rt, Setting::with(refused), ACTS));
-    assert_eq!(rt;
-        text.as_str(),
+    sees(
+        rt,
+        refused,
+        ACTS,
         "-
 produce 5
 -
@@ -179,6 +180,6 @@ deliver 1 to 10 x6869
 -
 -
 Ok
-"
+",
     );
 }

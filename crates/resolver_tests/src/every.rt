@@ -1,15 +1,14 @@
 //! Each input and each effect of the peer machine, once.
 
-use crate::asserts::answered;
+use crate::playing::sees;
 use resolver::{Outcome, Resolution};
-use resolver_fakes::acts::{Act, play};
+use resolver_fakes::acts::Act;
 use resolver_fakes::seen::Wrong;
-use resolver_fakes::world::Setting;
 
 const COMPLETE: Act<'static> = Act::Judge(Outcome::Resolved(Resolution::Complete));
 
 /// Every input of the peer machine is ready once, one after another.
-const EVERY: [Act<'static>; 17] = [
+const EVERY: &[Act] = &[
     Act::Peers(1, &[3, 4, 9]),
     Act::Fetch(&[(1, 10)]),
     Act::At(20),
@@ -72,8 +71,7 @@ Closed
 
 #[test]
 fn every_input_every_effect(rt: HostRuntime) {
-    let text = answered(&rt, play(rt, Setting::with(Wrong::Nothing), &EVERY));
-    assert_eq!(rt; text.as_str(), SEEN);
+    sees(rt, Wrong::Nothing, EVERY, SEEN);
 }
 
 /// A subscriber joins while a response is being judged.
@@ -87,9 +85,10 @@ fn a_late_subscriber_gets_the_same_response(rt: HostRuntime) {
         COMPLETE,
         COMPLETE,
     ];
-    let text = answered(&rt, play(rt, Setting::with(Wrong::Nothing), ACTS));
-    assert_eq!(rt;
-        text.as_str(),
+    sees(
+        rt,
+        Wrong::Nothing,
+        ACTS,
         "-
 draw 4
 draw 2
@@ -104,6 +103,6 @@ deliver 1 to 11 x6869
 -
 -
 Ok
-"
+",
     );
 }

@@ -1,9 +1,8 @@
 //! Consumers that drop what they were handed, and peers that leave before they are answered.
 
-use crate::asserts::answered;
-use resolver_fakes::acts::{Act, play};
+use crate::playing::sees;
+use resolver_fakes::acts::Act;
 use resolver_fakes::seen::Wrong;
-use resolver_fakes::world::Setting;
 
 /// Each delivery's verdict is that it was dropped: its subscribers are retired, and the key with them, so a later
 /// subscriber has it asked for anew.
@@ -16,9 +15,10 @@ fn a_consumer_drops_every_one_shot(rt: HostRuntime) {
         Act::Fetch(&[(1, 12)]),
         Act::Net(3, b"\0\0\0\0\0\0\0\x01\x01\x02ok"),
     ];
-    let text = answered(&rt, play(rt, Setting::with(Wrong::Drops), ACTS));
-    assert_eq!(rt;
-        text.as_str(),
+    sees(
+        rt,
+        Wrong::Drops,
+        ACTS,
         "-
 draw 4
 draw 1
@@ -36,7 +36,7 @@ send 3 x00000000000000010001
 deliver 1 to 12 x6f6b
 -
 Ok
-"
+",
     );
 }
 
@@ -53,9 +53,10 @@ fn a_late_subscriber_outlives_a_dropped_delivery(rt: HostRuntime) {
         Act::Drop,
         Act::Fetch(&[(1, 10)]),
     ];
-    let text = answered(&rt, play(rt, Setting::with(Wrong::Nothing), ACTS));
-    assert_eq!(rt;
-        text.as_str(),
+    sees(
+        rt,
+        Wrong::Nothing,
+        ACTS,
         "-
 draw 4
 draw 1
@@ -75,7 +76,7 @@ check 3
 send 3 x00000000000000010001
 -
 Ok
-"
+",
     );
 }
 
@@ -88,9 +89,10 @@ fn a_producer_answers_after_its_peer_left_the_set(rt: HostRuntime) {
         Act::Peers(2, &[4]),
         Act::Serve(b"ok"),
     ];
-    let text = answered(&rt, play(rt, Setting::with(Wrong::Nothing), ACTS));
-    assert_eq!(rt;
-        text.as_str(),
+    sees(
+        rt,
+        Wrong::Nothing,
+        ACTS,
         "-
 produce 5
 -
@@ -98,6 +100,6 @@ produce 5
 send 3 x000000000000000701026f6b
 -
 Ok
-"
+",
     );
 }

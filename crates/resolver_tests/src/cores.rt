@@ -1,0 +1,114 @@
+//! An engine's core by itself, and what tests give it.
+
+use bytes::Bytes;
+use resolver::Outcome;
+use resolver::base::{Check, NonEmptyVec};
+use resolver::ingress::FetchKey;
+use resolver::p2p::Core;
+use resolver::p2p::effects::Effect;
+use resolver::p2p::fetcher::{Answer, Config};
+use resolver::p2p::inputs::{Event, Happening, Input};
+use resolver::p2p::mocks::Key;
+use resolver_fakes::names::{Below, Peer};
+use resolver_fakes::world::peers;
+use std::alloc::Global;
+use std::panic::Expect;
+use std::process::Abort;
+
+/// A core at the names of the fakes.
+pub type Plain = Core<Key, Peer, u16, Below>;
+
+/// What it takes.
+pub type PlainInput = Input<Key, Peer, u16, Below>;
+
+/// What happens around it.
+type PlainEvent = Event<Key, Peer, u16, Below>;
+
+/// What it tells.
+pub type PlainEffect = Effect<Key, Peer, u16>;
+
+/// What a test gives.
+#[derive(Clone, Copy)]
+pub enum Given {
+    /// These peers, as the first set.
+    Peers(&'static [u8]),
+    /// The subscriber wants the key, with the trace mark 7.
+    Fetch(u8, u16),
+    /// The subscribers below this one are kept.
+    Retain(u16),
+    Wake,
+    TimeOut,
+    Verdict(u64, Option<Outcome>),
+    /// The producer has two bytes for this serve, or drops it.
+    Served(u64, bool),
+    /// This peer sends these bytes.
+    Net(u8, &'static [u8]),
+    Drawn(u128),
+    Clear,
+    Sent(bool),
+}
+
+/// A core with a timeout of 50 and a delay of 10, as a call that promises nothing.
+pub fn make_core(alloc: Global, me: Option<Peer>) -> Plain {
+    let configuration = Config {
+        me,
+        fetch_timeout: 50,
+        retry_delay: 10,
+        priority_requests: false,
+    };
+    Core::new(alloc, configuration, false)
+}
+
+fn fetch(rt: &impl Abort, alloc: Global, key: u8, subscriber: u16) -> PlainEvent {
+    let item = FetchKey {
+        key: Key(key),
+        subscribers: NonEmptyVec::new(alloc, (subscriber, 7)).expect(rt, "memory"),
+        metadata: None,
+    };
+    let mut items = Vec::new(alloc);
+    items.push(item).expect(rt, "memory");
+    Event::Fetch(items)
+}
+
+fn served(serve: u64, is_answered: bool) -> PlainEvent {
+    let value = if is_answered {
+        Some(Bytes::from_static(&[104, 105]))
+    } else {
+        None
+    };
+    Event::Served { serve, value }
+}
+
+/// The event that is given, or the answer.
+fn event_of(rt: &impl Abort, alloc: Global, given: Given) -> Result<PlainEvent, Answer> {
+    match given {
+        Given::Peers(names) => Ok(Event::PeerSet {
+            index: 1,
+            peers: peers(alloc, names).expect(rt, "memory"),
+        }),
+        Given::Fetch(key, subscriber) => Ok(fetch(rt, alloc, key, subscriber)),
+        Given::Retain(below) => Ok(Event::Retain(Below(below))),
+        Given::Wake => Ok(Event::PendingDue),
+        Given::TimeOut => Ok(Event::ActiveDue),
+        Given::Verdict(number, outcome) => Ok(Event::Verdict { number, outcome }),
+        Given::Served(serve, is_answered) => Ok(served(serve, is_answered)),
+        Given::Net(peer, bytes) => Ok(Event::Net {
+            peer: Peer(peer),
+            bytes: Bytes::from_static(bytes),
+        }),
+        Given::Drawn(number) => Err(Answer::Drawn(number)),
+        Given::Clear => Err(Answer::Checked(Check::Clear)),
+        Given::Sent(is_accepted) => Err(Answer::Sent(is_accepted)),
+    }
+}
+
+/// What a core takes where this is given at this moment.
+pub fn input_of(rt: &impl Abort, alloc: Global, now: u64, given: Given) -> PlainInput {
+    match event_of(rt, alloc, given) {
+        Ok(event) => Input::Happens(Happening {
+            now: now as u128,
+            event,
+        }),
+        Err(answer) => Input::Answers(answer),
+    }
+}

@@ -1,0 +1,274 @@
+//! An actor's loop in memory over an opaque source, and what its test holds of it.
+
+use bytes::Bytes;
+use futures::Future;
+use futures::channel::{mpsc, oneshot};
+use futures::task::{Context, Poll};
+use futures::test::MockTask;
+use resolver::base::Feedback;
+use resolver::mailbox::Unrecorded;
+use resolver::opaque::{Fetcher, Loop, init, open};
+use resolver::p2p::mocks::Key;
+use resolver::{Ending, Handle, Outcome, Resolution, Resolver, opaque};
+use resolver_fakes::acts::wanted;
+use resolver_fakes::lent::Judge;
+use resolver_fakes::names::{Below, Peer};
+use resolver_fakes::seen::{Seen, Wrong};
+use resolver_fakes::watch::{Standing, Telling, Watch};
+use resolver_fakes::world::{Polled, judge};
+use std::alloc::{AllocGlobal, Global};
+use std::fmt::Write;
+use std::num::NonZeroUsize;
+use std::panic::Expect;
+use std::process::Abort;
+use std::random::RandomSource;
+use std::sync::{Arc, Wait};
+use std::thread::Threads;
+
+/// A look that a test answers.
+pub struct Look {
+    value: Option<oneshot::Receiver<Option<Bytes>>>,
+}
+
+impl Drop for Look {
+    fn drop(self) {
+        let Self { value: _ } = self;
+    }
+}
+
+impl Future for Look {
+    type Output = Option<Bytes>;
+
+    fn poll(&mut self, cx: &mut Context<'_>) -> Poll<Option<Bytes>> {
+        match &mut self.value {
+            Some(receiver) => match receiver.poll(cx) {
+                Poll::Ready(Ok(value)) => Poll::Ready(value),
+                Poll::Ready(Err(_)) => Poll::Ready(None),
+                Poll::Pending => Poll::Pending,
+            },
+            None => Poll::Ready(None),
+        }
+    }
+}
+
+/// A source that hands each look to its test.
+pub struct Source {
+    alloc: Global,
+    looks: mpsc::UnboundedSender<(Key, oneshot::Sender<Option<Bytes>>)>,
+}
+
+impl Drop for Source {
+    fn drop(self) {
+        let Self { alloc: _, looks: _ } = self;
+    }
+}
+
+impl Fetcher for Source {
+    type Key = Key;
+
+    type Value = Bytes;
+
+    type Future = Look;
+
+    fn fetch(&self, key: Key) -> Look {
+        let Ok((sender, receiver)) = oneshot::channel(self.alloc) else {
+            return Look { value: None };
+        };
+        let _ = self.looks.unbounded_send((key, sender));
+        Look {
+            value: Some(receiver),
+        }
+    }
+
+    ghost pollable = { λ look. tt };
+}
+
+/// The loop of an actor over a source.
+pub struct Looped<R> {
+    looped: Loop<Key, Bytes, u16, Below, R, Telling, Source, Judge>,
+}
+
+impl<R: Drop> Drop for Looped<R> {
+    fn drop(self) {
+        let Self { looped: _ } = self;
+    }
+}
+
+impl<R: Wait + Copy + Drop> Polled for Looped<R> {
+    fn poll_once(&mut self, task: &MockTask) -> Poll<Ending> {
+        task.poll(&mut self.looped)
+    }
+}
+
+/// A handle of its mailbox.
+pub type Asked<R> = opaque::Resolver<Key, u16, Peer, Below, Unrecorded, R>;
+
+/// Where a look is answered.
+pub type Looked = oneshot::Sender<Option<Bytes>>;
+
+/// What a test holds of what an actor is lent.
+pub struct Held {
+    pub looks: mpsc::UnboundedReceiver<(Key, Looked)>,
+    pub verdicts: mpsc::UnboundedReceiver<oneshot::Sender<Outcome>>,
+    pub told: mpsc::UnboundedReceiver<Seen>,
+    pub moments: mpsc::UnboundedReceiver<u128>,
+    pub watch: Arc<Watch>,
+}
+
+impl Drop for Held {
+    fn drop(self) {
+        let Self {
+            looks: _,
+            verdicts: _,
+            told: _,
+            moments: _,
+            watch: _,
+        } = self;
+    }
+}
+
+/// What an actor is lent.
+#[derive(Drop)]
+struct Lent {
+    clock: Telling,
+    source: Source,
+    consumer: Judge,
+}
+
+/// A handle of the mailbox, and what a test holds besides.
+pub struct Ends<A> {
+    pub resolver: A,
+    pub held: Held,
+}
+
+impl<A: Drop> Drop for Ends<A> {
+    fn drop(self) {
+        let Self {
+            resolver: _,
+            held: _,
+        } = self;
+    }
+}
+
+/// A clock that stands at 0, with the moments that it is to wait for, and the watch that puts it forward.
+fn make_clock(
+    rt: &impl Abort,
+    alloc: Global,
+) -> (mpsc::UnboundedReceiver<u128>, Arc<Watch>, Telling) {
+    let (asked, moments) = mpsc::unbounded(alloc).expect(rt, "memory");
+    let (watch, other) = Watch::shared(alloc).expect(rt, "memory");
+    let clock = Telling {
+        clock: Standing { watch: other },
+        moments: asked,
+    };
+    (moments, watch, clock)
+}
+
+/// A source, and where it hands each look to its test.
+fn make_source(rt: &impl Abort, alloc: Global) -> (mpsc::UnboundedReceiver<(Key, Looked)>, Source) {
+    let (sender, looks) = mpsc::unbounded(alloc).expect(rt, "memory");
+    let source = Source {
+        alloc,
+        looks: sender,
+    };
+    (looks, source)
+}
+
+/// What an actor is lent, and the ends of it that its test holds.
+fn lend(rt: &impl Abort, alloc: Global, wrong: Wrong) -> (Held, Lent) {
+    let (moments, watch, clock) = make_clock(rt, alloc);
+    let (looks, source) = make_source(rt, alloc);
+    let (teller, told) = mpsc::unbounded(alloc).expect(rt, "memory");
+    let (verdicts, consumer) = judge(alloc, &teller, wrong).expect(rt, "memory");
+    drop(teller);
+    let held = Held {
+        looks,
+        verdicts,
+        told,
+        moments,
+        watch,
+    };
+    let lent = Lent {
+        clock,
+        source,
+        consumer,
+    };
+    (held, lent)
+}
+
+/// An actor over a source, with a delay of 100.
+pub fn opened<R: Abort + Copy>(rt: R, alloc: Global, wrong: Wrong) -> (Ends<Asked<R>>, Looped<R>) {
+    let (held, lent) = lend(&rt, alloc, wrong);
+    let Lent {
+        clock,
+        source,
+        consumer,
+    } = lent;
+    let opened = open(rt, alloc, clock, source, consumer, NonZeroUsize::MIN, 100);
+    let (resolver, looped) = opened.expect(&rt, "an actor");
+    (Ends { resolver, held }, Looped { looped })
+}
+
+/// The same in a thread.
+pub fn run<R>(rt: R, alloc: Global) -> (Ends<Asked<R>>, Handle)
+where
+    R: Abort + Threads + Wait + RandomSource + AllocGlobal + Copy + Drop + Send + 'static,
+{
+    let (held, lent) = lend(&rt, alloc, Wrong::Nothing);
+    let Lent {
+        clock,
+        source,
+        consumer,
+    } = lent;
+    let begun = init(rt, alloc, clock, source, consumer, NonZeroUsize::MIN, 100);
+    let (resolver, handle) = begun.expect(&rt, "an actor");
+    (Ends { resolver, held }, handle)
+}
+
+/// A handle of an actor's mailbox, as a test asks by it.
+pub trait Asking {
+    /// The subscriber wants key 1.
+    fn want(&mut self, rt: &impl Abort, subscriber: u16) -> Feedback;
+
+    /// The subscribers from this one on are let go.
+    fn let_go_from(&mut self, rt: &impl Abort, subscriber: u16);
+
+    fn end(&mut self);
+}
+
+impl<R: Wait + Copy + Send + 'static> Asking for Asked<R> {
+    fn want(&mut self, rt: &impl Abort, subscriber: u16) -> Feedback {
+        self.fetch(wanted(1, subscriber)).expect(rt, "memory")
+    }
+
+    fn let_go_from(&mut self, rt: &impl Abort, subscriber: u16) {
+        self.retain(Below(subscriber)).expect(rt, "memory");
+    }
+
+    fn end(&mut self) {
+        self.close();
+    }
+}
+
+impl Held {
+    /// The look that has begun, which is written.
+    pub fn look(&mut self, rt: &impl Abort, text: &mut String) -> Option<Looked> {
+        let (key, look) = self.looks.try_recv().ok()?;
+        writeln!(text, "look {}", key.0).expect(rt, "memory");
+        Some(look)
+    }
+
+    /// Answers the look that has begun.
+    pub fn answer(&mut self, rt: &impl Abort, text: &mut String, value: Option<Bytes>) {
+        if let Some(look) = self.look(rt, text) {
+            let _ = look.send(value);
+        }
+    }
+
+    /// The consumer says that what was delivered last is what was wanted.
+    pub fn complete(&mut self) {
+        if let Ok(verdict) = self.verdicts.try_recv() {
+            let _ = verdict.send(Outcome::Resolved(Resolution::Complete));
+        }
+    }
+}

@@ -1,0 +1,263 @@
+use crate::opaque_lent::{Asking, Held, run};
+use bytes::Bytes;
+use futures::StreamExt;
+use futures::channel::{mpsc, oneshot};
+use futures::executor::block_on;
+use resolver::base::Fault;
+use resolver::{Outcome, Resolution};
+use resolver_fakes::acts::{Act, Asks};
+use resolver_fakes::seen::{Seen, Wrong};
+use resolver_fakes::world::{Setting, World, make_world, start};
+use std::alloc::AllocGlobal;
+use std::fmt::Write;
+use std::panic::Expect;
+use std::process::Abort;
+use std::random::RandomSource;
+use std::sync::Wait;
+use std::thread;
+use std::thread::Threads;
+use std::time::{Clock, Duration};
+
+/// Waits until the fakes were asked so many things, and writes them.
+fn wait<R: Abort + Wait + RandomSource + AllocGlobal>(
+    rt: &R,
+    text: &mut String,
+    told: &mut mpsc::UnboundedReceiver<Seen>,
+    count: u32,
+) {
+    for _ in 0..count {
+        if let Some(seen) = block_on(rt, told.next()).expect(rt, "a wait") {
+            writeln!(text, "{seen}").expect(rt, "memory");
+        }
+    }
+}
+
+/// Looks at most 10,000 times, with a pause of a millisecond, whether the fakes were asked so many things, and
+/// writes them. Says whether they were.
+fn look<R: Abort + Clock>(
+    rt: &R,
+    text: &mut String,
+    told: &mut mpsc::UnboundedReceiver<Seen>,
+    count: u32,
+) -> bool {
+    let mut left = count;
+    for _ in 0..10_000_u32 {
+        if left == 0 {
+            return true;
+        }
+        match told.try_recv() {
+            Ok(seen) => {
+                writeln!(text, "{seen}").expect(rt, "memory");
+                left -= 1;
+            }
+            Err(_) => thread::sleep(rt, Duration::from_millis(1)),
+        }
+    }
+    false
+}
+
+/// The next delivery is what was wanted.
+fn complete<R>(rt: &R, verdicts: &mut mpsc::UnboundedReceiver<oneshot::Sender<Outcome>>)
+where
+    R: Abort + Wait + RandomSource + AllocGlobal,
+{
+    if let Some(verdict) = block_on(rt, verdicts.next()).expect(rt, "a wait") {
+        let _ = verdict.send(Outcome::Resolved(Resolution::Complete));
+    }
+}
+
+/// The producer has these bytes for the next request.
+fn serve<R>(
+    rt: &R,
+    serves: &mut mpsc::UnboundedReceiver<oneshot::Sender<Bytes>>,
+    value: &'static [u8],
+)
+where
+    R: Abort + Wait + RandomSource + AllocGlobal,
+{
+    if let Some(serve) = block_on(rt, serves.next()).expect(rt, "a wait") {
+        let _ = serve.send(Bytes::from_static(value));
+    }
+}
+
+fn act<M: Asks>(rt: &impl Abort, world: &mut World<M>, act: Act<'_>) {
+    world.act(act).expect(rt, "memory");
+}
+
+/// Of two peers the second is asked for a key, and answers; the first asks for another, and is
+/// answered.
+fn exchange<R, M>(rt: &R, text: &mut String, world: &mut World<M>)
+where
+    R: Abort + Wait + RandomSource + AllocGlobal,
+    M: Asks,
+{
+    act(rt, world, Act::Peers(1, &[3, 4]));
+    act(rt, world, Act::FetchFrom(&[(1, 4)]));
+    wait(rt, text, &mut world.held.told, 5);
+    act(rt, world, Act::Net(4, b"\0\0\0\0\0\0\0\0\x01\x02hi"));
+    wait(rt, text, &mut world.held.told, 1);
+    complete(rt, &mut world.held.verdicts);
+    act(rt, world, Act::Net(3, b"\0\0\0\0\0\0\0\x07\0\x05"));
+    wait(rt, text, &mut world.held.told, 1);
+    serve(rt, &mut world.held.serves, b"ok");
+    wait(rt, text, &mut world.held.told, 1);
+}
+
+/// Sends the bytes of the first serve, if there is one, and says whether anybody waited for them.
+fn release(serves: &mut mpsc::UnboundedReceiver<oneshot::Sender<Bytes>>) -> bool {
+    match serves.try_recv() {
+        Ok(serve) => {
+            let is_owed = !serve.is_canceled();
+            let _ = serve.send(Bytes::from_static(b"ok"));
+            is_owed
+        }
+        Err(_) => false,
+    }
+}
+
+/// A key is fetched, asked for and delivered while a serve is held back. Only then the serve is answered, and the
+/// reply looked for.
+fn hold_back<R, M>(rt: &R, text: &mut String, world: &mut World<M>)
+where
+    R: Abort + Clock,
+    M: Asks,
+{
+    act(rt, world, Act::Peers(1, &[3]));
+    act(rt, world, Act::Net(3, b"\0\0\0\0\0\0\0\x07\0\x05"));
+    look(rt, text, &mut world.held.told, 1);
+    act(rt, world, Act::Fetch(&[(1, 10)]));
+    if look(rt, text, &mut world.held.told, 5) {
+        act(rt, world, Act::Net(3, b"\0\0\0\0\0\0\0\0\x01\x02hi"));
+        look(rt, text, &mut world.held.told, 1);
+    }
+    let is_owed = release(&mut world.held.serves);
+    writeln!(text, "owed {is_owed}").expect(rt, "memory");
+    look(rt, text, &mut world.held.told, 1);
+}
+
+/// What is done to an engine in a thread.
+#[derive(Clone, Copy)]
+enum Course {
+    Exchange,
+    HoldBack,
+}
+
+fn go<R, M>(rt: &R, text: &mut String, world: &mut World<M>, course: Course)
+where
+    R: Abort + Clock + Wait + RandomSource + AllocGlobal,
+    M: Asks,
+{
+    match course {
+        Course::Exchange => exchange(rt, text, world),
+        Course::HoldBack => hold_back(rt, text, world),
+    }
+    act(rt, world, Act::CloseMailbox);
+}
+
+/// Does this to an engine in a thread, with a world of its own. Gives what was written, and how the engine ended.
+fn play<R>(rt: R, course: Course) -> (String, Result<(), Fault>)
+where
+    R: Abort + Clock + Threads + Wait + RandomSource + AllocGlobal + Copy + Drop + Send + 'static,
+{
+    let mut text = String::new(rt.alloc());
+    let made = make_world(rt, rt.alloc(), Setting::with(Wrong::Nothing));
+    let (mut world, engine, lent) = made.expect(&rt, "a world");
+    let handle = start(engine, lent).expect(&rt, "a thread");
+    go(&rt, &mut text, &mut world, course);
+    let ended = handle.join(&rt);
+    drop(world);
+    (text, ended)
+}
+
+#[test]
+fn an_engine_in_a_thread_fetches_and_serves(rt: HostRuntime) {
+    let (text, ended) = play(rt, Course::Exchange);
+    assert_eq!(rt; ended, Ok(()));
+    assert_eq!(rt;
+        text.as_str(),
+        "draw 4
+draw 1
+check 4
+draw 18446744073709551616
+send 4 x00000000000000000001
+deliver 1 to 10 x6869
+produce 5
+send 3 x000000000000000701026f6b
+"
+    );
+}
+
+/// A serve that is held back holds no fetch back.
+#[test]
+fn serve_waits_for_fetch(rt: HostRuntime) {
+    let (text, ended) = play(rt, Course::HoldBack);
+    assert_eq!(rt; ended, Ok(()));
+    assert_eq!(rt;
+        text.as_str(),
+        "produce 5
+draw 4
+draw 1
+check 3
+draw 18446744073709551616
+send 3 x00000000000000000001
+deliver 1 to 10 x6869
+owed true
+send 3 x000000000000000701026f6b
+"
+    );
+}
+
+/// The next look is answered so.
+fn answer<R>(rt: &R, text: &mut String, held: &mut Held, value: Option<Bytes>)
+where
+    R: Abort + Wait + RandomSource + AllocGlobal,
+{
+    if let Some((key, look)) = block_on(rt, held.looks.next()).expect(rt, "a wait") {
+        writeln!(text, "look {}", key.0).expect(rt, "memory");
+        let _ = look.send(value);
+    }
+}
+
+/// The source has nothing at first, and a value once the clock has come to the moment that it is
+/// to wait for.
+fn retry<R>(rt: &R, text: &mut String, held: &mut Held)
+where
+    R: Abort + Wait + RandomSource + AllocGlobal,
+{
+    answer(rt, text, held, None);
+    if let Some(moment) = block_on(rt, held.moments.next()).expect(rt, "a wait") {
+        writeln!(text, "wait {moment}").expect(rt, "memory");
+    }
+    held.watch.put(100);
+    answer(rt, text, held, Some(Bytes::from_static(b"hi")));
+    wait(rt, text, &mut held.told, 1);
+}
+
+/// The same of an actor in a thread that is asked for key 1. Gives what was written, and how the actor ended.
+fn retry_in_thread<R>(rt: R) -> (String, Result<(), Fault>)
+where
+    R: Abort + Threads + Wait + RandomSource + AllocGlobal + Copy + Drop + Send + 'static,
+{
+    let mut text = String::new(rt.alloc());
+    let (mut ends, handle) = run(rt, rt.alloc());
+    ends.resolver.want(&rt, 10);
+    retry(&rt, &mut text, &mut ends.held);
+    ends.resolver.end();
+    let ended = handle.join(&rt);
+    drop(ends);
+    (text, ended)
+}
+
+#[test]
+fn an_actor_in_a_thread_asks_again_after_the_delay(rt: HostRuntime) {
+    let (text, ended) = retry_in_thread(rt);
+    assert_eq!(rt; ended, Ok(()));
+    assert_eq!(rt;
+        text.as_str(),
+        "look 1
+wait 100
+look 1
+deliver 1 to 10 x6869
+"
+    );
+}
