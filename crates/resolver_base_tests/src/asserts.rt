@@ -1,5 +1,5 @@
 //! Assertions as functions, so that a test that makes many isn't gone over, as it is proved, for what each of
-//! them would print.
+//! them would print, and a clone that is made by the trait.
 
 ghost use Rattle.std.specs.Prelude.{IsTrue};
 
@@ -28,4 +28,14 @@ pub fn holds(rt: &impl Abort, condition: bool)
     ensures { IsTrue condition }
 {
     assert!(rt; condition);
+}
+
+/// Ends the test where what is found at a place isn't what is wanted there.
+pub fn equal_at<T: PartialEq + Debug>(rt: &impl Abort, at: &impl Debug, found: &T, wanted: &T) {
+    assert_eq!(rt; found, wanted, "at {at:?}");
+}
+
+/// A clone. The test ends where memory is wanting.
+pub fn copied<T: Clone>(rt: &impl Abort, value: &T) -> T {
+    value.clone().expect(rt, "memory")
 }

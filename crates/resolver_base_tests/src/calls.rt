@@ -3,23 +3,30 @@
 //! A test is a table of calls, and of what is seen at each. One loop goes through it, so that what
 //! a fetcher is comes up in few proofs.
 
-ghost use Rattle.std.specs.Prelude.{◌<◌, ◌^◌};
 ghost use Rattle.resolver_fetch.specs.Fetcher.{IsTimely};
 
+use crate::names::Letter;
+use crate::scripts::{Script, fetches};
 use resolver_base::base::{Check, Fault};
 use resolver_fetch::fetcher::Answer::{self, Checked, Drawn, Sent};
 use resolver_fetch::fetcher::{Ask, Config, Fetcher, ID};
 use resolver_priorities::PrioritySet;
+use resolver_request::score::DURATION_MAX;
 use resolver_root::NonEmptyVec;
 use std::alloc::Global;
 use std::panic::Expect;
 use std::process::Abort;
+
+/// A second, in nanoseconds.
+pub const SECOND: u64 = 1_000_000_000;
 
 /// A call. A moment is `at`, or stands alone.
 #[derive(Clone, Copy)]
 pub enum Call<'a> {
     /// These peers come in place of the latest set.
     Peers(&'a [u8]),
+    /// So many peers come, whose names are the numbers from 1 on.
+    Crowd(u8),
     /// These peers are the ones that are blocked.
     Blocked(&'a [u8]),
     /// A key waits from now on.
@@ -41,10 +48,14 @@ pub enum Call<'a> {
         elapsed: u128,
         bytes: u64,
     },
+    /// A response of each of so many peers comes, after a second. Each weighs its number then.
+    RecordEach(u8),
     /// A scan begins.
     Begin(u64),
     /// The scan is answered.
     Answer(Answer),
+    /// Scans, and sends what is to be sent.
+    Fetch(u64, &'a Script<'a>),
     /// A response of this peer comes under the id 5.
     Response {
         peer: u8,
@@ -53,7 +64,7 @@ pub enum Call<'a> {
     /// Peer 4 says under the id 5 that the data is missing.
     Missing(u64),
     /// Which key's request is over, if one is?
-    Overdue(u64),
+    Overdue(u128),
     /// When may a scan do something?
     WakeUp,
     /// When is the time of a request over?
@@ -68,12 +79,12 @@ pub enum Call<'a> {
     Queues,
     /// What are the targets of a key?
     TargetsOf(u8),
-    /// Does key 1 wait, how many requests are there, and is a scan open?
+    /// Does key 1 wait, how many requests are there, is a scan open, and how often was key 1 put back?
     Counts,
 }
 
 /// What is seen at a call.
-#[derive(Clone, Copy, Debug, PartialEq, Eq)]
+#[derive(Clone, Copy, PartialEq)]
 pub enum Seen {
     /// It was done.
     Done,
@@ -109,16 +120,16 @@ pub enum Seen {
     Queues((usize, Option<(u128, u8)>), (usize, Option<(u128, u8)>)),
     /// How many targets there are, and the last.
     Last(Option<(usize, u8)>),
-    /// What is told of key 1, the requests and the scan.
-    Counts(bool, usize, bool),
+    /// What is told of key 1, the requests, the scan, and of key 1 again.
+    Counts(bool, usize, bool, u32),
 }
 
 /// What a scan asks.
-fn asked(ask: Option<Ask<u8, u8>>) -> Seen {
+fn asked(ask: Option<Ask<Letter, Letter>>) -> Seen {
     match ask {
         None => Seen::Over,
         Some(Ask::Draw(bound)) => Seen::Draw(bound),
-        Some(Ask::Check(peer)) => Seen::Check(peer),
+        Some(Ask::Check(peer)) => Seen::Check(peer.0),
         Some(
             Ask::Request {
                 peer,
@@ -127,23 +138,16 @@ fn asked(ask: Option<Ask<u8, u8>>) -> Seen {
                 priority,
             },
         ) => Seen::Request {
-            peer,
+            peer: peer.0,
             id,
-            key,
+            key: key.0,
             priority,
         },
     }
 }
 
-/// How requests are made here: there is no local name.
-pub fn config() -> Config<u8>
-    ensures timely { IsTimely result.fetch_timeout result.retry_delay }
-{
-    delayed(10)
-}
-
-/// The same with another delay.
-pub fn delayed(delay: u32) -> Config<u8>
+/// How requests are made here: there is no local name, and a retry waits so long.
+pub fn delayed(delay: u32) -> Config<Letter>
     ensures timely { IsTimely result.fetch_timeout result.retry_delay }
 {
     Config {
@@ -155,10 +159,19 @@ pub fn delayed(delay: u32) -> Config<u8>
 }
 
 /// These peers.
-pub fn peers_of(rt: &impl Abort, alloc: Global, names: &[u8]) -> Vec<u8> {
+fn peers_of(rt: &impl Abort, alloc: Global, names: &[u8]) -> Vec<Letter> {
     let mut peers = Vec::new(alloc);
     for name in names {
-        peers.push(*name).expect(rt, "memory");
+        peers.push(Letter(*name)).expect(rt, "memory");
+    }
+    peers
+}
+
+/// So many peers, whose names are the numbers from 1 on.
+fn crowd(rt: &impl Abort, alloc: Global, count: u8) -> Vec<Letter> {
+    let mut peers = Vec::new(alloc);
+    for name in 1..=count {
+        peers.push(Letter(name)).expect(rt, "memory");
     }
     peers
 }
@@ -166,11 +179,10 @@ pub fn peers_of(rt: &impl Abort, alloc: Global, names: &[u8]) -> Vec<u8> {
 // What a test does and sees goes through calls that promise nothing, so that their callers are
 // proved without what a fetcher is. One that a fetcher may not be given now ends the test.
 
-pub type Node = Fetcher<u8, u8>;
+pub type Node = Fetcher<Letter, Letter>;
 
 /// Takes these peers in place of the latest set.
-pub fn set_peers(rt: &impl Abort, alloc: Global, fetcher: &mut Node, names: &[u8]) -> Seen {
-    let peers = peers_of(rt, alloc, names);
+fn set_peers(rt: &impl Abort, fetcher: &mut Node, peers: Vec<Letter>) -> Seen {
     assert!(rt; !fetcher.is_scanning());
     fetcher.reconcile(peers).expect(rt, "memory");
     Seen::Done
@@ -185,21 +197,27 @@ fn set_blocked(rt: &impl Abort, alloc: Global, fetcher: &mut Node, names: &[u8])
 }
 
 /// A key waits from now on.
-fn add_ready(rt: &impl Abort, fetcher: &mut Node, key: u8, at: u64) -> Seen {
+fn add_ready(rt: &impl Abort, fetcher: &mut Node, key: Letter, at: u64) -> Seen {
     assert!(rt; !fetcher.is_scanning() && !fetcher.is_waiting(&key) && !fetcher.is_asked(&key));
     fetcher.add_ready(key, u128::from(at)).expect(rt, "memory");
     Seen::Done
 }
 
 /// A key waits to be tried again.
-fn add_retry(rt: &impl Abort, fetcher: &mut Node, key: u8, at: u64) -> Seen {
+fn add_retry(rt: &impl Abort, fetcher: &mut Node, key: Letter, at: u64) -> Seen {
     assert!(rt; !fetcher.is_scanning() && !fetcher.is_waiting(&key) && !fetcher.is_asked(&key));
     fetcher.add_retry(key, u128::from(at)).expect(rt, "memory");
     Seen::Done
 }
 
 /// A key may be asked of these peers too, and of no others.
-fn add_targets(rt: &impl Abort, alloc: Global, fetcher: &mut Node, key: u8, names: &[u8]) -> Seen {
+fn add_targets(
+    rt: &impl Abort,
+    alloc: Global,
+    fetcher: &mut Node,
+    key: Letter,
+    names: &[u8],
+) -> Seen {
     if let Ok(targets) = NonEmptyVec::try_from(peers_of(rt, alloc, names)) {
         assert!(rt; !fetcher.is_scanning());
         fetcher.add_targets(key, targets).expect(rt, "memory");
@@ -208,23 +226,36 @@ fn add_targets(rt: &impl Abort, alloc: Global, fetcher: &mut Node, key: u8, name
 }
 
 /// Takes in so many responses of a peer.
-pub fn recorded(fetcher: &mut Node, peer: u8, count: u8, elapsed: u128, bytes: u64) -> Seen {
+fn recorded(fetcher: &mut Node, peer: u8, count: u8, elapsed: u128, bytes: u64) -> Seen {
     for _ in 0..count {
         if !fetcher.is_scanning() {
-            fetcher.record_response(&peer, elapsed, bytes);
+            fetcher.record_response(&Letter(peer), elapsed, bytes);
         }
     }
     Seen::Done
 }
 
+/// Takes in a response of each of so many peers, after a second. Each weighs its number then.
+fn recorded_each(fetcher: &mut Node, count: u8) -> Seen {
+    for bytes in 0..count {
+        let name = bytes.saturating_add(1);
+        recorded(fetcher, name, 1, u128::from(SECOND), u64::from(bytes));
+    }
+    Seen::Done
+}
+
 /// Begins a scan.
-fn begun(rt: &impl Abort, fetcher: &mut Node, at: u64) -> Result<Option<Ask<u8, u8>>, Fault> {
+fn begun(
+    rt: &impl Abort,
+    fetcher: &mut Node,
+    at: u64,
+) -> Result<Option<Ask<Letter, Letter>>, Fault> {
     assert!(rt; !fetcher.is_scanning());
     fetcher.scan_begin(u128::from(at))
 }
 
 /// Gives an answer.
-fn answered(fetcher: &mut Node, answer: Answer) -> Result<Option<Ask<u8, u8>>, Fault> {
+fn answered(fetcher: &mut Node, answer: Answer) -> Result<Option<Ask<Letter, Letter>>, Fault> {
     fetcher.scan_answer(answer)
 }
 
@@ -233,7 +264,8 @@ fn pop_response(fetcher: &mut Node, peer: u8, at: u64) -> Option<(u8, u128)> {
     if fetcher.is_scanning() {
         return None;
     }
-    fetcher.pop_response(5, &peer, u128::from(at))
+    let (key, elapsed) = fetcher.pop_response(5, &Letter(peer), u128::from(at))?;
+    Some((key.0, elapsed))
 }
 
 /// Word of peer 4 under the id 5 that the data is missing.
@@ -241,17 +273,15 @@ fn pop_missing(fetcher: &mut Node, at: u64) -> Option<u8> {
     if fetcher.is_scanning() {
         return None;
     }
-    fetcher.pop_missing(5, &4, u128::from(at))
+    Some(fetcher.pop_missing(5, &Letter(4), u128::from(at))?.0)
 }
 
 /// The key whose time is over first, if it is over now.
-pub fn pop_active(fetcher: &mut Node, now: u128) -> Option<u8>
-    requires { now < 2 ^ 94 }
-{
-    if fetcher.is_scanning() {
+fn pop_active(fetcher: &mut Node, now: u128) -> Option<u8> {
+    if fetcher.is_scanning() || DURATION_MAX < now {
         return None;
     }
-    fetcher.pop_active(now)
+    Some(fetcher.pop_active(now)?.0)
 }
 
 /// When a scan may do something.
@@ -265,27 +295,27 @@ fn deadline(fetcher: &Node) -> Option<u128> {
 }
 
 /// The weight of a peer.
-pub fn weight(fetcher: &Node, peer: u8) -> Option<u64> {
-    fetcher.weight(&peer)
+fn weight(fetcher: &Node, peer: u8) -> Option<u64> {
+    fetcher.weight(&Letter(peer))
 }
 
 /// Whether a key may be asked of some peers only.
 fn has_targets(fetcher: &Node, key: u8) -> bool {
-    fetcher.has_targets(&key)
+    fetcher.has_targets(&Letter(key))
 }
 
 /// Where a key waits, and under which id it is asked for.
-fn phase(fetcher: &Node, key: u8) -> Seen {
+fn phase(fetcher: &Node, key: Letter) -> Seen {
     let waits = fetcher.place(&key).map(|place| (place.due, place.is_retry));
     let asks = fetcher
         .request(&key)
-        .map(|(id, request)| (id, request.peer));
+        .map(|(id, request)| (id, request.peer.0));
     Seen::Phase(waits, asks)
 }
 
 /// How many keys a queue has, and when the first is due.
-fn first_of(queue: &PrioritySet<u8, u128>) -> (usize, Option<(u128, u8)>) {
-    let first = queue.peek().map(|(key, due)| (*due, *key));
+fn first_of(queue: &PrioritySet<Letter, u128>) -> (usize, Option<(u128, u8)>) {
+    let first = queue.peek().map(|(key, due)| (*due, key.0));
     (queue.len(), first)
 }
 
@@ -299,22 +329,24 @@ fn queues(fetcher: &Node) -> Seen {
 
 /// How many targets a key has, and the last.
 fn last_target(fetcher: &Node, key: u8) -> Option<(usize, u8)> {
-    let targets = fetcher.targets(&key)?;
+    let targets = fetcher.targets(&Letter(key))?;
     let last = targets.last()?;
-    Some((targets.len(), *last))
+    Some((targets.len(), last.0))
 }
 
-/// Whether key 1 waits, how many requests there are, and whether a scan is open.
+/// Whether key 1 waits, how many requests there are, whether a scan is open, and how often key 1 was put
+/// back.
 fn counts(fetcher: &Node) -> Seen {
     Seen::Counts(
-        fetcher.is_waiting(&1),
+        fetcher.is_waiting(&Letter(1)),
         fetcher.len_active(),
         fetcher.is_scanning(),
+        fetcher.retries(&Letter(1)),
     )
 }
 
 /// What is seen of a step of a scan.
-fn stepped(step: Result<Option<Ask<u8, u8>>, Fault>) -> Seen {
+fn stepped(step: Result<Option<Ask<Letter, Letter>>, Fault>) -> Seen {
     match step {
         Ok(ask) => asked(ask),
         Err(fault) => Seen::Refused(fault),
@@ -324,26 +356,29 @@ fn stepped(step: Result<Option<Ask<u8, u8>>, Fault>) -> Seen {
 /// Makes a call, and tells what is seen.
 fn made(rt: &impl Abort, alloc: Global, fetcher: &mut Node, call: Call) -> Seen {
     match call {
-        Call::Peers(names) => set_peers(rt, alloc, fetcher, names),
+        Call::Peers(names) => set_peers(rt, fetcher, peers_of(rt, alloc, names)),
+        Call::Crowd(count) => set_peers(rt, fetcher, crowd(rt, alloc, count)),
         Call::Blocked(names) => set_blocked(rt, alloc, fetcher, names),
-        Call::Ready { key, at } => add_ready(rt, fetcher, key, at),
-        Call::Retry { key, at } => add_retry(rt, fetcher, key, at),
-        Call::Targets(key, names) => add_targets(rt, alloc, fetcher, key, names),
+        Call::Ready { key, at } => add_ready(rt, fetcher, Letter(key), at),
+        Call::Retry { key, at } => add_retry(rt, fetcher, Letter(key), at),
+        Call::Targets(key, names) => add_targets(rt, alloc, fetcher, Letter(key), names),
         Call::Record {
             peer,
             count,
             elapsed,
             bytes,
         } => recorded(fetcher, peer, count, elapsed, bytes),
+        Call::RecordEach(count) => recorded_each(fetcher, count),
         Call::Begin(at) => stepped(begun(rt, fetcher, at)),
         Call::Answer(answer) => stepped(answered(fetcher, answer)),
+        Call::Fetch(at, script) => fetches(rt, fetcher, at, script),
         Call::Response { peer, at } => Seen::Answered(pop_response(fetcher, peer, at)),
         Call::Missing(at) => Seen::Popped(pop_missing(fetcher, at)),
-        Call::Overdue(at) => Seen::Popped(pop_active(fetcher, u128::from(at))),
+        Call::Overdue(at) => Seen::Popped(pop_active(fetcher, at)),
         Call::WakeUp => Seen::At(wake_up(fetcher)),
         Call::Deadline => Seen::At(deadline(fetcher)),
         Call::Weight(peer) => Seen::Weight(weight(fetcher, peer)),
-        Call::Phase(key) => phase(fetcher, key),
+        Call::Phase(key) => phase(fetcher, Letter(key)),
         Call::Queues => queues(fetcher),
         Call::TargetsOf(key) => Seen::Last(last_target(fetcher, key)),
         Call::HasTargets(key) => Seen::Is(has_targets(fetcher, key)),
@@ -352,21 +387,28 @@ fn made(rt: &impl Abort, alloc: Global, fetcher: &mut Node, call: Call) -> Seen 
 }
 
 /// Makes calls, and compares what is seen at each.
-pub fn goes_on(rt: &impl Abort, alloc: Global, fetcher: &mut Node, calls: &[(Call, Seen)]) {
+fn goes_on(rt: &impl Abort, alloc: Global, fetcher: &mut Node, calls: &[(Call, Seen)]) {
     for (place, (call, seen)) in calls.iter().enumerate() {
-        assert_eq!(rt; made(rt, alloc, fetcher, *call), *seen, "at place {place}");
+        let is_right = made(rt, alloc, fetcher, *call) == *seen;
+        assert!(rt; is_right, "something else is seen at place {place}");
     }
 }
 
 /// Makes calls of a new fetcher, and compares what is seen at each.
 pub fn goes(rt: &impl Abort, alloc: Global, calls: &[(Call, Seen)]) {
-    goes_after(rt, alloc, 10, calls);
+    let mut fetcher = Fetcher::new(alloc, delayed(10));
+    goes_on(rt, alloc, &mut fetcher, calls);
+    drop(fetcher);
 }
 
-/// The same with another delay.
-pub fn goes_after(rt: &impl Abort, alloc: Global, delay: u32, calls: &[(Call, Seen)]) {
-    let mut fetcher = Fetcher::new(alloc, delayed(delay));
-    goes_on(rt, alloc, &mut fetcher, calls);
+/// The same of one that is made by another rule, table after table.
+pub fn goes_by(rt: &impl Abort, alloc: Global, config: Config<Letter>, tables: &[&[(Call, Seen)]])
+    requires timely { IsTimely config.fetch_timeout config.retry_delay }
+{
+    let mut fetcher = Fetcher::new(alloc, config);
+    for calls in tables {
+        goes_on(rt, alloc, &mut fetcher, calls);
+    }
     drop(fetcher);
 }
 
@@ -405,3 +447,62 @@ macro_rules! sent {
 }
 
 pub(crate) use sent;
+
+/// What a peer weighs, where it is in the set.
+macro_rules! weighs {
+    ($peer:expr, $weight:expr) => {
+        (Call::Weight($peer), Seen::Weight($weight))
+    };
+}
+
+pub(crate) use weighs;
+
+/// A key waits from this moment on.
+macro_rules! waits {
+    ($key:expr, $at:expr) => {
+        (Call::Ready { key: $key, at: $at }, Seen::Done)
+    };
+}
+
+pub(crate) use waits;
+
+/// A key was tried at this moment, and waits to be tried again.
+macro_rules! waits_again {
+    ($key:expr, $at:expr) => {
+        (Call::Retry { key: $key, at: $at }, Seen::Done)
+    };
+}
+
+pub(crate) use waits_again;
+
+/// A scan begins, and what is to be drawn is below this bound.
+macro_rules! begins {
+    ($at:expr, $bound:expr) => {
+        (Call::Begin($at), Seen::Draw($bound))
+    };
+}
+
+pub(crate) use begins;
+
+/// A scan may do something at this moment.
+macro_rules! wakes {
+    ($at:expr) => {
+        (Call::WakeUp, Seen::At(Some($at)))
+    };
+}
+
+pub(crate) use wakes;
+
+/// A request is to be sent, without priority.
+macro_rules! requests {
+    ($peer:expr, $id:expr, $key:expr) => {
+        Seen::Request {
+            peer: $peer,
+            id: $id,
+            key: $key,
+            priority: false,
+        }
+    };
+}
+
+pub(crate) use requests;

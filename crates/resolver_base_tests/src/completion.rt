@@ -1,13 +1,9 @@
-use crate::asserts::{equal, holds};
+use crate::asserts::{copied, equal, holds};
 use resolver_demand::delivery::{Aborted, Completion};
 use resolver_root::{Delivery, NonEmptyVec, Outcome, Resolution};
 use std::alloc::Global;
 use std::panic::Expect;
 use std::process::Abort;
-
-fn copied<T: Clone>(rt: &impl Abort, value: &T) -> T {
-    value.clone().expect(rt, "memory")
-}
 
 type Over = Completion<u8, u16, u8>;
 
@@ -52,5 +48,10 @@ fn has_same_clones(rt: &impl Abort, alloc: Global) {
 #[test]
 fn a_clone_is_the_same(rt: HostRuntime) {
     has_same_clones(&rt, rt.alloc());
-    holds(&rt, copied(&rt, &Aborted {}) == Aborted {});
+    is_copied(&rt, &Aborted {});
+}
+
+fn is_copied(rt: &impl Abort, aborted: &Aborted) {
+    let same = copied(rt, aborted);
+    holds(rt, same == *aborted);
 }

@@ -1,11 +1,11 @@
 use crate::asserts::equal;
-use crate::names::Letter;
+use crate::names::{Letter, delivery};
 use futures::Stream;
 use futures::channel::mpsc::UnboundedReceiver;
 use futures::task::Poll;
 use futures::test::MockTask;
 use resolver_loop::{Consumer, mocks};
-use resolver_root::{Delivery, NonEmptyVec, Outcome, Resolution};
+use resolver_root::{Outcome, Resolution};
 use std::alloc::Global;
 use std::panic::Expect;
 use std::process::Abort;
@@ -26,10 +26,7 @@ fn outcome_of<C: Consumer<Key = Letter, Value = u16, Subscriber = u8>>(
 where
     C::Outcome: Drop,
 {
-    let delivery = Delivery {
-        key: Letter(key),
-        subscribers: NonEmptyVec::new(alloc, (10, 7)).expect(rt, "memory"),
-    };
+    let delivery = delivery(rt, alloc, key);
     let mut verdict = consumer.deliver(delivery, value).expect(rt, "memory");
     match task.poll(&mut verdict) {
         Poll::Ready(Ok(outcome)) => Some(outcome.into()),

@@ -255,46 +255,8 @@ fn told(rt: &impl Abort, alloc: Global, calls: &[Call]) -> String {
     text
 }
 
-#[test]
-fn entries(rt: HostRuntime) {
-    const CALLS: &[Call] = &[
-        Call::Look(Look::Contains(1)),
-        Call::Insert(1),
-        Call::Look(Look::Contains(1)),
-        Call::Insert(1),
-        Call::Remove(1),
-        Call::Look(Look::Contains(1)),
-        Call::Remove(1),
-    ];
-    equal_texts(
-        &rt,
-        told(&rt, rt.alloc(), CALLS).as_str(),
-        " false true true false true false false",
-    );
-}
-
-#[test]
-fn caches_a_response(rt: HostRuntime) {
-    const CALLS: &[Call] = &[
-        Call::Insert(1),
-        Call::Look(Look::IsAccepted(1)),
-        Call::Deliver(1, 40),
-        Call::Look(Look::Number(1)),
-        Call::Look(Look::IsAccepted(1)),
-        Call::Accept(1),
-        Call::Look(Look::IsAccepted(1)),
-        Call::Look(Look::Response(1)),
-        Call::Look(Look::Open(0)),
-        Call::Discard(1),
-        Call::Look(Look::Response(1)),
-        Call::Look(Look::IsAccepted(1)),
-    ];
-    equal_texts(
-        &rt,
-        told(&rt, rt.alloc(), CALLS).as_str(),
-        " true false 0 Some(0) false true Some((0, 5, 40)) Some((0, 1, 40, false)) None false",
-    );
-}
+/// Calls, and what they answer together.
+type Row<'a> = (&'a [Call], &'a str);
 
 const COMPLETE: Option<Outcome> = Some(Outcome::Resolved(Resolution::Complete));
 
@@ -302,171 +264,192 @@ const INVALID: Option<Outcome> = Some(Outcome::Invalid);
 
 const IGNORED: Option<Outcome> = Some(Outcome::Ignored);
 
-/// A delivery's number is closed twice.
-fn completed_twice(rt: &impl Abort, alloc: Global, verdict: Option<Outcome>) -> String {
-    let calls = [
-        Call::Insert(1),
-        Call::Deliver(1, 40),
-        Call::Complete(0, verdict),
-        Call::Complete(0, verdict),
-        Call::Look(Look::Number(1)),
-    ];
-    told(rt, alloc, &calls)
-}
+/// Keys come and go: each for itself, all but the first, and all at once. What was kept of one is given as it
+/// goes, and the numbers of deliveries go on.
+const KEYS: &[Row] = &[
+    (
+        &[
+            Call::Look(Look::Contains(1)),
+            Call::Insert(1),
+            Call::Look(Look::Contains(1)),
+            Call::Insert(1),
+            Call::Remove(1),
+            Call::Look(Look::Contains(1)),
+            Call::Remove(1),
+        ],
+        " false true true false true false false",
+    ),
+    (
+        &[
+            Call::InsertBelow(10),
+            Call::Retain(3),
+            Call::Look(Look::Keys),
+            Call::Drain,
+            Call::Look(Look::Contains(0)),
+        ],
+        " 10 7 0 1 2 3 false",
+    ),
+    (
+        &[
+            Call::Insert(1),
+            Call::Deliver(1, 40),
+            Call::Look(Look::Entry(1)),
+            Call::Look(Look::Entry(2)),
+            Call::Clear,
+            Call::Look(Look::Entry(1)),
+            Call::Look(Look::Open(0)),
+            Call::Insert(1),
+            Call::Deliver(1, 41),
+        ],
+        " true 0 Some(Some(0)) None None None true 1",
+    ),
+    (
+        &[
+            Call::InsertNew(1),
+            Call::InsertNew(2),
+            Call::Deliver(1, 40),
+            Call::Take(1),
+            Call::Look(Look::Contains(1)),
+            Call::Take(1),
+            Call::InsertNew(1),
+            Call::Take(2),
+            Call::Look(Look::Keys),
+            Call::Look(Look::Number(1)),
+        ],
+        " 0 Some((Some(0), Some(5))) false None Some((None, None)) 1 None",
+    ),
+];
 
-/// The same where its key is removed meanwhile.
-fn completed_without_a_key(rt: &impl Abort, alloc: Global, verdict: Option<Outcome>) -> String {
-    let calls = [
-        Call::Insert(1),
-        Call::Deliver(1, 40),
-        Call::Remove(1),
-        Call::Complete(0, verdict),
-        Call::Complete(0, verdict),
-        Call::Look(Look::Number(1)),
-    ];
-    told(rt, alloc, &calls)
-}
-
-/// The same where its key is removed and comes back.
-fn completed_for_another(rt: &impl Abort, alloc: Global, verdict: Option<Outcome>) -> String {
-    let calls = [
-        Call::Insert(1),
-        Call::Deliver(1, 40),
-        Call::Remove(1),
-        Call::Insert(1),
-        Call::Complete(0, verdict),
-        Call::Complete(0, verdict),
-        Call::Look(Look::Number(1)),
-    ];
-    told(rt, alloc, &calls)
-}
-
-#[test]
-fn completes(rt: HostRuntime) {
-    equal_texts(
-        &rt,
-        completed_twice(&rt, rt.alloc(), COMPLETE).as_str(),
-        " true 0 response 0 of 40 key 1 (10, 7) Some(Resolved(Complete)) false false aborted None",
-    );
-    equal_texts(
-        &rt,
-        completed_twice(&rt, rt.alloc(), None).as_str(),
-        " true 0 response 0 of 40 key 1 (10, 7) None false false aborted None",
-    );
-    equal_texts(
-        &rt,
-        completed_twice(&rt, rt.alloc(), INVALID).as_str(),
-        " true 0 response 0 of 40 key 1 (10, 7) Some(Invalid) false false aborted None",
-    );
-}
-
-#[test]
-fn completes_what_was_removed(rt: HostRuntime) {
-    equal_texts(
-        &rt,
-        completed_without_a_key(&rt, rt.alloc(), COMPLETE).as_str(),
-        " true 0 true response 0 of 40 key 1 (10, 7) Some(Resolved(Complete)) true false aborted None",
-    );
-    equal_texts(
-        &rt,
-        completed_without_a_key(&rt, rt.alloc(), None).as_str(),
-        " true 0 true aborted aborted None",
-    );
-}
-
-#[test]
-fn completes_what_was_removed_and_tracked_again(rt: HostRuntime) {
-    equal_texts(
-        &rt,
-        completed_for_another(&rt, rt.alloc(), IGNORED).as_str(),
-        " true 0 true true response 0 of 40 key 1 (10, 7) Some(Ignored) true false aborted None",
-    );
-    equal_texts(
-        &rt,
-        completed_for_another(&rt, rt.alloc(), None).as_str(),
-        " true 0 true true aborted aborted None",
-    );
-}
-
-#[test]
-fn tells_a_new_delivery_from_an_old_one(rt: HostRuntime) {
-    const CALLS: &[Call] = &[
-        Call::Insert(1),
-        Call::Deliver(1, 40),
-        Call::Remove(1),
-        Call::Insert(1),
-        Call::Deliver(1, 41),
-        Call::Complete(0, INVALID),
-        Call::Look(Look::Number(1)),
-        Call::Accept(1),
-        Call::Complete(1, None),
-        Call::Redeliver(1),
-        Call::Complete(2, INVALID),
-    ];
-    equal_texts(
-        &rt,
-        told(&rt, rt.alloc(), CALLS).as_str(),
+/// A response is kept until it is discarded, and handed out again. An old delivery of a key that came back is
+/// told from its new one.
+const RESPONSES: &[Row] = &[
+    (
+        &[
+            Call::Insert(1),
+            Call::Look(Look::IsAccepted(1)),
+            Call::Deliver(1, 40),
+            Call::Look(Look::Number(1)),
+            Call::Look(Look::IsAccepted(1)),
+            Call::Accept(1),
+            Call::Look(Look::IsAccepted(1)),
+            Call::Look(Look::Response(1)),
+            Call::Look(Look::Open(0)),
+            Call::Discard(1),
+            Call::Look(Look::Response(1)),
+            Call::Look(Look::IsAccepted(1)),
+        ],
+        " true false 0 Some(0) false true Some((0, 5, 40)) Some((0, 1, 40, false)) None false",
+    ),
+    (
+        &[
+            Call::Insert(1),
+            Call::Deliver(1, 40),
+            Call::Remove(1),
+            Call::Insert(1),
+            Call::Deliver(1, 41),
+            Call::Complete(0, INVALID),
+            Call::Look(Look::Number(1)),
+            Call::Accept(1),
+            Call::Complete(1, None),
+            Call::Redeliver(1),
+            Call::Complete(2, INVALID),
+        ],
         " true 0 true true 1 response 0 of 40 key 1 (10, 7) Some(Invalid) true false Some(1) \
         response 1 of 41 key 1 (10, 7) None false false 2 \
         response 1 of 41 key 1 (10, 7) Some(Invalid) false true",
-    );
+    ),
+];
+
+/// A delivery's number is closed twice: with its key there, without it, and with it removed and back. Each row
+/// has the calls before, the verdict, and what is answered.
+type Closing<'a> = (&'a [Call], Option<Outcome>, &'a str);
+
+const CLOSINGS: &[Closing] = &[
+    (
+        &[],
+        COMPLETE,
+        " true 0 response 0 of 40 key 1 (10, 7) Some(Resolved(Complete)) false false aborted None",
+    ),
+    (
+        &[],
+        None,
+        " true 0 response 0 of 40 key 1 (10, 7) None false false aborted None",
+    ),
+    (
+        &[],
+        INVALID,
+        " true 0 response 0 of 40 key 1 (10, 7) Some(Invalid) false false aborted None",
+    ),
+    (
+        &[Call::Remove(1)],
+        COMPLETE,
+        " true 0 true response 0 of 40 key 1 (10, 7) Some(Resolved(Complete)) true false aborted None",
+    ),
+    (
+        &[Call::Remove(1)],
+        None,
+        " true 0 true aborted aborted None",
+    ),
+    (
+        &[Call::Remove(1), Call::Insert(1)],
+        IGNORED,
+        " true 0 true true response 0 of 40 key 1 (10, 7) Some(Ignored) true false aborted None",
+    ),
+    (
+        &[Call::Remove(1), Call::Insert(1)],
+        None,
+        " true 0 true true aborted aborted None",
+    ),
+];
+
+/// Delivers key 1, makes calls, closes the delivery twice, and asks for the key's number.
+fn close_twice(
+    rt: &impl Abort,
+    text: &mut String,
+    entries: &mut Tracked,
+    calls: &[Call],
+    verdict: Option<Outcome>,
+) {
+    change_all(rt, text, entries, &[Call::Insert(1), Call::Deliver(1, 40)]);
+    change_all(rt, text, entries, calls);
+    change(rt, text, entries, Call::Complete(0, verdict));
+    change(rt, text, entries, Call::Complete(0, verdict));
+    change(rt, text, entries, Call::Look(Look::Number(1)));
+}
+
+/// What is answered as a delivery of new entries is closed twice.
+fn closed_twice(
+    rt: &impl Abort,
+    alloc: Global,
+    calls: &[Call],
+    verdict: Option<Outcome>,
+) -> String {
+    let mut text = String::new(alloc);
+    let mut entries = Entries::new(alloc);
+    close_twice(rt, &mut text, &mut entries, calls, verdict);
+    drop(entries);
+    text
 }
 
 #[test]
-fn lets_keys_go(rt: HostRuntime) {
-    const CALLS: &[Call] = &[
-        Call::InsertBelow(10),
-        Call::Retain(3),
-        Call::Look(Look::Keys),
-        Call::Drain,
-        Call::Look(Look::Contains(0)),
-    ];
-    equal_texts(
-        &rt,
-        told(&rt, rt.alloc(), CALLS).as_str(),
-        " 10 7 0 1 2 3 false",
-    );
+fn closed_with_each_verdict(rt: HostRuntime) {
+    for (calls, verdict, wanted) in CLOSINGS {
+        let seen = closed_twice(&rt, rt.alloc(), calls, *verdict);
+        equal_texts(&rt, seen.as_str(), wanted);
+    }
+}
+
+/// The calls of each row, of new entries, answer what stands there.
+fn answer(rt: &impl Abort, alloc: Global, rows: &[Row]) {
+    for (calls, wanted) in rows {
+        equal_texts(rt, told(rt, alloc, calls).as_str(), wanted);
+    }
 }
 
 #[test]
-fn clears_all_but_the_numbers(rt: HostRuntime) {
-    const CALLS: &[Call] = &[
-        Call::Insert(1),
-        Call::Deliver(1, 40),
-        Call::Look(Look::Entry(1)),
-        Call::Look(Look::Entry(2)),
-        Call::Clear,
-        Call::Look(Look::Entry(1)),
-        Call::Look(Look::Open(0)),
-        Call::Insert(1),
-        Call::Deliver(1, 41),
-    ];
-    equal_texts(
-        &rt,
-        told(&rt, rt.alloc(), CALLS).as_str(),
-        " true 0 Some(Some(0)) None None None true 1",
-    );
-}
-
-#[test]
-fn gives_what_was_kept_of_a_key(rt: HostRuntime) {
-    const CALLS: &[Call] = &[
-        Call::InsertNew(1),
-        Call::InsertNew(2),
-        Call::Deliver(1, 40),
-        Call::Take(1),
-        Call::Look(Look::Contains(1)),
-        Call::Take(1),
-        Call::InsertNew(1),
-        Call::Take(2),
-        Call::Look(Look::Keys),
-        Call::Look(Look::Number(1)),
-    ];
-    equal_texts(
-        &rt,
-        told(&rt, rt.alloc(), CALLS).as_str(),
-        " 0 Some((Some(0), Some(5))) false None Some((None, None)) 1 None",
-    );
+fn keys_and_responses(rt: HostRuntime) {
+    answer(&rt, rt.alloc(), KEYS);
+    answer(&rt, rt.alloc(), RESPONSES);
 }
 
 type Staged = Entries<u16, u16, u8, u64, u32>;

@@ -1,8 +1,9 @@
 //! Keys that wait, scans, and what becomes of requests.
 
+use crate::asserts::{equal, equal_at};
 use crate::calls::{
-    Call, Node, Seen, config, goes, goes_after, goes_on, peers_of, pop_active, recorded, set_peers,
-    weight,
+    Call, Seen, begins, clear, delayed, drawn, goes, goes_by, requests, sent, until, waits,
+    waits_again, wakes, weighs,
 };
 use resolver_base::base::{Check, Fault};
 use resolver_fetch::fetcher::Answer::{self, Checked, Drawn, Sent};
@@ -12,75 +13,58 @@ use std::alloc::Global;
 use std::panic::Expect;
 use std::process::Abort;
 
-/// Has peer 4, which has this weight, asked for key 1 under the id 5.
-fn asks_peer(rt: &impl Abort, alloc: Global, fetcher: &mut Node, at: u64, weight: u128) {
-    let request = Seen::Request {
-        peer: 4,
-        id: 5,
-        key: 1,
-        priority: false,
-    };
-    let calls = [
-        (Call::Ready { key: 1, at }, Seen::Done),
-        (Call::Begin(at), Seen::Draw(4)),
-        (Call::Answer(Drawn(0)), Seen::Draw(weight)),
-        (Call::Answer(Drawn(0)), Seen::Check(4)),
-        (Call::Answer(Checked(Check::Clear)), Seen::Draw(1 << 64)),
-        (Call::Answer(Drawn(5)), request),
-        (Call::Answer(Sent(true)), Seen::Over),
-    ];
-    goes_on(rt, alloc, fetcher, &calls);
-}
-
-/// Has peer 4 of a new fetcher asked for key 1 under the id 5, at 30, and then makes calls.
-fn asks_first(rt: &impl Abort, alloc: Global, calls: &[(Call, Seen)]) {
-    let mut fetcher = Fetcher::new(alloc, config());
-    set_peers(rt, alloc, &mut fetcher, &[4]);
-    asks_peer(rt, alloc, &mut fetcher, 30, 1);
-    goes_on(rt, alloc, &mut fetcher, calls);
-    drop(fetcher);
-}
+/// Peer 4 is asked for key 1 under the id 5, at 30.
+const ASKS: &[(Call, Seen)] = &[
+    (Call::Peers(&[4]), Seen::Done),
+    waits!(1, 30),
+    begins!(30, 4),
+    drawn!(0, Seen::Draw(1)),
+    drawn!(0, Seen::Check(4)),
+    clear!(Seen::Draw(1 << 64)),
+    drawn!(5, requests!(4, 5, 1)),
+    sent!(true, Seen::Over),
+];
 
 #[test]
 fn fetcher_first_request(rt: HostRuntime) {
-    const CALLS: &[(Call, Seen)] = &[
-        (Call::Deadline, Seen::At(Some(80))),
-        (Call::Response { peer: 3, at: 40 }, Seen::Answered(None)),
-        (
-            Call::Response { peer: 4, at: 20 },
-            Seen::Answered(Some((1, 0))),
-        ),
+    const TABLES: &[&[(Call, Seen)]] = &[
+        ASKS,
+        &[
+            (Call::Deadline, Seen::At(Some(80))),
+            (Call::Response { peer: 3, at: 40 }, Seen::Answered(None)),
+            (
+                Call::Response { peer: 4, at: 20 },
+                Seen::Answered(Some((1, 0))),
+            ),
+        ],
     ];
-    asks_first(&rt, rt.alloc(), CALLS);
+    goes_by(&rt, rt.alloc(), delayed(10), TABLES);
 }
 
 #[test]
 fn a_second_request(rt: HostRuntime) {
-    const REQUEST: Seen = Seen::Request {
-        peer: 4,
-        id: 6,
-        key: 2,
-        priority: false,
-    };
-    const CALLS: &[(Call, Seen)] = &[
-        (Call::Phase(1), Seen::Phase(None, Some((5, 4)))),
-        (Call::Ready { key: 2, at: 40 }, Seen::Done),
-        (Call::Phase(2), Seen::Phase(Some((40, false)), None)),
-        (Call::Retry { key: 3, at: 40 }, Seen::Done),
-        (Call::Phase(3), Seen::Phase(Some((50, true)), None)),
-        (Call::Begin(40), Seen::Draw(4)),
-        (Call::Answer(Drawn(0)), Seen::Draw(1)),
-        (Call::Answer(Drawn(0)), Seen::Check(4)),
-        (Call::Answer(Checked(Check::Clear)), REQUEST),
-        (Call::Answer(Sent(true)), Seen::Over),
-        (Call::Phase(2), Seen::Phase(None, Some((6, 4)))),
-        (
-            Call::Response { peer: 4, at: 50 },
-            Seen::Answered(Some((1, 20))),
-        ),
-        (Call::Phase(1), Seen::Phase(None, None)),
+    const TABLES: &[&[(Call, Seen)]] = &[
+        ASKS,
+        &[
+            (Call::Phase(1), Seen::Phase(None, Some((5, 4)))),
+            waits!(2, 40),
+            (Call::Phase(2), Seen::Phase(Some((40, false)), None)),
+            waits_again!(3, 40),
+            (Call::Phase(3), Seen::Phase(Some((50, true)), None)),
+            begins!(40, 4),
+            drawn!(0, Seen::Draw(1)),
+            drawn!(0, Seen::Check(4)),
+            clear!(requests!(4, 6, 2)),
+            sent!(true, Seen::Over),
+            (Call::Phase(2), Seen::Phase(None, Some((6, 4)))),
+            (
+                Call::Response { peer: 4, at: 50 },
+                Seen::Answered(Some((1, 20))),
+            ),
+            (Call::Phase(1), Seen::Phase(None, None)),
+        ],
     ];
-    asks_first(&rt, rt.alloc(), CALLS);
+    goes_by(&rt, rt.alloc(), delayed(10), TABLES);
 }
 
 #[test]
@@ -99,36 +83,42 @@ fn targets_of_each_length(rt: HostRuntime) {
 
 #[test]
 fn fetcher_missing(rt: HostRuntime) {
-    const CALLS: &[(Call, Seen)] = &[
-        (Call::Missing(50), Seen::Popped(Some(1))),
-        (Call::Counts, Seen::Counts(false, 0, false)),
-        (Call::Weight(4), Seen::Weight(Some(1))),
+    const TABLES: &[&[(Call, Seen)]] = &[
+        ASKS,
+        &[
+            (Call::Missing(50), Seen::Popped(Some(1))),
+            (Call::Counts, Seen::Counts(false, 0, false, 0)),
+            (Call::Weight(4), Seen::Weight(Some(1))),
+        ],
     ];
-    asks_first(&rt, rt.alloc(), CALLS);
+    goes_by(&rt, rt.alloc(), delayed(10), TABLES);
 }
 
 #[test]
 fn fetcher_retry(rt: HostRuntime) {
-    const CALLS: &[(Call, Seen)] = &[
-        (Call::Missing(50), Seen::Popped(Some(1))),
-        (Call::Counts, Seen::Counts(false, 0, false)),
-        (Call::Retry { key: 1, at: 50 }, Seen::Done),
-        (Call::WakeUp, Seen::At(Some(60))),
-        (Call::Begin(60), Seen::Draw(5)),
-        (Call::Counts, Seen::Counts(true, 0, true)),
+    const TABLES: &[&[(Call, Seen)]] = &[
+        ASKS,
+        &[
+            (Call::Missing(50), Seen::Popped(Some(1))),
+            (Call::Counts, Seen::Counts(false, 0, false, 0)),
+            waits_again!(1, 50),
+            wakes!(60),
+            begins!(60, 5),
+            (Call::Counts, Seen::Counts(true, 0, true, 1)),
+        ],
     ];
-    asks_first(&rt, rt.alloc(), CALLS);
+    goes_by(&rt, rt.alloc(), delayed(10), TABLES);
 }
 
 #[test]
 fn fetcher_wake_up(rt: HostRuntime) {
     const CALLS: &[(Call, Seen)] = &[
-        (Call::Ready { key: 1, at: 5 }, Seen::Done),
-        (Call::WakeUp, Seen::At(Some(5))),
+        waits!(1, 5),
+        wakes!(5),
         (Call::Begin(5), Seen::Over),
-        (Call::WakeUp, Seen::At(Some(u128::MAX))),
+        wakes!(u128::MAX),
         (Call::Peers(&[4]), Seen::Done),
-        (Call::WakeUp, Seen::At(Some(5))),
+        wakes!(5),
     ];
     goes(&rt, rt.alloc(), CALLS);
 }
@@ -136,20 +126,20 @@ fn fetcher_wake_up(rt: HostRuntime) {
 #[test]
 fn the_next_due_wakes(rt: HostRuntime) {
     const CALLS: &[(Call, Seen)] = &[
-        (Call::Retry { key: 2, at: 0 }, Seen::Done),
-        (Call::Retry { key: 1, at: 5 }, Seen::Done),
-        (Call::Ready { key: 3, at: 12 }, Seen::Done),
-        (Call::Ready { key: 4, at: 30 }, Seen::Done),
+        waits_again!(2, 0),
+        waits_again!(1, 5),
+        waits!(3, 12),
+        waits!(4, 30),
         (Call::Begin(12), Seen::Over),
-        (Call::WakeUp, Seen::At(Some(15))),
+        wakes!(15),
         (Call::Begin(15), Seen::Over),
-        (Call::WakeUp, Seen::At(Some(30))),
+        wakes!(30),
         (Call::Begin(30), Seen::Over),
-        (Call::WakeUp, Seen::At(Some(u128::MAX))),
-        (Call::Ready { key: 0, at: 31 }, Seen::Done),
-        (Call::WakeUp, Seen::At(Some(12))),
+        wakes!(u128::MAX),
+        waits!(0, 31),
+        wakes!(12),
         (Call::Begin(30), Seen::Over),
-        (Call::WakeUp, Seen::At(Some(31))),
+        wakes!(31),
     ];
     goes(&rt, rt.alloc(), CALLS);
 }
@@ -158,16 +148,16 @@ fn the_next_due_wakes(rt: HostRuntime) {
 fn limits_and_refusals(rt: HostRuntime) {
     const CALLS: &[(Call, Seen)] = &[
         (Call::Peers(&[4]), Seen::Done),
-        (Call::Ready { key: 1, at: 5 }, Seen::Done),
-        (Call::Begin(5), Seen::Draw(4)),
-        (Call::Answer(Sent(true)), Seen::Refused(Fault::Unasked)),
-        (Call::Answer(Drawn(4)), Seen::Refused(Fault::OutOfRange)),
-        (Call::Answer(Drawn(0)), Seen::Draw(1)),
-        (Call::Answer(Drawn(0)), Seen::Check(4)),
-        (Call::Answer(Checked(Check::Until(9))), Seen::Over),
-        (Call::WakeUp, Seen::At(Some(9))),
-        (Call::Counts, Seen::Counts(true, 0, false)),
-        (Call::Answer(Drawn(0)), Seen::Refused(Fault::Unasked)),
+        waits!(1, 5),
+        begins!(5, 4),
+        sent!(true, Seen::Refused(Fault::Unasked)),
+        drawn!(4, Seen::Refused(Fault::OutOfRange)),
+        drawn!(0, Seen::Draw(1)),
+        drawn!(0, Seen::Check(4)),
+        until!(9, Seen::Over),
+        wakes!(9),
+        (Call::Counts, Seen::Counts(true, 0, false, 0)),
+        drawn!(0, Seen::Refused(Fault::Unasked)),
     ];
     goes(&rt, rt.alloc(), CALLS);
 }
@@ -176,21 +166,21 @@ fn limits_and_refusals(rt: HostRuntime) {
 fn targets_out_of_order(rt: HostRuntime) {
     const CALLS: &[(Call, Seen)] = &[
         (Call::Peers(&[5, 1, 3, 2]), Seen::Done),
-        (Call::Ready { key: 1, at: 5 }, Seen::Done),
+        waits!(1, 5),
         (Call::Targets(1, &[5, 2, 9]), Seen::Done),
         (Call::Targets(1, &[3, 2]), Seen::Done),
         (Call::HasTargets(1), Seen::Is(true)),
-        (Call::Begin(5), Seen::Draw(4)),
-        (Call::Answer(Drawn(0)), Seen::Draw(3)),
-        (Call::Answer(Drawn(0)), Seen::Check(2)),
-        (Call::Answer(Checked(Check::Until(9))), Seen::Draw(4)),
-        (Call::Answer(Drawn(0)), Seen::Draw(2)),
-        (Call::Answer(Drawn(1)), Seen::Check(5)),
-        (Call::Answer(Checked(Check::Until(8))), Seen::Draw(4)),
-        (Call::Answer(Drawn(0)), Seen::Draw(1)),
-        (Call::Answer(Drawn(0)), Seen::Check(3)),
-        (Call::Answer(Checked(Check::Until(20))), Seen::Over),
-        (Call::WakeUp, Seen::At(Some(8))),
+        begins!(5, 4),
+        drawn!(0, Seen::Draw(3)),
+        drawn!(0, Seen::Check(2)),
+        until!(9, Seen::Draw(4)),
+        drawn!(0, Seen::Draw(2)),
+        drawn!(1, Seen::Check(5)),
+        until!(8, Seen::Draw(4)),
+        drawn!(0, Seen::Draw(1)),
+        drawn!(0, Seen::Check(3)),
+        until!(20, Seen::Over),
+        wakes!(8),
     ];
     goes(&rt, rt.alloc(), CALLS);
 }
@@ -199,18 +189,18 @@ fn targets_out_of_order(rt: HostRuntime) {
 fn fetcher_two_kinds(rt: HostRuntime) {
     const CALLS: &[(Call, Seen)] = &[
         (Call::Peers(&[4]), Seen::Done),
-        (Call::Retry { key: 2, at: 0 }, Seen::Done),
-        (Call::WakeUp, Seen::At(Some(10))),
-        (Call::Ready { key: 1, at: 15 }, Seen::Done),
-        (Call::WakeUp, Seen::At(Some(15))),
-        (Call::Begin(15), Seen::Draw(4)),
-        (Call::Answer(Drawn(0)), Seen::Draw(1)),
-        (Call::Answer(Drawn(0)), Seen::Check(4)),
-        (Call::Answer(Checked(Check::Until(19))), Seen::Draw(5)),
-        (Call::Answer(Drawn(0)), Seen::Draw(1)),
-        (Call::Answer(Drawn(0)), Seen::Check(4)),
-        (Call::Answer(Checked(Check::Until(18))), Seen::Over),
-        (Call::WakeUp, Seen::At(Some(18))),
+        waits_again!(2, 0),
+        wakes!(10),
+        waits!(1, 15),
+        wakes!(15),
+        begins!(15, 4),
+        drawn!(0, Seen::Draw(1)),
+        drawn!(0, Seen::Check(4)),
+        until!(19, Seen::Draw(5)),
+        drawn!(0, Seen::Draw(1)),
+        drawn!(0, Seen::Check(4)),
+        until!(18, Seen::Over),
+        wakes!(18),
     ];
     goes(&rt, rt.alloc(), CALLS);
 }
@@ -219,50 +209,43 @@ fn fetcher_two_kinds(rt: HostRuntime) {
 fn fetcher_two_queues(rt: HostRuntime) {
     const CALLS: &[(Call, Seen)] = &[
         (Call::Peers(&[4]), Seen::Done),
-        (Call::Retry { key: 2, at: 0 }, Seen::Done),
-        (Call::WakeUp, Seen::At(Some(2))),
+        waits_again!(2, 0),
+        wakes!(2),
         (Call::Queues, Seen::Queues((0, None), (1, Some((2, 2))))),
-        (Call::Ready { key: 1, at: 5 }, Seen::Done),
-        (Call::WakeUp, Seen::At(Some(5))),
+        waits!(1, 5),
+        wakes!(5),
         (
             Call::Queues,
             Seen::Queues((1, Some((5, 1))), (1, Some((2, 2)))),
         ),
-        (Call::Begin(5), Seen::Draw(4)),
-        (Call::Answer(Drawn(0)), Seen::Draw(1)),
-        (Call::Answer(Drawn(0)), Seen::Check(4)),
-        (Call::Answer(Checked(Check::Until(9))), Seen::Draw(5)),
-        (Call::Answer(Drawn(0)), Seen::Draw(1)),
-        (Call::Answer(Drawn(0)), Seen::Check(4)),
-        (Call::Answer(Checked(Check::Until(8))), Seen::Over),
-        (Call::WakeUp, Seen::At(Some(8))),
+        begins!(5, 4),
+        drawn!(0, Seen::Draw(1)),
+        drawn!(0, Seen::Check(4)),
+        until!(9, Seen::Draw(5)),
+        drawn!(0, Seen::Draw(1)),
+        drawn!(0, Seen::Check(4)),
+        until!(8, Seen::Over),
+        wakes!(8),
     ];
-    goes_after(&rt, rt.alloc(), 2, CALLS);
+    goes_by(&rt, rt.alloc(), delayed(2), &[CALLS]);
 }
 
 #[test]
 fn next_due_of_both_kinds(rt: HostRuntime) {
     const CALLS: &[(Call, Seen)] = &[
-        (Call::Ready { key: 3, at: 5 }, Seen::Done),
-        (Call::Ready { key: 1, at: 100 }, Seen::Done),
+        waits!(3, 5),
+        waits!(1, 100),
         (Call::Begin(5), Seen::Over),
-        (Call::WakeUp, Seen::At(Some(100))),
-        (Call::Retry { key: 2, at: 50 }, Seen::Done),
+        wakes!(100),
+        waits_again!(2, 50),
         (Call::Begin(5), Seen::Over),
-        (Call::WakeUp, Seen::At(Some(60))),
+        wakes!(60),
         (Call::Begin(60), Seen::Over),
-        (Call::WakeUp, Seen::At(Some(100))),
+        wakes!(100),
         (Call::Begin(100), Seen::Over),
-        (Call::WakeUp, Seen::At(Some(u128::MAX))),
+        wakes!(u128::MAX),
     ];
     goes(&rt, rt.alloc(), CALLS);
-}
-
-/// The weight of peer 4.
-macro_rules! weighs {
-    ($weight:expr) => {
-        (Call::Weight(4), Seen::Weight(Some($weight)))
-    };
 }
 
 /// So many responses without bytes that took no time.
@@ -277,64 +260,71 @@ macro_rules! idle {
     };
 }
 
+/// The greatest response of peer 4 that takes the shortest time.
+const FASTEST: Call = Call::Record {
+    peer: 4,
+    count: 1,
+    elapsed: 1,
+    bytes: u64::MAX,
+};
+
 #[test]
 fn thirty_two_responses(rt: HostRuntime) {
-    const FASTEST: Call = Call::Record {
-        peer: 4,
-        count: 1,
-        elapsed: 1,
-        bytes: u64::MAX,
-    };
     const CALLS: &[(Call, Seen)] = &[
         (Call::Peers(&[4]), Seen::Done),
         (FASTEST, Seen::Done),
-        weighs!(u64::MAX),
+        weighs!(4, Some(u64::MAX)),
         idle!(31),
-        weighs!(8_589_934_592_000_000_000),
+        weighs!(4, Some(8_589_934_592_000_000_000)),
         idle!(1),
-        weighs!(4_294_967_296_000_000_000),
-        (Call::Weight(3), Seen::Weight(None)),
+        weighs!(4, Some(4_294_967_296_000_000_000)),
+        weighs!(3, None),
     ];
     goes(&rt, rt.alloc(), CALLS);
 }
 
-/// A request takes the longest time, and so does a wait before a retry.
-fn longest(alloc: Global) -> Node {
+#[test]
+fn charged_the_longest_time(rt: HostRuntime) {
+    const WEIGHT: u128 = u64::MAX as u128;
+    const CALLS: &[(Call, Seen)] = &[
+        (Call::Peers(&[4]), Seen::Done),
+        (FASTEST, Seen::Done),
+        waits!(1, 0),
+        begins!(0, 4),
+        drawn!(0, Seen::Draw(WEIGHT)),
+        drawn!(0, Seen::Check(4)),
+        clear!(Seen::Draw(1 << 64)),
+        drawn!(5, requests!(4, 5, 1)),
+        sent!(true, Seen::Over),
+        (Call::Overdue(DURATION_MAX - 1), Seen::Popped(None)),
+        weighs!(4, Some(u64::MAX)),
+        (Call::Overdue(DURATION_MAX), Seen::Popped(Some(1))),
+        weighs!(4, Some(1)),
+    ];
+    // A request takes the longest time, and so does a wait before a retry.
     let config = Config {
         me: None,
         fetch_timeout: DURATION_MAX,
         retry_delay: DURATION_MAX,
         priority_requests: false,
     };
-    Fetcher::new(alloc, config)
-}
-
-/// Has peer 4 asked for key 1 until the time is over, and charged then.
-fn charges(rt: &impl Abort, alloc: Global, fetcher: &mut Node) {
-    set_peers(rt, alloc, fetcher, &[4]);
-    recorded(fetcher, 4, 1, 1, u64::MAX);
-    asks_peer(rt, alloc, fetcher, 0, u128::from(u64::MAX));
-    assert_eq!(rt; pop_active(fetcher, DURATION_MAX - 1), None);
-    assert_eq!(rt; weight(fetcher, 4), Some(u64::MAX));
-    assert_eq!(rt; pop_active(fetcher, DURATION_MAX), Some(1));
-    assert_eq!(rt; weight(fetcher, 4), Some(1));
-}
-
-/// The same of a new fetcher.
-fn charged(rt: &impl Abort, alloc: Global) {
-    let mut fetcher = longest(alloc);
-    charges(rt, alloc, &mut fetcher);
-    drop(fetcher);
-}
-
-#[test]
-fn charged_the_longest_time(rt: HostRuntime) {
-    charged(&rt, rt.alloc());
+    goes_by(&rt, rt.alloc(), config, &[CALLS]);
 }
 
 // Fetchers of many keys.
 
 type Many = Fetcher<u16, u8>;
+
+/// A new fetcher of many keys.
+fn many(alloc: Global) -> Many {
+    let config = Config {
+        me: None,
+        fetch_timeout: 50,
+        retry_delay: 10,
+        priority_requests: false,
+    };
+    Fetcher::new(alloc, config)
+}
 
 /// A key of many waits from 10 on.
 fn waits(rt: &impl Abort, fetcher: &mut Many, key: u16) {
@@ -373,10 +363,10 @@ fn limits(rt: &impl Abort, fetcher: &mut Many) -> Option<Ask<u16, u8>> {
 fn limits_each(rt: &impl Abort, fetcher: &mut Many, count: u16) {
     let mut asked = begins_many(rt, fetcher);
     for key in 0..count {
-        assert_eq!(rt; asked, Some(Ask::Draw(4)), "key {key}");
+        equal_at(rt, &key, &asked, &Some(Ask::Draw(4)));
         asked = limits(rt, fetcher);
     }
-    assert_eq!(rt; asked, None);
+    equal(rt, &asked, &None);
 }
 
 /// When a scan of many keys may do something.
@@ -386,14 +376,14 @@ fn wake_up_many(fetcher: &Many) -> Option<u128> {
 
 /// Peer 4 comes.
 fn has_peer(rt: &impl Abort, alloc: Global, fetcher: &mut Many) {
-    let peers = peers_of(rt, alloc, &[4]);
+    let peers = [4].to_vec(alloc).expect(rt, "memory");
     assert!(rt; !fetcher.is_scanning());
     fetcher.reconcile(peers).expect(rt, "memory");
 }
 
 /// So many keys of one peer wait in a new fetcher, and each is tried once.
 fn tries_each(rt: &impl Abort, alloc: Global, count: u16) -> Option<u128> {
-    let mut fetcher = Fetcher::new(alloc, config());
+    let mut fetcher = many(alloc);
     has_peer(rt, alloc, &mut fetcher);
     waits_each(rt, &mut fetcher, count);
     limits_each(rt, &mut fetcher, count);
@@ -405,5 +395,5 @@ fn tries_each(rt: &impl Abort, alloc: Global, count: u16) -> Option<u128> {
 // A scan that looked from the first key on after each one would not end in time.
 #[test]
 fn a_scan_goes_over_each_due_key_once(rt: HostRuntime) {
-    assert_eq!(rt; tries_each(&rt, rt.alloc(), 20_000), Some(100));
+    equal(&rt, &tries_each(&rt, rt.alloc(), 20_000), &Some(100));
 }

@@ -1,10 +1,8 @@
-ghost use Rattle.std.specs.Prelude.{true};
-ghost use Rattle.std.proofs.Common.{rules};
-
 use crate::asserts::{equal, holds};
 use crate::counting::{Counting, Tally};
+use crate::names::All;
 use resolver_backlog::Pending;
-use resolver_ingress::ingress::{FetchKey, Message, Predicate, laws};
+use resolver_ingress::ingress::{FetchKey, Message, laws};
 use resolver_root::{Fetch, NonEmptyVec};
 use std::alloc::Global;
 use std::cell::Cell;
@@ -37,20 +35,6 @@ fn told_of_one(rt: &impl Abort, alloc: Global) -> Told {
 #[test]
 fn fetch_of_one_subscriber(rt: HostRuntime) {
     equal(&rt, &told_of_one(&rt, rt.alloc()), &(1, (20, 7), 1, true));
-}
-
-/// Keeps every subscriber.
-#[derive(Clone, Copy)]
-struct All;
-
-impl<K: Eq> Predicate<K, u16> for All {
-    ghost keeps = { λ _ _ _. true };
-
-    fn keep(&self, _key: &K, _subscriber: &u16) -> bool {
-        true
-    }
-
-    ghost alike = { λ q k l s t same_key same_subscriber. Prim.search rules };
 }
 
 /// A fetch of a key for one subscriber.

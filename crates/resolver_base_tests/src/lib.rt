@@ -49,8 +49,6 @@ mod priority_set;
 #[cfg(test)]
 mod producer;
 #[cfg(test)]
-mod public_key;
-#[cfg(test)]
 mod quiet;
 #[cfg(test)]
 mod requests;
@@ -61,7 +59,7 @@ mod sampling;
 #[cfg(test)]
 mod score;
 #[cfg(test)]
-mod seeded;
+mod scripts;
 #[cfg(test)]
 mod sender;
 #[cfg(test)]
@@ -69,14 +67,8 @@ mod slow;
 #[cfg(test)]
 mod sources;
 #[cfg(test)]
-mod span;
-#[cfg(test)]
 mod subscribers;
 #[cfg(test)]
-mod targets;
-#[cfg(test)]
 mod tracker;
-#[cfg(test)]
-mod unreliable;
 #[cfg(test)]
 mod wire;

@@ -1,12 +1,16 @@
-//! Names and a predicate for the tests.
+//! Names, a predicate and a delivery for the tests.
 
 ghost use Rattle.std.specs.Prelude.{◌≡◌, [], ◌∷◌, Option, None, Some, refl, true};
 ghost use Rattle.std.proofs.Common.{rules};
 
+use crate::asserts::{equal, equal_lists, holds};
 use bytes::{BufMut, BytesMut};
 use resolver_base::base::{Faithful, PublicKey, Span};
-use resolver_root::Predicate;
-use std::alloc::AllocError;
+use resolver_mailbox::mailbox::Exact;
+use resolver_root::{Delivery, NonEmptyVec, Predicate};
+use std::alloc::{AllocError, Global};
+use std::panic::Expect;
+use std::process::Abort;
 
 /// A name of one byte.
 #[derive(Clone, Copy, Debug, PartialEq, Eq, PartialOrd, Ord, Hash)]
@@ -51,10 +55,10 @@ impl Faithful for Letter {
 #[derive(Clone, Copy)]
 pub struct All;
 
-impl Predicate<Letter, u16> for All {
+impl<K: Eq, S: Eq> Predicate<K, S> for All {
     ghost keeps = { λ _ _ _. true };
 
-    fn keep(&self, _key: &Letter, _subscriber: &u16) -> bool {
+    fn keep(&self, _key: &K, _subscriber: &S) -> bool {
         true
     }
 
@@ -63,4 +67,37 @@ impl Predicate<Letter, u16> for All {
 
 impl Faithful for All {
     ghost clones = { Prim.search rules };
+}
+
+impl Exact for All {
+    fn is_same(&self, _other: &All) -> bool {
+        true
+    }
+}
+
+/// A delivery of a key for subscriber 10.
+pub fn delivery(rt: &impl Abort, alloc: Global, key: u8) -> Delivery<Letter, u8> {
+    Delivery {
+        key: Letter(key),
+        subscribers: NonEmptyVec::new(alloc, (10, 7)).expect(rt, "memory"),
+    }
+}
+
+#[test]
+fn is_read_as_it_was_written(rt: HostRuntime) {
+    let mut out = BytesMut::new(rt.alloc());
+    Letter(123).write(&mut out).expect(&rt, "memory");
+    Letter(5).write(&mut out).expect(&rt, "memory");
+    equal_lists(&rt, out.as_slice(), &[123, 5]);
+    equal(&rt, &Letter::read(&[123]), &Some(Letter(123)));
+}
+
+fn is_before<P: PublicKey>(one: &P, other: &P) -> bool {
+    one < other
+}
+
+#[test]
+fn names_are_ordered(rt: HostRuntime) {
+    holds(&rt, is_before(&Letter(1), &Letter(2)));
+    holds(&rt, !is_before(&Letter(2), &Letter(2)));
 }

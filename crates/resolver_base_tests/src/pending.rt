@@ -1,4 +1,4 @@
-//! What waits while a mailbox is full.
+//! What waits while a mailbox is full, what is said of a fetch beside its key, and copies of messages.
 //!
 //! A test is a table of calls, and the text of what they answer. What waits is made, used and dropped
 //! in one place, so that the tests are proved without what it is.
@@ -6,17 +6,17 @@
 ghost use Rattle.std.specs.Prelude.{nat_le};
 ghost use Rattle.std.proofs.Common.{rules};
 
-use crate::asserts::equal_texts;
+use crate::asserts::{equal, equal_texts};
 use resolver_backlog::Pending;
-use resolver_ingress::ingress::{FetchKey, Kept, Message, Test};
-use resolver_root::Fetch;
+use resolver_ingress::ingress::{FetchKey, Kept, Message, Metadata, Test};
+use resolver_root::{Fetch, NonEmptyVec};
 use std::alloc::Global;
 use std::fmt::Write;
 use std::panic::Expect;
 use std::process::Abort;
 
 /// Passes the subscribers of the keys from a first one on.
-#[derive(Drop)]
+#[derive(Clone, Drop)]
 struct FirstKey(u16);
 
 impl Test<u16, u16> for FirstKey {
@@ -29,9 +29,15 @@ impl Test<u16, u16> for FirstKey {
     ghost alike = { λ f k l s t same_key same_subscriber. Prim.search rules };
 }
 
-type Told = Message<u16, u16, (), Kept<FirstKey>>;
+/// The peers that may be asked; any, where there are none.
+type Targets = Option<NonEmptyVec<u16>>;
 
-type Waiting = Pending<u16, u16, (), Kept<FirstKey>>;
+type Told = Message<u16, u16, Targets, Kept<FirstKey>>;
+
+type Waiting = Pending<u16, u16, Targets, Kept<FirstKey>>;
+
+/// A key with the peers that it may be asked of; with none of them any peer may be asked.
+type Aimed<'a> = (u16, &'a [u16]);
 
 /// A call.
 #[derive(Clone, Copy)]
@@ -70,6 +76,33 @@ fn fetch_below(rt: &impl Abort, alloc: Global, pending: &mut Waiting, end: u16) 
     for key in 0..end {
         fetch(rt, alloc, pending, key, 10);
     }
+}
+
+/// These peers; with none of them any peer may be asked.
+fn targets(rt: &impl Abort, alloc: Global, peers: &[u16]) -> Targets {
+    NonEmptyVec::try_from(peers.to_vec(alloc).expect(rt, "memory")).ok()
+}
+
+/// A message that fetches each of these for the subscriber 10.
+fn aimed(rt: &impl Abort, alloc: Global, keys: &[Aimed]) -> Told {
+    let mut items = Vec::new(alloc);
+    for &(key, peers) in keys {
+        let item = FetchKey {
+            key,
+            subscribers: NonEmptyVec::new(alloc, (10, 0)).expect(rt, "memory"),
+            metadata: targets(rt, alloc, peers),
+        };
+        items.push(item).expect(rt, "memory");
+    }
+    Message::Fetch(items)
+}
+
+/// Hands on a copy of a message, which is let go before.
+fn hand_copy(rt: &impl Abort, alloc: Global, pending: &mut Waiting, told: Told) {
+    let copy = told.copy(alloc).expect(rt, "memory");
+    drop(told);
+    pending.handle(copy).expect(rt, "memory");
+    pending.law();
 }
 
 fn retain(rt: &impl Abort, pending: &mut Waiting, first: u16) {
@@ -120,19 +153,29 @@ fn is_empty(pending: &Waiting) -> bool {
     pending.is_empty()
 }
 
-/// Writes a fetch: its key, and its subscribers with their marks.
-fn spell_item(rt: &impl Abort, text: &mut String, item: &FetchKey<u16, u16, ()>) {
-    write!(text, " {}", item.key).expect(rt, "memory");
-    for (name, mark) in item.subscribers.as_slice() {
+/// Writes the peers that may be asked.
+fn spell_targets(rt: &impl Abort, text: &mut String, targets: &Targets) {
+    let Some(targets) = targets else {
+        return write!(text, " any").expect(rt, "memory");
+    };
+    for peer in targets.as_slice() {
+        write!(text, " {peer}").expect(rt, "memory");
+    }
+}
+
+/// Writes subscribers with their marks.
+fn spell_subscribers(rt: &impl Abort, text: &mut String, subscribers: &[(u16, u64)]) {
+    for (name, mark) in subscribers {
         write!(text, " {name}:{mark}").expect(rt, "memory");
     }
 }
 
-/// Writes fetches, with a comma behind each.
-fn spell_items(rt: &impl Abort, text: &mut String, items: &[FetchKey<u16, u16, ()>]) {
+/// Writes fetches: each key with its peers, and then its subscribers.
+fn spell_items(rt: &impl Abort, text: &mut String, items: &[FetchKey<u16, u16, Targets>]) {
     for item in items {
-        spell_item(rt, text, item);
-        write!(text, ",").expect(rt, "memory");
+        write!(text, " {} of", item.key).expect(rt, "memory");
+        spell_targets(rt, text, &item.metadata);
+        spell_subscribers(rt, text, item.subscribers.as_slice());
     }
 }
 
@@ -192,57 +235,123 @@ fn told(rt: &impl Abort, alloc: Global, calls: &[Call]) -> String {
     text
 }
 
+/// Drains that take nothing and tests alone; tests that keep the last key; and what is taken one by one.
+const WAITING: &[(&[Call], &str)] = &[
+    (
+        &[
+            Call::Fetch(2, 10),
+            Call::Fetch(1, 20),
+            Call::Retain(0),
+            Call::Reject,
+            Call::TakeTests,
+            Call::Fetch(2, 11),
+            Call::Fetch(3, 30),
+            Call::TakeAll,
+            Call::IsEmpty,
+        ],
+        " tests 1 tests 0 2 of any 10:0 11:0 1 of any 20:0 3 of any 30:0 true",
+    ),
+    (
+        &[
+            Call::FetchBelow(100),
+            Call::Retain(99),
+            Call::Fetch(99, 11),
+            Call::Fetch(0, 12),
+            Call::TakeAll,
+            Call::IsEmpty,
+        ],
+        " tests 1 99 of any 10:0 11:0 0 of any 12:0 true",
+    ),
+    (
+        &[
+            Call::Pop,
+            Call::Fetch(1, 10),
+            Call::Retain(0),
+            Call::Fetch(2, 20),
+            Call::Pop,
+            Call::Pop,
+            Call::Pop,
+        ],
+        " none from 0 1 of any 10:0 2 of any 20:0 none",
+    ),
+];
+
 #[test]
-fn overflow_rejected_drain(rt: HostRuntime) {
-    const CALLS: &[Call] = &[
-        Call::Fetch(2, 10),
-        Call::Fetch(1, 20),
-        Call::Retain(0),
-        Call::Reject,
-        Call::TakeTests,
-        Call::Fetch(2, 11),
-        Call::Fetch(3, 30),
-        Call::TakeAll,
-        Call::IsEmpty,
-    ];
-    equal_texts(
-        &rt,
-        told(&rt, rt.alloc(), CALLS).as_str(),
-        " tests 1 tests 0 2 10:0 11:0, 1 20:0, 3 30:0, true",
-    );
+fn what_waits_is_taken(rt: HostRuntime) {
+    for (calls, answers) in WAITING {
+        equal_texts(&rt, told(&rt, rt.alloc(), calls).as_str(), answers);
+    }
+}
+
+/// Messages that are copied and handed on, and what waits then: targets that are joined, or that any peer may be
+/// asked, and messages of no fetch, of one and of three, where nothing waits and where key 1 does.
+const COPIED: &[(&[&[Aimed]], &str)] = &[
+    (&[&[(1, &[2, 3])]], " 1 of 2 3 10:0"),
+    (&[&[(1, &[2, 3])], &[(1, &[3, 4])]], " 1 of 2 3 4 10:0"),
+    (&[&[(1, &[2])], &[(1, &[])], &[(1, &[3])]], " 1 of any 10:0"),
+    (&[&[]], " none"),
+    (&[&[(4, &[])]], " 4 of any 10:0"),
+    (
+        &[&[(4, &[]), (1, &[]), (3, &[])]],
+        " 4 of any 10:0 1 of any 10:0 3 of any 10:0",
+    ),
+    (&[&[(1, &[])], &[]], " 1 of any 10:0"),
+    (&[&[(1, &[])], &[(4, &[])]], " 1 of any 10:0 4 of any 10:0"),
+    (
+        &[&[(1, &[])], &[(4, &[]), (1, &[]), (3, &[])]],
+        " 1 of any 10:0 4 of any 10:0 3 of any 10:0",
+    ),
+];
+
+/// Hands on a copy of each message.
+fn hand_copies(rt: &impl Abort, alloc: Global, pending: &mut Waiting, messages: &[&[Aimed]]) {
+    for keys in messages {
+        hand_copy(rt, alloc, pending, aimed(rt, alloc, keys));
+    }
+}
+
+/// What waits first once a copy of each message was handed on where nothing waited.
+fn handed(rt: &impl Abort, alloc: Global, messages: &[&[Aimed]]) -> String {
+    let mut text = String::new(alloc);
+    let mut pending = Pending::new(alloc);
+    hand_copies(rt, alloc, &mut pending, messages);
+    spell_first(rt, &mut text, &mut pending);
+    drop(pending);
+    text
 }
 
 #[test]
-fn overflow_retain(rt: HostRuntime) {
-    const CALLS: &[Call] = &[
-        Call::FetchBelow(100),
-        Call::Retain(99),
-        Call::Fetch(99, 11),
-        Call::Fetch(0, 12),
-        Call::TakeAll,
-        Call::IsEmpty,
-    ];
-    equal_texts(
-        &rt,
-        told(&rt, rt.alloc(), CALLS).as_str(),
-        " tests 1 99 10:0 11:0, 0 12:0, true",
-    );
+fn copies_wait(rt: HostRuntime) {
+    for (messages, answers) in COPIED {
+        equal_texts(&rt, handed(&rt, rt.alloc(), messages).as_str(), answers);
+    }
+}
+
+/// The copy of what an earlier and a later fetch say together.
+fn merged(rt: &impl Abort, alloc: Global, earlier: &[u16], later: &[u16]) -> String {
+    let mut text = String::new(alloc);
+    let mut all = targets(rt, alloc, earlier);
+    all.merge(alloc, targets(rt, alloc, later))
+        .expect(rt, "memory");
+    spell_targets(rt, &mut text, &all.copy().expect(rt, "memory"));
+    text
 }
 
 #[test]
-fn first_is_taken_by_itself(rt: HostRuntime) {
-    const CALLS: &[Call] = &[
-        Call::Pop,
-        Call::Fetch(1, 10),
-        Call::Retain(0),
-        Call::Fetch(2, 20),
-        Call::Pop,
-        Call::Pop,
-        Call::Pop,
+fn targets_are_joined_and_copied(rt: HostRuntime) {
+    const JOINED: &[(&[u16], &[u16], &str)] = &[
+        (&[2, 3], &[2, 3], " 2 3"),
+        (&[], &[], " any"),
+        (&[5], &[9, 8, 7, 6, 5, 4, 3, 4, 5, 6], " 5 9 8 7 6 4 3"),
     ];
-    equal_texts(
-        &rt,
-        told(&rt, rt.alloc(), CALLS).as_str(),
-        " none from 0 1 10:0, 2 20:0, none",
-    );
+    for (earlier, later, seen) in JOINED {
+        equal_texts(&rt, merged(&rt, rt.alloc(), earlier, later).as_str(), seen);
+    }
+}
+
+#[test]
+fn nothing_said_stays(rt: HostRuntime) {
+    let mut all = ();
+    all.merge(rt.alloc(), ()).expect(&rt, "memory");
+    equal(&rt, &all.copy().expect(&rt, "memory"), &());
 }

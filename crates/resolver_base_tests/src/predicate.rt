@@ -5,12 +5,12 @@ use crate::asserts::holds;
 use resolver_root::Predicate;
 
 /// Keeps the even subscribers of every key.
-struct Even;
+pub struct Even;
 
-impl Predicate<u8, u16> for Even {
+impl<K: Eq> Predicate<K, u16> for Even {
     ghost keeps = { λ _ _ subscriber. subscriber % 2 == 0 };
 
-    fn keep(&self, _key: &u8, subscriber: &u16) -> bool {
+    fn keep(&self, _key: &K, subscriber: &u16) -> bool {
         *subscriber % 2 == 0
     }
 

@@ -1,3 +1,4 @@
+use crate::asserts::holds;
 use crate::names::Letter;
 use futures::task::Poll;
 use futures::test::MockTask;
@@ -21,8 +22,8 @@ fn quiet_sources_give_nothing(rt: HostRuntime) {
     let task = MockTask::new(&rt).expect(&rt, "a task");
     let mut quiet = Quiet::new();
     for _ in 0..3 {
-        assert!(rt; has_no_set(&task, &mut quiet));
-        assert!(rt; blocks_nobody(&task, &mut quiet));
-        assert!(rt; !task.is_woken());
+        holds(&rt, has_no_set(&task, &mut quiet));
+        holds(&rt, blocks_nobody(&task, &mut quiet));
+        holds(&rt, !task.is_woken());
     }
 }

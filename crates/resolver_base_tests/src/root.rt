@@ -1,4 +1,4 @@
-use crate::asserts::{equal, equal_lists, holds};
+use crate::asserts::{copied, equal, equal_lists, holds};
 use resolver_root::root::laws;
 use resolver_root::{Delivery, Fetch, NonEmptyVec, Outcome, Resolution};
 use std::alloc::Global;
@@ -88,10 +88,6 @@ fn deliveries_compare_whatever_their_marks(rt: HostRuntime) {
         &laws::order_of_deliveries(&one, &other),
         &Ordering::Equal,
     );
-}
-
-fn copied<T: Clone>(rt: &impl Abort, value: &T) -> T {
-    value.clone().expect(rt, "memory")
 }
 
 #[test]

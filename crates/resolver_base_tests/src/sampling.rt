@@ -1,6 +1,8 @@
 //! What indexes and selections choose.
 
-use crate::asserts::{equal, holds};
+ghost use Rattle.std.specs.Prelude.{◌≡◌};
+
+use crate::asserts::{equal, equal_at, holds};
 use resolver_request::sampling::{Selection, Visits, WeightedIndex, is_weighted};
 use std::alloc::Global;
 use std::panic::Expect;
@@ -11,7 +13,7 @@ fn has_weights(rt: &impl Abort, index: &WeightedIndex, weights: &[u64]) {
     equal(rt, &index.count(), &weights.len());
     for (place, weight) in weights.iter().enumerate() {
         holds(rt, place < index.count());
-        assert_eq!(rt; index.weight(place), *weight, "at {place}");
+        equal_at(rt, &place, &index.weight(place), weight);
     }
 }
 
@@ -27,23 +29,43 @@ fn begun(rt: &impl Abort, index: WeightedIndex) -> Selection {
     index.without_replacement().expect(rt, "memory")
 }
 
+/// An index that is made of these weights.
+fn index_of(rt: &impl Abort, alloc: Global, weights: &[u64]) -> WeightedIndex
+    ensures { result ≡ weights.now }
+{
+    WeightedIndex::new(alloc, weights).expect(rt, "memory")
+}
+
+/// Compares the places that numbers choose, and what the weights come to together. No choice goes to more than
+/// so many places.
+fn picks(
+    rt: &impl Abort,
+    index: &WeightedIndex,
+    total: u128,
+    most: u64,
+    choices: &[(u128, usize)],
+) {
+    equal(rt, &index.total(), &total);
+    for (number, place) in choices {
+        let mut visits = Visits::new();
+        holds(rt, *number < index.total());
+        equal_at(rt, number, &index.pick(*number), place);
+        equal_at(rt, number, &index.pick_counted(*number, &mut visits), place);
+        holds(rt, visits.count() <= most);
+    }
+}
+
 #[test]
 fn index_choices(rt: HostRuntime) {
-    let index = WeightedIndex::new(rt.alloc(), &[3, 0, 2]).expect(&rt, "memory");
-    equal(&rt, &index.total(), &5);
-    for (number, place) in [(0, 0), (1, 0), (2, 0), (3, 2), (4, 2)] {
-        holds(&rt, number < index.total());
-        assert_eq!(rt; index.pick(number), place, "at {number}");
-    }
+    const CHOICES: &[(u128, usize)] = &[(0, 0), (1, 0), (2, 0), (3, 2), (4, 2)];
+    let index = index_of(&rt, rt.alloc(), &[3, 0, 2]);
+    picks(&rt, &index, 5, 3, CHOICES);
     drop(index);
 }
 
 #[test]
 fn takes_one_place(rt: HostRuntime) {
-    let mut selection = begun(
-        &rt,
-        WeightedIndex::new(rt.alloc(), &[3, 0, 2]).expect(&rt, "memory"),
-    );
+    let mut selection = begun(&rt, index_of(&rt, rt.alloc(), &[3, 0, 2]));
     holds(&rt, selection.left_total() > 0);
     equal(&rt, &selection.take_weighted(0), &0);
     equal(&rt, &selection.left_total(), &2);
@@ -53,7 +75,7 @@ fn takes_one_place(rt: HostRuntime) {
 
 #[test]
 fn takes_all_places(rt: HostRuntime) {
-    let mut index = WeightedIndex::new(rt.alloc(), &[1, 1, 1, 1]).expect(&rt, "memory");
+    let mut index = index_of(&rt, rt.alloc(), &[1, 1, 1, 1]);
     equal(&rt, &index.count(), &4);
     index.set(1, 0);
     index.update(&[(0, 7), (2, 2), (0, 3), (3, 5)]);
@@ -74,10 +96,9 @@ fn takes_all_places(rt: HostRuntime) {
 
 #[test]
 fn nothing_to_choose(rt: HostRuntime) {
-    let none: [u64; 0] = [];
-    let zeros = [0, 0, 0];
-    for weights in [none.as_slice(), zeros.as_slice()] {
-        let index = WeightedIndex::new(rt.alloc(), weights).expect(&rt, "memory");
+    const ZEROS: &[&[u64]] = &[&[], &[0, 0, 0]];
+    for weights in ZEROS {
+        let index = index_of(&rt, rt.alloc(), weights);
         equal(&rt, &index.total(), &0);
         let selection = begun(&rt, index);
         holds(&rt, selection.is_empty());
@@ -89,13 +110,17 @@ fn nothing_to_choose(rt: HostRuntime) {
 
 #[test]
 fn weights_of_each_length(rt: HostRuntime) {
-    let none: [u64; 0] = [];
-    for weights in [none.as_slice(), [7].as_slice(), [3, 0, 2].as_slice()] {
-        let index = WeightedIndex::new(rt.alloc(), weights).expect(&rt, "memory");
+    const LENGTHS: &[&[u64]] = &[&[], &[7], &[3, 0, 2]];
+    for weights in LENGTHS {
+        let index = index_of(&rt, rt.alloc(), weights);
         has_weights(&rt, &index, weights);
         drop(index);
     }
-    let mut index = WeightedIndex::new(rt.alloc(), &[1, 1, 1]).expect(&rt, "memory");
+}
+
+#[test]
+fn updates_of_each_length(rt: HostRuntime) {
+    let mut index = index_of(&rt, rt.alloc(), &[1, 1, 1]);
     index.update(&[]);
     has_weights(&rt, &index, &[1, 1, 1]);
     holds(&rt, index.count() == 3);
@@ -108,15 +133,12 @@ fn weights_of_each_length(rt: HostRuntime) {
 
 #[test]
 fn widest_weights(rt: HostRuntime) {
-    let index = WeightedIndex::new(rt.alloc(), &[u64::MAX; 3]).expect(&rt, "memory");
-    equal(&rt, &index.total(), &55_340_232_221_128_654_845);
-    for (number, place) in [
+    const CHOICES: &[(u128, usize)] = &[
         (18_446_744_073_709_551_614, 0),
         (36_893_488_147_419_103_230, 2),
-    ] {
-        holds(&rt, number < index.total());
-        assert_eq!(rt; index.pick(number), place, "at {number}");
-    }
+    ];
+    let index = index_of(&rt, rt.alloc(), &[u64::MAX; 3]);
+    picks(&rt, &index, 55_340_232_221_128_654_845, 3, CHOICES);
     drop(index);
 }
 
@@ -131,18 +153,9 @@ fn thousand_places(rt: &impl Abort, alloc: Global) -> WeightedIndex {
 
 #[test]
 fn index_thousand_places(rt: HostRuntime) {
+    const CHOICES: &[(u128, usize)] = &[(0, 1), (498_500, 998), (499_499, 999)];
     let index = thousand_places(&rt, rt.alloc());
-    equal(&rt, &index.total(), &499_500);
-    for (number, place) in [(0, 1), (498_500, 998), (499_499, 999)] {
-        let mut visits = Visits::new();
-        holds(&rt, number < index.total());
-        assert_eq!(rt;
-            index.pick_counted(number, &mut visits),
-            place,
-            "at {number}"
-        );
-        assert!(rt; visits.count() <= 11, "at {number}");
-    }
+    picks(&rt, &index, 499_500, 11, CHOICES);
     drop(index);
 }
 
@@ -159,23 +172,8 @@ fn index_sets_one_of_a_thousand_places(rt: HostRuntime) {
 }
 
 #[test]
-fn index_wide_weights(rt: HostRuntime) {
-    let index = WeightedIndex::new(rt.alloc(), &[u64::MAX; 3]).expect(&rt, "memory");
-    equal(&rt, &index.total(), &55_340_232_221_128_654_845);
-    let mut visits = Visits::new();
-    let number = 36_893_488_147_419_103_230;
-    holds(&rt, number < index.total());
-    equal(&rt, &index.pick_counted(number, &mut visits), &2);
-    holds(&rt, visits.count() <= 3);
-    drop(index);
-}
-
-#[test]
 fn draws_are_counted(rt: HostRuntime) {
-    let mut selection = begun(
-        &rt,
-        WeightedIndex::new(rt.alloc(), &[3, 0, 2, 5]).expect(&rt, "memory"),
-    );
+    let mut selection = begun(&rt, index_of(&rt, rt.alloc(), &[3, 0, 2, 5]));
     let mut visits = Visits::new();
     holds(&rt, selection.left_count() > 1);
     equal(&rt, &selection.take_uniform_counted(1, &mut visits), &2);
@@ -189,7 +187,8 @@ fn draws_are_counted(rt: HostRuntime) {
 
 #[test]
 fn four_numbers_mean_weighted(rt: HostRuntime) {
-    for (number, weighted) in [(0, true), (3, true), (4, false), (u128::MAX, false)] {
-        assert_eq!(rt; is_weighted(number), weighted, "at {number}");
+    const NUMBERS: &[(u128, bool)] = &[(0, true), (3, true), (4, false), (u128::MAX, false)];
+    for (number, weighted) in NUMBERS {
+        equal_at(&rt, number, &is_weighted(*number), weighted);
     }
 }

@@ -1,6 +1,6 @@
 //! Weights of observed peers, computed outside of this crate.
 
-use crate::asserts::equal;
+use crate::asserts::{equal, equal_at};
 use resolver_request::score::{DURATION_MAX, Score};
 use std::panic::Expect;
 use std::process::Abort;
@@ -13,11 +13,7 @@ fn weighs(rt: &impl Abort, observations: &[(u128, u64, u64)]) {
     equal(rt, &score.weight(), &1);
     for (elapsed, bytes, weight) in observations {
         score.record(*elapsed, *bytes);
-        assert_eq!(rt;
-            score.weight(),
-            *weight,
-            "after {bytes} bytes in {elapsed} ns"
-        );
+        equal_at(rt, &(elapsed, bytes), &score.weight(), weight);
     }
 }
 

@@ -3,32 +3,16 @@
 //! A test is a table of calls, and the text of what they answer. A tracker is made, used and dropped
 //! in few places, so that the tests are proved without what a tracker is.
 
-ghost use Rattle.std.specs.Prelude.{◌==◌, ◌%◌};
-ghost use Rattle.std.proofs.Common.{rules};
-
-use crate::asserts::{equal, equal_texts, holds};
+use crate::asserts::{copied, equal, equal_texts, holds};
 use crate::counting::{Counting, Tally};
+use crate::predicate::Even;
 use resolver_demand::subscribers::{Subscribers, Tracker};
-use resolver_ingress::ingress::Predicate;
 use resolver_root::NonEmptyVec;
 use std::alloc::Global;
 use std::cell::Cell;
 use std::fmt::Write;
 use std::panic::Expect;
 use std::process::Abort;
-
-/// Keeps the even subscribers.
-struct Even;
-
-impl Predicate<u16, u16> for Even {
-    ghost keeps = { λ _ _ subscriber. subscriber % 2 == 0 };
-
-    fn keep(&self, _key: &u16, subscriber: &u16) -> bool {
-        *subscriber % 2 == 0
-    }
-
-    ghost alike = { λ q k l s t same_key same_subscriber. Prim.search rules };
-}
 
 type Demand = Tracker<u16, u16>;
 
@@ -179,120 +163,89 @@ fn told(rt: &impl Abort, alloc: Global, calls: &[Call]) -> String {
     text
 }
 
+/// Calls, and what they answer together.
+type Row<'a> = (&'a [Call<'a>], &'a str);
+
+/// Subscribers come with their marks, and go as they are delivered to or don't pass; keys go with the last of them,
+/// and are new again.
+const ROWS: &[Row] = &[
+    (
+        &[
+            Call::Insert(1, &[(10, 0), (11, 0)]),
+            Call::Insert(1, &[(11, 0), (12, 0)]),
+            Call::Pending(1),
+            Call::Delivered(1, &[(10, 0), (12, 0)]),
+            Call::Pending(1),
+        ],
+        " true\n false\n 10:0 11:0 12:0\n 11:0\n 11:0\n",
+    ),
+    (
+        &[
+            Call::Insert(1, &[(10, 7)]),
+            Call::Insert(1, &[(10, 8), (11, 8)]),
+            Call::Pending(1),
+        ],
+        " true\n false\n 10:7 11:8\n",
+    ),
+    (
+        &[
+            Call::Insert(1, &[(11, 0)]),
+            Call::Insert(2, &[(20, 0), (21, 0)]),
+            Call::Retain,
+            Call::Pending(2),
+            Call::Pending(1),
+        ],
+        " true\n true\n 1\n 20:0\n nobody\n",
+    ),
+    (
+        &[
+            Call::Insert(3, &[(11, 0)]),
+            Call::Insert(1, &[(11, 0)]),
+            Call::Insert(2, &[(11, 0)]),
+            Call::Retain,
+            Call::IsEmpty,
+            Call::Retain,
+        ],
+        " true\n true\n true\n 1 2 3\n true\n\n",
+    ),
+    (
+        &[
+            Call::Insert(1, &[(12, 0), (10, 0), (11, 0)]),
+            Call::Delivered(1, &[(11, 0)]),
+        ],
+        " true\n 10:0 12:0\n",
+    ),
+    (
+        &[
+            Call::Insert(1, &[(10, 0), (11, 0)]),
+            Call::Delivered(1, &[(10, 0), (11, 0)]),
+            Call::Contains(1),
+            Call::Delivered(1, &[(10, 0), (11, 0)]),
+        ],
+        " true\n nobody\n false\n nobody\n",
+    ),
+    (
+        &[
+            Call::Attach(1, &[(12, 7), (10, 7)]),
+            Call::Contains(1),
+            Call::InsertNew(1, &[(12, 7), (10, 7)]),
+            Call::InsertNew(2, &[(20, 1), (21, 2), (22, 3)]),
+            Call::Attach(1, &[(10, 8), (11, 8)]),
+            Call::Attach(2, &[(19, 4), (22, 5), (23, 6)]),
+            Call::Pending(1),
+            Call::Pending(2),
+            Call::InsertNew(3, &[(30, 1), (30, 2)]),
+            Call::Pending(3),
+        ],
+        " 12:7 10:7\n false\n\n\n nobody\n nobody\n 10:7 11:8 12:7\n 19:4 20:1 21:2 22:3 23:6\n\n 30:1\n",
+    ),
+];
+
 #[test]
 fn tracker(rt: HostRuntime) {
-    const CALLS: &[Call] = &[
-        Call::Insert(1, &[(10, 0), (11, 0)]),
-        Call::Insert(1, &[(11, 0), (12, 0)]),
-        Call::Pending(1),
-        Call::Delivered(1, &[(10, 0), (12, 0)]),
-        Call::Pending(1),
-    ];
-    equal_texts(
-        &rt,
-        told(&rt, rt.alloc(), CALLS).as_str(),
-        " true\n false\n 10:0 11:0 12:0\n 11:0\n 11:0\n",
-    );
-}
-
-#[test]
-fn tracker_marks(rt: HostRuntime) {
-    const CALLS: &[Call] = &[
-        Call::Insert(1, &[(10, 7)]),
-        Call::Insert(1, &[(10, 8), (11, 8)]),
-        Call::Pending(1),
-    ];
-    equal_texts(
-        &rt,
-        told(&rt, rt.alloc(), CALLS).as_str(),
-        " true\n false\n 10:7 11:8\n",
-    );
-}
-
-#[test]
-fn tracker_retain(rt: HostRuntime) {
-    const CALLS: &[Call] = &[
-        Call::Insert(1, &[(11, 0)]),
-        Call::Insert(2, &[(20, 0), (21, 0)]),
-        Call::Retain,
-        Call::Pending(2),
-        Call::Pending(1),
-    ];
-    equal_texts(
-        &rt,
-        told(&rt, rt.alloc(), CALLS).as_str(),
-        " true\n true\n 1\n 20:0\n nobody\n",
-    );
-}
-
-#[test]
-fn tracker_retain_empties_three(rt: HostRuntime) {
-    const CALLS: &[Call] = &[
-        Call::Insert(3, &[(11, 0)]),
-        Call::Insert(1, &[(11, 0)]),
-        Call::Insert(2, &[(11, 0)]),
-        Call::Retain,
-        Call::IsEmpty,
-        Call::Retain,
-    ];
-    equal_texts(
-        &rt,
-        told(&rt, rt.alloc(), CALLS).as_str(),
-        " true\n true\n true\n 1 2 3\n true\n\n",
-    );
-}
-
-#[test]
-fn tracker_one_of_three_delivered(rt: HostRuntime) {
-    const CALLS: &[Call] = &[
-        Call::Insert(1, &[(12, 0), (10, 0), (11, 0)]),
-        Call::Delivered(1, &[(11, 0)]),
-    ];
-    equal_texts(
-        &rt,
-        told(&rt, rt.alloc(), CALLS).as_str(),
-        " true\n 10:0 12:0\n",
-    );
-}
-
-#[test]
-fn tracker_all_delivered(rt: HostRuntime) {
-    const CALLS: &[Call] = &[
-        Call::Insert(1, &[(10, 0), (11, 0)]),
-        Call::Delivered(1, &[(10, 0), (11, 0)]),
-        Call::Contains(1),
-        Call::Delivered(1, &[(10, 0), (11, 0)]),
-    ];
-    equal_texts(
-        &rt,
-        told(&rt, rt.alloc(), CALLS).as_str(),
-        " true\n nobody\n false\n nobody\n",
-    );
-}
-
-#[test]
-fn tracker_takes_a_new_key_or_attaches(rt: HostRuntime) {
-    const CALLS: &[Call] = &[
-        Call::Attach(1, &[(12, 7), (10, 7)]),
-        Call::Contains(1),
-        Call::InsertNew(1, &[(12, 7), (10, 7)]),
-        Call::InsertNew(2, &[(20, 1), (21, 2), (22, 3)]),
-        Call::Attach(1, &[(10, 8), (11, 8)]),
-        Call::Attach(2, &[(19, 4), (22, 5), (23, 6)]),
-        Call::Pending(1),
-        Call::Pending(2),
-        Call::InsertNew(3, &[(30, 1), (30, 2)]),
-        Call::Pending(3),
-    ];
-    equal_texts(
-        &rt,
-        told(&rt, rt.alloc(), CALLS).as_str(),
-        " 12:7 10:7\n false\n\n\n nobody\n nobody\n 10:7 11:8 12:7\n 19:4 20:1 21:2 22:3 23:6\n\n 30:1\n",
-    );
-}
-
-fn copied<T: Clone>(rt: &impl Abort, value: &T) -> T {
-    value.clone().expect(rt, "memory")
+    for (calls, wanted) in ROWS {
+        equal_texts(&rt, told(&rt, rt.alloc(), calls).as_str(), wanted);
+    }
 }
 
 /// A clone, by the tracker's own call.

@@ -4,7 +4,7 @@
 //! places, so that the tests are proved without what a tracker is.
 
 use crate::asserts::equal_texts;
-use crate::names::Letter;
+use crate::names::{Letter, delivery};
 use crate::slow::Slow;
 use bytes::Bytes;
 use futures::Stream;
@@ -13,7 +13,7 @@ use futures::task::Poll;
 use futures::test::MockTask;
 use resolver_demand::delivery::{Aborted, Completion};
 use resolver_loop::{Consumer, Tracker, mocks};
-use resolver_root::{Delivery, NonEmptyVec, Outcome, Resolution};
+use resolver_root::{Outcome, Resolution};
 use std::alloc::Global;
 use std::fmt::Write;
 use std::panic::Expect;
@@ -76,25 +76,19 @@ where
     C: Consumer<Key = Letter, Value = Bytes, Subscriber = u8> + Drop,
     C::Outcome: Drop,
 {
-    assert!(rt; tracker.contains(&Letter(key)));
-    assert!(rt; tracker.entries().number(&Letter(key)).is_none());
-    let delivery = Delivery {
-        key: Letter(key),
-        subscribers: NonEmptyVec::new(alloc, (10, 7)).expect(rt, "memory"),
-    };
+    let delivery = delivery(rt, alloc, key);
+    assert!(rt; tracker.contains(&delivery.key));
+    assert!(rt; tracker.entries().number(&delivery.key).is_none());
     tracker
         .deliver(delivery, SOURCE, Bytes::from_static(b"v"))
         .expect(rt, "a delivery")
 }
 
 fn redeliver(rt: &impl Abort, alloc: Global, tracker: &mut Prompt<()>, key: u8) -> u64 {
+    let delivery = delivery(rt, alloc, key);
     let entries = tracker.entries();
-    assert!(rt; entries.response(&Letter(key)).is_some());
-    assert!(rt; entries.number(&Letter(key)).is_none());
-    let delivery = Delivery {
-        key: Letter(key),
-        subscribers: NonEmptyVec::new(alloc, (10, 7)).expect(rt, "memory"),
-    };
+    assert!(rt; entries.response(&delivery.key).is_some());
+    assert!(rt; entries.number(&delivery.key).is_none());
     tracker.redeliver(delivery).expect(rt, "a delivery")
 }
 

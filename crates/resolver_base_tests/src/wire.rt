@@ -1,8 +1,9 @@
 //! Messages of the wire against their bytes.
 
+ghost use Rattle.std.specs.Prelude.{◌<◌, ◌^◌, length};
 ghost use Rattle.resolver_request.specs.Spelling.{IsShort};
 
-use crate::asserts::{equal, equal_lists, holds};
+use crate::asserts::{equal, equal_at, equal_lists, holds};
 use crate::keys::{Key, Zeros};
 use bytes::{Bytes, BytesMut};
 use resolver_base::base::Fault;
@@ -27,20 +28,41 @@ fn wire_vectors(rt: HostRuntime) {
     spelled(&rt, alloc, &Message { id: 255, payload }, &ERROR_BYTES);
     let payload = Payload::Response(Bytes::from_static(b"Hello, world!"));
     spelled(&rt, alloc, &Message { id: 4321, payload }, &RESPONSE_BYTES);
+}
 
-    let cases: [(&[u8], Fault); 4] = [
+#[test]
+fn greatest_sizes(rt: HostRuntime) {
+    equal(&rt, &max_message_size::<Key>(0), &14);
+    equal(&rt, &max_message_size::<Key>(100), &114);
+    equal(&rt, &max_message_size::<Zeros>(0), &73);
+}
+
+#[test]
+fn bytes_refused(rt: HostRuntime) {
+    const REFUSED: &[(&[u8], Fault)] = &[
         (b"\0\0\0\0\0\0\x04\xd2\0", Fault::EndOfBuffer),
         (b"\0\0\0\0\0\0\x04\xd2\x03", Fault::InvalidTag),
         (b"\0\0\0\0\0\0\x04\xd2\x01\x80\0", Fault::InvalidVarint),
         (b"\0\0\0\0\0\0\0\xff\x02\0", Fault::ExtraData),
+        (b"\0\0\0\0\0\0\0\0\x01", Fault::EndOfBuffer),
+        (b"\0\0\0\0\0\0\0\0\x01\x80", Fault::EndOfBuffer),
+        (b"\0\0\0\0\0\0\0\0\x01\x8d\0", Fault::InvalidVarint),
+        (
+            b"\0\0\0\0\0\0\0\0\x01\xff\xff\xff\xff\x0f",
+            Fault::EndOfBuffer,
+        ),
+        (
+            b"\0\0\0\0\0\0\0\0\x01\xff\xff\xff\xff\x10",
+            Fault::InvalidVarint,
+        ),
+        (
+            b"\0\0\0\0\0\0\0\0\x01\x80\x80\x80\x80\0",
+            Fault::InvalidVarint,
+        ),
     ];
-    for (bytes, fault) in cases {
-        decodes(&rt, alloc, bytes, Some(fault));
+    for (bytes, fault) in REFUSED {
+        decodes(&rt, rt.alloc(), bytes, Some(*fault));
     }
-
-    equal(&rt, &max_message_size::<Key>(0), &14);
-    equal(&rt, &max_message_size::<Key>(100), &114);
-    equal(&rt, &max_message_size::<Zeros>(0), &73);
 }
 
 /// The message is written as these bytes and read from them, alone and with a byte behind them.
@@ -70,14 +92,22 @@ fn gives<T: PartialEq + Debug + Drop>(rt: &impl Abort, found: Result<T, Fault>, 
 fn decodes(rt: &impl Abort, alloc: Global, bytes: &[u8], fault: Option<Fault>) {
     let copied = Bytes::copy_from_slice(alloc, bytes).expect(rt, "memory");
     match Message::<Key>::decode(copied) {
-        Err(refusal) => assert_eq!(rt; Some(refusal), fault, "at {bytes:?}"),
+        Err(refusal) => equal_at(rt, &bytes, &Some(refusal), &fault),
         Ok(message) => {
-            assert_eq!(rt; None, fault, "at {bytes:?}");
-            let mut out = BytesMut::new(alloc);
-            message.write(&mut out).expect(rt, "memory");
-            equal_lists(rt, out.as_slice(), bytes);
+            equal_at(rt, &bytes, &None, &fault);
+            is_spelled(rt, alloc, &message, bytes);
+            drop(message);
         }
     }
+}
+
+/// The message is written as these bytes.
+fn is_spelled(rt: &impl Abort, alloc: Global, message: &Message<Key>, bytes: &[u8])
+    requires { IsShort message.now.payload }
+{
+    let mut out = BytesMut::new(alloc);
+    message.write(&mut out).expect(rt, "memory");
+    equal_lists(rt, out.as_slice(), bytes);
 }
 
 /// At this place, a byte from the first to the last of these is refused so.
@@ -124,26 +154,30 @@ fn messages_cut_short_or_changed(rt: HostRuntime) {
     altered(&rt, rt.alloc(), &RESPONSE_BYTES, &response);
 }
 
+/// So many bytes that are 0.
+fn zeros(rt: &impl Abort, alloc: Global, count: u16) -> Bytes
+    ensures short { length result < 2 ^ 32 }
+{
+    let zeros = BytesMut::zeroed(alloc, usize::from(count)).expect(rt, "memory");
+    zeros.freeze().expect(rt, "memory")
+}
+
 #[test]
 fn responses_of_zeros(rt: HostRuntime) {
-    let alloc = rt.alloc();
-    let cases: [(u16, usize, usize, usize, &[u8]); 5] = [
+    const CASES: &[(u16, usize, usize, usize, &[u8])] = &[
         (0, 10, 10, 1, b"\0"),
         (127, 137, 10, 2, b"\x7f"),
         (128, 139, 11, 2, b"\x80\x01"),
         (16383, 16394, 11, 2, b"\xff\x7f"),
         (16384, 16396, 12, 2, b"\x80\x80\x01"),
     ];
-    for (len, size, inline_size, count, length) in cases {
-        let value = BytesMut::zeroed(alloc, usize::from(len))
-            .expect(&rt, "memory")
-            .freeze()
-            .expect(&rt, "memory");
+    for (len, size, inline_size, count, length) in CASES {
+        let value = zeros(&rt, rt.alloc(), *len);
         let payload = Payload::<Key>::Response(value);
         let message = Message { id: 0, payload };
-        equal(&rt, &message.encode_size(), &size);
-        equal(&rt, &message.encode_inline_size(), &inline_size);
-        is_written(&rt, alloc, &message, count, length);
+        equal(&rt, &message.encode_size(), size);
+        equal(&rt, &message.encode_inline_size(), inline_size);
+        is_written(&rt, rt.alloc(), &message, *count, length);
         drop(message);
     }
 }
@@ -170,53 +204,24 @@ fn is_written(rt: &impl Abort, alloc: Global, message: &Message<Key>, count: usi
 }
 
 #[test]
-fn lengths_misspelled(rt: HostRuntime) {
-    let cases: [(&[u8], Fault); 6] = [
-        (b"", Fault::EndOfBuffer),
-        (b"\x80", Fault::EndOfBuffer),
-        (b"\x8d\0", Fault::InvalidVarint),
-        (b"\xff\xff\xff\xff\x0f", Fault::EndOfBuffer),
-        (b"\xff\xff\xff\xff\x10", Fault::InvalidVarint),
-        (b"\x80\x80\x80\x80\0", Fault::InvalidVarint),
-    ];
-    for (length, fault) in cases {
-        let start = b"\0\0\0\0\0\0\0\0\x01";
-        let mut bytes = BytesMut::copy_from_slice(rt.alloc(), start).expect(&rt, "memory");
-        bytes.extend_from_slice(length).expect(&rt, "memory");
-        decodes(&rt, rt.alloc(), &bytes, Some(fault));
-    }
-}
-
-#[test]
 fn keys_refused(rt: HostRuntime) {
-    let alloc = rt.alloc();
     let request = Message {
         id: 0,
         payload: Payload::Request(Zeros),
     };
-    let whole = BytesMut::zeroed(alloc, 73)
-        .expect(&rt, "memory")
-        .freeze()
-        .expect(&rt, "memory");
-    gives(&rt, Message::decode(whole), &request);
+    gives(&rt, Message::decode(zeros(&rt, rt.alloc(), 73)), &request);
     drop(request);
-    let short = BytesMut::zeroed(alloc, 72)
-        .expect(&rt, "memory")
-        .freeze()
-        .expect(&rt, "memory");
-    equal(
-        &rt,
-        &Message::<Zeros>::decode(short).err(),
-        &Some(Fault::EndOfBuffer),
-    );
+    let short = Message::<Zeros>::decode(zeros(&rt, rt.alloc(), 72)).err();
+    equal(&rt, &short, &Some(Fault::EndOfBuffer));
+    other_key(&rt, rt.alloc());
+}
 
-    let mut bytes = BytesMut::zeroed(alloc, 72).expect(&rt, "memory");
-    bytes.extend_from_slice(&[1]).expect(&rt, "memory");
-    let mut bytes = bytes.freeze().expect(&rt, "memory");
-    equal(
-        &rt,
-        &Message::<Zeros>::read(&mut bytes).err(),
-        &Some(Fault::Key),
-    );
-    equal(&rt, &bytes.len(), &73);
+/// A key whose last byte isn't 0 is refused, and its message stays whole.
+fn other_key(rt: &impl Abort, alloc: Global) {
+    let mut bytes = BytesMut::zeroed(alloc, 72).expect(rt, "memory");
+    bytes.extend_from_slice(&[1]).expect(rt, "memory");
+    let mut bytes = bytes.freeze().expect(rt, "memory");
+    let refused = Message::<Zeros>::read(&mut bytes).err();
+    equal(rt, &refused, &Some(Fault::Key));
+    equal(rt, &bytes.len(), &73);
 }

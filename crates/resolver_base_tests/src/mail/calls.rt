@@ -1,40 +1,14 @@
 //! Messages of the tests, and calls on desks and mailboxes as lines.
 
-ghost use Rattle.std.specs.Prelude.{true};
-ghost use Rattle.std.proofs.Common.{rules};
-
-use resolver_base::base::{Faithful, Fault};
+use crate::names::All;
+use resolver_base::base::Fault;
 use resolver_ingress::ingress::{FetchKey, Message};
-use resolver_mailbox::mailbox::{Entry, Exact};
-use resolver_root::{Fetch, Predicate};
+use resolver_mailbox::mailbox::Entry;
+use resolver_root::Fetch;
 use std::alloc::Global;
 use std::fmt::Write;
 use std::panic::Expect;
 use std::process::Abort;
-
-/// Keeps every subscriber.
-#[derive(Clone, Copy)]
-pub struct All;
-
-impl Predicate<u16, u16> for All {
-    ghost keeps = { λ _ _ _. true };
-
-    fn keep(&self, _key: &u16, _subscriber: &u16) -> bool {
-        true
-    }
-
-    ghost alike = { λ q k l s t same_key same_subscriber. Prim.search rules };
-}
-
-impl Faithful for All {
-    ghost clones = { Prim.search rules };
-}
-
-impl Exact for All {
-    fn is_same(&self, _other: &All) -> bool {
-        true
-    }
-}
 
 pub type Told = Message<u16, u16, (), All>;
 

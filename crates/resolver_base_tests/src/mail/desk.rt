@@ -1,4 +1,6 @@
-use crate::mail::calls::{All, fetch, spell, spell_book};
+use crate::asserts::equal_texts;
+use crate::mail::calls::{fetch, spell, spell_book};
+use crate::names::All;
 use resolver_mailbox::mailbox::Desk;
 use std::alloc::{AllocError, Global};
 use std::fmt::Write;
@@ -61,12 +63,13 @@ fn row_on(
 fn mailbox_book(rt: HostRuntime) {
     let alloc = rt.alloc();
     let text = row_on(&rt, alloc, Desk::recorded(alloc, 1));
-    assert_eq!(rt;
+    equal_texts(
+        &rt,
         text.as_str(),
         "Ok Some(0)\nBackoff Some(0)\nBackoff Some(1)\n 1 10:7\n 2 20:8 21:9\n none\n\
         Closed Some(0)\n\
         put 0 0 true 1 10:7\nput 0 1 false 2 20:8\nput 1 0 false 2 21:9\n\
-        take 1 10:7\ntake 2 20:8 21:9\nclose\n"
+        take 1 10:7\ntake 2 20:8 21:9\nclose\n",
     );
 }
 
@@ -74,8 +77,9 @@ fn mailbox_book(rt: HostRuntime) {
 fn mailbox_book_not_recorded(rt: HostRuntime) {
     let alloc = rt.alloc();
     let text = row_on(&rt, alloc, Desk::new(alloc, 1));
-    assert_eq!(rt;
+    equal_texts(
+        &rt,
         text.as_str(),
-        "Ok None\nBackoff None\nBackoff None\n 1 10:7\n 2 20:8 21:9\n none\nClosed None\n"
+        "Ok None\nBackoff None\nBackoff None\n 1 10:7\n 2 20:8 21:9\n none\nClosed None\n",
     );
 }

@@ -1,5 +1,6 @@
 ghost use Rattle.std.specs.Prelude.{◌≡◌, true};
 
+use crate::asserts::equal_texts;
 use crate::names::{All, Letter};
 use futures::Stream;
 use futures::task::Poll;
@@ -360,7 +361,7 @@ fn what_a_source_is_asked_stands_in_the_share(rt: HostRuntime) {
     let mut text = String::new(rt.alloc());
     recorded_source::<Brand, _>(rt, &mut text, Pages::new(), &task);
     let seen = recorded_sight(&rt, rt.alloc(), PUT);
-    assert_eq!(rt; text.as_str(), seen.as_str());
+    equal_texts(&rt, text.as_str(), seen.as_str());
 }
 
 #[test]
@@ -369,7 +370,7 @@ fn what_an_engine_is_asked_stands_in_the_share(rt: HostRuntime) {
     let mut text = String::new(rt.alloc());
     recorded_engine::<Brand, _>(rt, &mut text, Pages::new(), &task);
     let seen = recorded_sight(&rt, rt.alloc(), PUT_TARGETED);
-    assert_eq!(rt; text.as_str(), seen.as_str());
+    equal_texts(&rt, text.as_str(), seen.as_str());
 }
 
 #[test]
@@ -377,8 +378,8 @@ fn what_is_asked_is_taken(rt: HostRuntime) {
     let (alloc, task) = (rt.alloc(), MockTask::new(&rt).expect(&rt, "a task"));
     let mut text = String::new(alloc);
     use_source(&rt, &mut text, &task, new(rt, alloc, 10));
-    assert_eq!(rt; text.as_str(), sight(&rt, alloc, PUT).as_str());
+    equal_texts(&rt, text.as_str(), sight(&rt, alloc, PUT).as_str());
     let mut text = String::new(alloc);
     use_engine(&rt, &mut text, &task, new(rt, alloc, 10));
-    assert_eq!(rt; text.as_str(), sight(&rt, alloc, PUT_TARGETED).as_str());
+    equal_texts(&rt, text.as_str(), sight(&rt, alloc, PUT_TARGETED).as_str());
 }

@@ -1,6 +1,8 @@
 ghost use Rattle.std.specs.Prelude.{◌≡◌, ◌<◌, true};
 
-use crate::mail::calls::{All, Told, fetch, spell, spell_all, spell_book};
+use crate::asserts::{equal, equal_texts, holds};
+use crate::mail::calls::{Told, fetch, spell, spell_all, spell_book};
+use crate::names::All;
 use futures::Stream;
 use futures::task::Poll;
 use futures::test::MockTask;
@@ -211,7 +213,7 @@ fn mailbox_book(rt: HostRuntime) {
     recorded_row::<Brand, _>(rt, &mut text, Pages::new(), &task);
     let mut wanted = String::new(rt.alloc());
     write!(wanted, "{ROW}{BOOK}{BOOK}{BOOK}").expect(&rt, "memory");
-    assert_eq!(rt; text.as_str(), wanted.as_str());
+    equal_texts(&rt, text.as_str(), wanted.as_str());
 }
 
 #[test]
@@ -220,10 +222,11 @@ fn mailbox_book_not_recorded(rt: HostRuntime) {
     let mut text = String::new(rt.alloc());
     let made = new::<u16, u16, (), All, _>(rt, rt.alloc(), 1);
     row_in(&rt, &mut text, &task, made);
-    assert_eq!(rt;
+    equal_texts(
+        &rt,
         text.as_str(),
         "none\nnone\nOk\nBackoff\nBackoff\n 1 10:7\n 2 20:8 21:9\n pending\nClosed\n\
-        none\nnone\ntaken\n"
+        none\nnone\ntaken\n",
     );
 }
 
@@ -239,11 +242,9 @@ fn shut<N: Naming, R: Wait + Drop>(
     put(rt, text, handle, (2, 20, 8));
     put(rt, text, handle, (3, 30, 9));
     handle.close();
-    poll(rt, text, task, receiver);
-    poll(rt, text, task, receiver);
-    poll(rt, text, task, receiver);
-    poll(rt, text, task, receiver);
-    poll(rt, text, task, receiver);
+    for _ in 0..5 {
+        poll(rt, text, task, receiver);
+    }
 }
 
 /// What a mailbox of capacity 2 answers then.
@@ -281,7 +282,7 @@ fn what_waits_is_given_after_the_close(rt: HostRuntime) {
     let task = MockTask::new(&rt).expect(&rt, "a task");
     let mut text = String::new(rt.alloc());
     recorded_shut::<Brand, _>(rt, &mut text, Pages::new(), &task);
-    assert_eq!(rt; text.as_str(), SHUT);
+    equal_texts(&rt, text.as_str(), SHUT);
 }
 
 #[test]
@@ -290,7 +291,7 @@ fn what_waits_is_given_after_the_close_not_recorded(rt: HostRuntime) {
     let mut text = String::new(rt.alloc());
     let made = new::<u16, u16, (), All, _>(rt, rt.alloc(), 2);
     shut_in(&rt, &mut text, &task, made);
-    assert_eq!(rt; text.as_str(), SHUT);
+    equal_texts(&rt, text.as_str(), SHUT);
 }
 
 /// Whether the task was woken by what was done since it last polled in vain, and whether the
@@ -339,6 +340,6 @@ fn a_put_and_a_close_wake_the_receiver(rt: HostRuntime) {
     let task = MockTask::new(&rt).expect(&rt, "a task");
     let made = new::<u16, u16, (), All, _>(rt, alloc, 1);
     let (woken, is_over) = wakes_in(&rt, alloc, &task, made);
-    assert_eq!(rt; woken, [false, true, false, true]);
-    assert!(rt; is_over);
+    equal(&rt, &woken, &[false, true, false, true]);
+    holds(&rt, is_over);
 }

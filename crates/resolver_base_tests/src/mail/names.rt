@@ -3,6 +3,7 @@
 ghost use Rattle.std.specs.Prelude.{◌≡◌, ◌<◌, true};
 ghost use Rattle.std.proofs.Common.{rules};
 
+use crate::asserts::holds;
 use bytes::Bytes;
 use resolver_base::base::Faithful;
 use resolver_ingress::ingress::{FetchKey, Kept, Message, Test};
@@ -23,10 +24,16 @@ fn is_told_apart<T: Exact + Faithful + Drop>(rt: &impl Abort, one: &T, other: &T
 
 #[test]
 fn names_are_cloned_and_compared_exactly(rt: HostRuntime) {
-    assert!(rt; is_told_apart(&rt, &[1u8, 2, 3], &[1, 2, 4]));
-    assert!(rt; is_told_apart(&rt, &(1u8, (2u16, 3u32), [4u64]), &(1, (2, 3), [5])));
-    assert!(rt; is_told_apart(&rt, &Bytes::from_static(b"ab"), &Bytes::from_static(b"ac")));
-    assert!(rt; is_told_apart(&rt, &Kept::new(1u8), &Kept::new(2)));
+    holds(&rt, is_told_apart(&rt, &[1u8, 2, 3], &[1, 2, 4]));
+    holds(
+        &rt,
+        is_told_apart(&rt, &(1u8, (2u16, 3u32), [4u64]), &(1, (2, 3), [5])),
+    );
+    holds(
+        &rt,
+        is_told_apart(&rt, &Bytes::from_static(b"ab"), &Bytes::from_static(b"ac")),
+    );
+    holds(&rt, is_told_apart(&rt, &Kept::new(1u8), &Kept::new(2)));
 }
 
 /// A test that every subscriber passes, with a number that tells it from others.
@@ -191,12 +198,14 @@ where
 fn byte_arrays_and_bytes_are_booked(rt: HostRuntime) {
     let key = [1u8, 2, 3];
     let bytes = Bytes::from_static(b"ab");
-    assert!(rt; are_booked::<_, _, Brand, _>(rt, rt.alloc(), Pages::new(), &key, &bytes));
+    let booked = are_booked::<_, _, Brand, _>(rt, rt.alloc(), Pages::new(), &key, &bytes);
+    holds(&rt, booked);
 }
 
 #[test]
 fn tuples_are_booked(rt: HostRuntime) {
     let pair = (1u8, Bytes::from_static(b"cd"));
     let triple = (1u8, 2u16, [3u32, 4]);
-    assert!(rt; are_booked::<_, _, Brand, _>(rt, rt.alloc(), Pages::new(), &pair, &triple));
+    let booked = are_booked::<_, _, Brand, _>(rt, rt.alloc(), Pages::new(), &pair, &triple);
+    holds(&rt, booked);
 }

@@ -2,8 +2,10 @@
 
 ghost use Rattle.std.specs.Prelude.{◌≡◌, ◌<◌, true};
 
-use crate::mail::calls::{All, Told, fetch};
+use crate::asserts::{equal, equal_texts, holds};
+use crate::mail::calls::{Told, fetch};
 use crate::mail::mailbox::{next, puts_in, shares_of};
+use crate::names::All;
 use futures::task::Poll;
 use futures::test::MockTask;
 use resolver_base::base::{Fault, Feedback};
@@ -330,6 +332,26 @@ where
     found
 }
 
+/// The same over a recorded mailbox whose names are its own.
+fn run_by_itself<R>(rt: R, text: &mut String, jobs: &[Job], how: Use) -> Found
+where
+    R: Abort + Threads + Wait + RandomSource + AllocGlobal + Copy + Drop + Send + 'static,
+{
+    run::<Brand, _>(rt, text, Pages::new(), jobs, how)
+}
+
+/// The wrong answers, the puts that the shares hold and those that the book does, its closes, and the puts
+/// behind them.
+fn numbers_of(found: &Found) -> [u64; 5] {
+    [
+        found.tally.wrong,
+        found.held,
+        found.booked,
+        found.closes,
+        found.after,
+    ]
+}
+
 /// Fetches of this many keys from the first one on.
 fn keys(count: u16, key: u16) -> Job {
     Job::Put(Puts {
@@ -354,11 +376,8 @@ fn the_book_holds_what_four_threads_put(rt: HostRuntime) {
         polls: 500,
         closes: false,
     };
-    let found = run::<Brand, _>(rt, &mut text, Pages::new(), &jobs, how);
-    assert_eq!(rt;
-        (found.tally.wrong, found.held, found.booked),
-        (0, 1000, 1000)
-    );
+    let found = run_by_itself(rt, &mut text, &jobs, how);
+    equal(&rt, &numbers_of(&found), &[0, 1000, 1000, 0, 0]);
 }
 
 /// Three threads put while a fourth closes, which is started after this many of them.
@@ -385,15 +404,11 @@ fn closing(rt: HostRuntime) {
     for place in 0..4_usize {
         let mut text = String::new(rt.alloc());
         let jobs = closing_after(place);
-        let found = run::<Brand, _>(rt, &mut text, Pages::new(), &jobs, how);
+        let found = run_by_itself(rt, &mut text, &jobs, how);
         let put = found.tally.ok.saturating_add(found.tally.backoff);
-        assert_eq!(rt; put.saturating_add(found.tally.closed), 300);
-        assert_eq!(rt;
-            (found.tally.wrong, found.held, found.booked),
-            (0, put, put)
-        );
-        assert_eq!(rt; (found.closes, found.after), (1, 0));
-        assert!(rt; text.as_str().ends_with("end\n"));
+        equal(&rt, &put.saturating_add(found.tally.closed), &300);
+        equal(&rt, &numbers_of(&found), &[0, put, put, 1, 0]);
+        holds(&rt, text.as_str().ends_with("end\n"));
     }
 }
 
@@ -416,12 +431,8 @@ fn full_desk(rt: HostRuntime) {
         polls: 0,
         closes: true,
     };
-    let found = run::<Brand, _>(rt, &mut text, Pages::new(), &jobs, how);
-    assert_eq!(rt; text.as_str(), "1 of 7 for 1\n1 of 7 for 999\nend\n");
-    assert_eq!(rt; (found.tally.ok, found.tally.backoff), (1, 999));
-    assert_eq!(rt;
-        (found.tally.wrong, found.held, found.booked),
-        (0, 1000, 1000)
-    );
-    assert_eq!(rt; (found.closes, found.after), (1, 0));
+    let found = run_by_itself(rt, &mut text, &jobs, how);
+    equal_texts(&rt, text.as_str(), "1 of 7 for 1\n1 of 7 for 999\nend\n");
+    equal(&rt, &(found.tally.ok, found.tally.backoff), &(1, 999));
+    equal(&rt, &numbers_of(&found), &[0, 1000, 1000, 1, 0]);
 }
