@@ -74,8 +74,11 @@ impl<T: Drop> From<AllocFailed<T>> for Fault {
 
 /// What an error of the output is.
 pub(crate) fn written(done: io::Result<()>) -> Result<(), Fault> {
-    done.map_err(|error| match error.kind() {
-        ErrorKind::OutOfMemory => Fault::Memory,
-        _ => Fault::Output,
-    })
+    match done {
+        Ok(()) => Ok(()),
+        Err(error) => match error.kind() {
+            ErrorKind::OutOfMemory => Err(Fault::Memory),
+            _ => Err(Fault::Output),
+        },
+    }
 }

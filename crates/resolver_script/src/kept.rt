@@ -7,7 +7,7 @@ use resolver::base::{Faithful, Predicate};
 use resolver::p2p::mocks::Key;
 
 /// What a line keeps.
-#[derive(Clone, Copy, Debug, PartialEq, Eq)]
+#[derive(Clone, Copy)]
 pub enum Kept {
     /// This subscriber, of every key.
     Subscriber(u16),

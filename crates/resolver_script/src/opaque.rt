@@ -7,7 +7,7 @@ use crate::script::{Said, Wish};
 use bytes::Bytes;
 use resolver::base::{Moment, NonEmptyVec};
 use resolver::ingress::FetchKey;
-use resolver::opaque::{Actor, Effect, Event, Input};
+use resolver::opaque::{Actor, Effect, Event, Input, Row};
 use resolver::p2p::mocks::Key;
 use std::alloc::Global;
 use std::io::Write;
@@ -67,11 +67,13 @@ impl Opaque {
 
     /// Prints the rows and the wake-up.
     pub fn show<W: Write>(&self, output: &mut W) -> Result<(), Fault> {
-        let rows = self.actor.rows().map_err(|_| Fault::Memory)?;
-        for row in &rows {
-            written(print::opaque::row(output, row))?;
+        match self.actor.rows() {
+            Ok(rows) => {
+                print_rows(&rows, output)?;
+                print::wake(output, self.actor.next_retry())
+            }
+            Err(_) => Err(Fault::Memory),
         }
-        print::wake(output, self.actor.next_retry())
     }
 }
 
@@ -106,6 +108,13 @@ fn fetch(alloc: Global, wish: &Wish) -> Result<Option<Told>, Fault> {
 fn print_all<W: Write>(effects: &[Effect<Key, Bytes, u16>], output: &mut W) -> Result<(), Fault> {
     for effect in effects {
         written(print::opaque::effect(output, effect))?;
+    }
+    Ok(())
+}
+
+fn print_rows<W: Write>(rows: &[Row<Key, u16>], output: &mut W) -> Result<(), Fault> {
+    for row in rows {
+        written(print::opaque::row(output, row))?;
     }
     Ok(())
 }

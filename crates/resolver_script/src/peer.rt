@@ -6,7 +6,7 @@ use resolver::base::{Faithful, PublicKey};
 use std::fmt;
 
 /// A peer, which goes by its number.
-#[derive(Clone, Copy, Debug, PartialEq, Eq, PartialOrd, Ord, Hash)]
+#[derive(Clone, Copy, PartialEq, Eq, PartialOrd, Ord, Hash)]
 pub struct Peer(pub u8);
 
 impl PublicKey for Peer {}

@@ -55,10 +55,21 @@ impl Drop for Peers {
 impl Peers {
     /// A new engine.
     pub fn new(alloc: Global, timing: Timing) -> Result<Self, Fault> {
+        match Consumer::dummy(alloc) {
+            Ok(consumer) => Peers::over(alloc, timing, consumer),
+            Err(_) => Err(Fault::Memory),
+        }
+    }
+
+    fn over(
+        alloc: Global,
+        timing: Timing,
+        consumer: Consumer<Key, Bytes, u16>,
+    ) -> Result<Self, Fault> {
         let cfg = Config {
             peer_provider: Quiet::new(),
             blocker: Quiet::new(),
-            consumer: Consumer::dummy(alloc).map_err(|_| Fault::Memory)?,
+            consumer,
             producer: Producer::new(alloc),
             mailbox_size: NonZeroUsize::MIN,
             me: timing.me.map(Peer),
@@ -132,9 +143,9 @@ fn event_of(alloc: Global, said: Said) -> Result<Option<Told>, Fault> {
         Said::Timeout => Event::ActiveDue,
         Said::Peers { index, peers } => Event::PeerSet {
             index,
-            peers: named(alloc, peers)?,
+            peers: named(alloc, &peers)?,
         },
-        Said::Blocked(peers) => Event::Blocked(named(alloc, peers)?),
+        Said::Blocked(peers) => Event::Blocked(named(alloc, &peers)?),
         Said::Net { peer, bytes } => Event::Net {
             peer: Peer(peer),
             bytes,
@@ -161,14 +172,18 @@ fn targets(
     peers: Option<NonEmptyVec<u8>>,
 ) -> Result<Option<NonEmptyVec<Peer>>, AllocError> {
     match peers {
-        Some(peers) => Ok(NonEmptyVec::try_from(named(alloc, peers.into_vec())?).ok()),
+        Some(peers) => Ok(NonEmptyVec::try_from(named(alloc, peers.as_slice())?).ok()),
         None => Ok(None),
     }
 }
 
 /// Peers by their numbers.
-fn named(alloc: Global, numbers: Vec<u8>) -> Result<Vec<Peer>, AllocError> {
-    numbers.into_iter().map(Peer).collect(alloc)
+fn named(alloc: Global, numbers: &[u8]) -> Result<Vec<Peer>, AllocError> {
+    let mut peers = Vec::new(alloc);
+    for number in numbers {
+        peers.push(Peer(*number))?;
+    }
+    Ok(peers)
 }
 
 fn print_all<W: Write>(effects: &[Effect<Key, Peer, u16>], output: &mut W) -> Result<(), Fault> {

@@ -112,16 +112,18 @@ fn take_buffered<L: Log, R: Read, W: Write>(
 /// Reads the next line, without its LF, in place of the one there. False at the end of the input.
 fn read_line<R: Read>(input: &mut BufReader<R>, line: &mut Vec<u8>) -> Result<bool, Fault> {
     line.clear();
-    let count = input
-        .read_until(b'\n', line)
-        .map_err(|error| match error.kind() {
-            ErrorKind::OutOfMemory => Fault::Memory,
-            _ => Fault::Input,
-        })?;
-    if line.last() == Some(&b'\n') {
-        line.pop();
+    match input.read_until(b'\n', line) {
+        Ok(count) => {
+            if line.last() == Some(&b'\n') {
+                line.pop();
+            }
+            Ok(count != 0)
+        }
+        Err(error) => match error.kind() {
+            ErrorKind::OutOfMemory => Err(Fault::Memory),
+            _ => Err(Fault::Input),
+        },
     }
-    Ok(count != 0)
 }
 
 /// Does what a line says, or answers what is wrong with it. The number of one that isn't skipped is traced.

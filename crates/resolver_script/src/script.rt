@@ -19,7 +19,7 @@ use std::str;
 pub use wrong::{Why, Wrong};
 
 /// How an engine that fetches from peers asks them, in nanoseconds.
-#[derive(Clone, Copy, Debug, PartialEq, Eq)]
+#[derive(Clone, Copy)]
 pub struct Timing {
     /// The local peer, if there is one.
     pub me: Option<u8>,
@@ -33,7 +33,7 @@ pub struct Timing {
 }
 
 /// What a line says.
-#[derive(Debug, Drop)]
+#[derive(Drop)]
 pub enum Command {
     /// `opaque DELAY`: a new actor.
     Opaque { delay: Moment },
@@ -51,7 +51,7 @@ pub enum Command {
 }
 
 /// What a line says that happened.
-#[derive(Debug, Drop)]
+#[derive(Drop)]
 pub enum Said {
     /// `fetch K S M` and `fetch K S M LIST`: a subscriber wants a key.
     Fetch(Wish),
@@ -93,7 +93,7 @@ pub enum Said {
 }
 
 /// A subscriber that wants a key, and the peers that it names for it, if it names some.
-#[derive(Debug, Drop)]
+#[derive(Drop)]
 pub struct Wish {
     pub key: u8,
     pub subscriber: u16,
@@ -102,7 +102,7 @@ pub struct Wish {
 }
 
 /// Why a field was not read.
-#[derive(Clone, Copy, Debug, PartialEq, Eq)]
+#[derive(Clone, Copy)]
 pub enum Unread {
     /// It says nothing that a script may say there.
     Unreadable(Why),
@@ -110,7 +110,7 @@ pub enum Unread {
 }
 
 /// Why a line was not read.
-#[derive(Clone, Copy, Debug, PartialEq, Eq)]
+#[derive(Clone, Copy)]
 pub enum Rejected {
     /// It says nothing that a script may say.
     Unreadable(Wrong),
@@ -140,7 +140,9 @@ pub fn is_skipped(line: &[u8]) -> bool {
 
 /// What a line says that is not skipped. It lacks its LF.
 pub fn parse(alloc: Global, line: &[u8]) -> Result<Command, Rejected> {
-    let text = str::from_utf8(line).map_err(|_| Rejected::Unreadable(Wrong::of_line(Why::NoText)))?;
+    let Ok(text) = str::from_utf8(line) else {
+        return Err(Rejected::Unreadable(Wrong::of_line(Why::NoText)));
+    };
     let mut fields = Fields::new(text);
     match read_fields(alloc, &mut fields) {
         Ok(command) => Ok(command),

@@ -10,6 +10,7 @@ ghost use Rattle.resolver_script.specs.Numbers.{begins_plainly, list_of, number_
 
 use crate::script::{Unread, Why};
 use bytes::Bytes;
+use memchr::memchr;
 use resolver::base::{Moment, NonEmptyVec};
 use std::alloc::{AllocError, Global};
 
@@ -34,7 +35,7 @@ impl<'a> Fields<'a> {
     pub fn next(&mut self) -> Option<&'a str> {
         self.count = self.count.saturating_add(1);
         let rest = self.rest?;
-        match rest.as_bytes().iter().position(|byte| *byte == b' ') {
+        match memchr(b' ', rest.as_bytes()) {
             Some(end) => {
                 self.rest = rest.get(end + 1..);
                 rest.get(..end)

@@ -105,13 +105,25 @@ fn wrong_byte(line: &[u8]) -> Option<Why> {
     if line.contains(&b'\t') {
         return Some(Why::Tab);
     }
-    if line
-        .split(|byte| *byte == b' ')
-        .any(|field| field.is_empty())
-    {
+    if has_empty_field(line) {
         return Some(Why::Space);
     }
     None
+}
+
+/// Whether two spaces of a line stand together, or one at an end.
+fn has_empty_field(line: &[u8]) -> bool {
+    let mut is_empty = true;
+    for byte in line {
+        if *byte != b' ' {
+            is_empty = false;
+        } else if is_empty {
+            return true;
+        } else {
+            is_empty = true;
+        }
+    }
+    is_empty
 }
 
 impl fmt::Display for Wrong {
