@@ -45,14 +45,41 @@ where
     requires takes { pages.takes.name ≡ N.takes }
 {
     let (first, mut taker): (Putter<N, R>, Taker<N, R>) = mailbox::recorded(rt, alloc, pages, 2)?;
-    let second = first.clone()?;
-    let one = thread::spawn(&rt, move || put_all(first, alloc, 0))?;
-    let other = thread::spawn(&rt, move || put_all(second, alloc, 100))?;
-    let one = one.join(&rt)?;
-    let other = other.join(&rt)?;
+    let (one, other) = put_by_two(&rt, alloc, first)?;
     taker.close();
-    let keys = take_all(&rt, &mut taker)?;
-    Ok((keys, puts_booked(alloc, &one, &other, &taker)?))
+    let counted = count(&rt, alloc, (&one, &other), &mut taker);
+    drop(one);
+    drop(other);
+    drop(taker);
+    counted
+}
+
+/// Has two threads put, and hands their handles back once both are done.
+fn put_by_two<N, R>(
+    rt: &R,
+    alloc: Global,
+    first: Putter<N, R>,
+) -> Result<(Putter<N, R>, Putter<N, R>)>
+where
+    N: Naming + Send + Sync + 'static,
+    R: Threads + Wait + Copy + Drop + Send + 'static,
+{
+    let second = first.clone()?;
+    let one = thread::spawn(rt, move || put_all(first, alloc, 0))?;
+    let other = thread::spawn(rt, move || put_all(second, alloc, 100))?;
+    Ok((one.join(rt)?, other.join(rt)?))
+}
+
+/// Counts the keys that wait, and the puts of both handles that the book has.
+fn count<N: Naming, R: AllocGlobal + Wait + RandomSource + Drop>(
+    rt: &R,
+    alloc: Global,
+    handles: (&Putter<N, R>, &Putter<N, R>),
+    taker: &mut Taker<N, R>,
+) -> Result<(u64, usize)> {
+    let keys = take_all(rt, taker)?;
+    let puts = puts_booked(alloc, handles.0, handles.1, taker)?;
+    Ok((keys, puts))
 }
 
 /// Puts fetches of 50 keys from the first one on, and hands the handle back.

@@ -42,18 +42,24 @@ where
         size,
         100,
     )?;
-    store.fetch_all(wanted(alloc)?)?;
-    print_chunks(rt, &mut arrived)?;
+    let read = read(rt, &mut store, &mut arrived);
     store.close();
+    drop(store);
+    drop(arrived);
     handle.join(&rt)?;
-    Ok(())
+    read
 }
 
-/// Prints four chunks as they arrive.
-fn print_chunks<R>(rt: R, arrived: &mut mpsc::UnboundedReceiver<(u8, u64, usize)>) -> Result<()>
+/// Asks for the chunks, and prints the four as they arrive.
+fn read<R>(
+    rt: R,
+    store: &mut Store<R>,
+    arrived: &mut mpsc::UnboundedReceiver<(u8, u64, usize)>,
+) -> Result<()>
 where
-    R: Print + Wait + RandomSource + AllocGlobal + Copy + Drop,
+    R: Print + Wait + RandomSource + AllocGlobal + Copy + Drop + Send + 'static,
 {
+    store.fetch_all(wanted(rt.alloc())?)?;
     for _ in 0..4 {
         if let Some((key, text, readers)) = block_on(&rt, arrived.next())? {
             println!(rt; "chunk {key} says {text}, for {readers} readers")?;

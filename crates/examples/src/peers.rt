@@ -10,7 +10,7 @@ use futures::StreamExt;
 use futures::channel::mpsc;
 use futures::executor::block_on;
 use lent::{All, First, Guard, Hasty, Sets};
-use network::{Inbox, Peer, Post, Seen, Told, Wire};
+use network::{Inbox, Peer, Seen, Told, Wire};
 use resolver::base::{Blocker, Provider};
 use resolver::mailbox::Unrecorded;
 use resolver::p2p::mocks::{Consumer, Key, Producer, Quiet};
@@ -28,6 +28,9 @@ struct Running<R> {
     mailbox: Mailbox<Key, Peer, u16, All, Unrecorded, R>,
     handle: Handle,
 }
+
+/// Where the consumer tells what it has found right.
+type Taken = mpsc::UnboundedReceiver<(Key, Bytes)>;
 
 /// Runs the engines, and prints what was seen of engine 0.
 pub fn run<R>(rt: R) -> Result<()>
@@ -65,19 +68,13 @@ fn work<R>(rt: R, alloc: Global, told: &Told) -> Result<Option<(Key, Bytes)>>
 where
     R: Threads + Wait + RandomSource + AllocGlobal + Copy + Drop + Send + 'static,
 {
-    let (own, inbox) = mpsc::unbounded(alloc)?;
-    let (second, wrong) = mpsc::unbounded(alloc)?;
-    let (third, right) = mpsc::unbounded(alloc)?;
-    let posts = [own, second, third];
-    let wrong = (Wire::new(alloc, 1, &posts, told)?, Inbox(wrong));
-    let right = (Wire::new(alloc, 2, &posts, told)?, Inbox(right));
-    let own = (Wire::new(alloc, 0, &posts, told)?, Inbox(inbox));
+    let (own, wrong, right) = network::joined(alloc, told)?;
     let wrong = answer(rt, alloc, wrong, b"wrong")?;
     let right = answer(rt, alloc, right, b"right")?;
-    let taken = ask(rt, alloc, own, told)?;
+    let taken = ask(rt, alloc, own, told);
     end(&rt, wrong)?;
     end(&rt, right)?;
-    Ok(taken)
+    taken
 }
 
 /// Runs an engine that asks for key 7, until the consumer has taken a value.
@@ -99,9 +96,19 @@ where
     consumer.add_expected(Key(7), Bytes::from_static(b"right"))?;
     let hands = (consumer, Producer::new(alloc));
     let mut running = begin(rt, alloc, (sets, guard), hands, net)?;
+    let value = take(rt, &mut running, &mut taken);
+    drop(taken);
+    end(&rt, running)?;
+    value
+}
+
+/// Asks a running engine for key 7, and waits for what the consumer has found right.
+fn take<R>(rt: R, running: &mut Running<R>, taken: &mut Taken) -> Result<Option<(Key, Bytes)>>
+where
+    R: Wait + RandomSource + AllocGlobal + Copy + Drop + Send + 'static,
+{
     running.mailbox.fetch(Fetch::from(Key(7)))?;
     let value = block_on(&rt, taken.next())?;
-    end(&rt, running)?;
     Ok(value)
 }
 

@@ -14,7 +14,7 @@ use std::alloc::Global;
 use std::mem;
 
 /// Keeps every subscriber but one.
-#[derive(Clone, Copy, Debug)]
+#[derive(Clone, Copy)]
 struct AllBut(u16);
 
 impl Predicate<u32, u16> for AllBut {
@@ -125,8 +125,20 @@ fn fill(store: &mut Store) -> Result<()> {
     Ok(())
 }
 
-/// What arrives as a store is filled.
-fn arrivals(alloc: Global) -> Result<Vec<Arrived>> {
+/// Fills a store, and prints what arrived.
+fn show(rt: &impl Print, store: &mut Store) -> Result<()> {
+    fill(store)?;
+    println!(rt; "chunk  value  subscribers  at")?;
+    for (at, delivery, value) in &store.arrived {
+        let (key, subscribers, at) = (delivery.key, delivery.subscribers.len(), at.nanoseconds);
+        println!(rt; "{key:>5}  {value:>5}  {subscribers:>11}  {at}")?;
+    }
+    Ok(())
+}
+
+/// Opens a store, and shows it at work.
+pub fn run(rt: &(impl AllocGlobal + Print)) -> Result<()> {
+    let alloc = rt.alloc();
     let mut store = Store {
         // what the source lacks, or what was refused, waits 100 nanoseconds
         actor: Actor::new(alloc, 100),
@@ -136,17 +148,7 @@ fn arrivals(alloc: Global) -> Result<Vec<Arrived>> {
         arrived: Vec::new(alloc),
         alloc,
     };
-    fill(&mut store)?;
-    Ok(store.arrived)
-}
-
-/// Fills a store, and prints what arrived.
-pub fn run(rt: &(impl AllocGlobal + Print)) -> Result<()> {
-    let arrived = arrivals(rt.alloc())?;
-    println!(rt; "chunk  value  subscribers  at")?;
-    for (at, delivery, value) in arrived {
-        let (key, subscribers, at) = (delivery.key, delivery.subscribers.len(), at.nanoseconds);
-        println!(rt; "{key:>5}  {value:>5}  {subscribers:>11}  {at}")?;
-    }
-    Ok(())
+    let shown = show(rt, &mut store);
+    drop(store);
+    shown
 }

@@ -4,13 +4,13 @@ use bytes::Bytes;
 use resolver::base::{Check, Feedback, PublicKey, Sender, Unreliable};
 
 /// A name of a peer, from 0 to 3.
-#[derive(Clone, Copy, Debug, PartialEq, Eq, PartialOrd, Ord, Hash)]
+#[derive(Clone, Copy, PartialEq, Eq, PartialOrd, Ord, Hash)]
 pub struct Peer(pub u8);
 
 impl PublicKey for Peer {}
 
 /// Takes every request but those to peer 3, and counts them by peer.
-#[derive(Debug, Drop)]
+#[derive(Drop)]
 pub struct Network {
     pub taken: [u64; 4],
 }

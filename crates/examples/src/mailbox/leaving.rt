@@ -8,7 +8,7 @@ use resolver::mailbox::Exact;
 
 /// Keeps every subscriber but one. A recorded mailbox keeps copies of messages and compares them, so
 /// its clones are what they were made of, and it can be told from another.
-#[derive(Clone, Copy, Debug)]
+#[derive(Clone, Copy)]
 pub struct AllBut(pub u16);
 
 impl Predicate<u32, u16> for AllBut {

@@ -10,7 +10,7 @@ use resolver::base::{Check, Faithful, Feedback, PublicKey, Receiver, Sender, Unr
 use std::alloc::{AllocError, Global};
 
 /// A name of an engine.
-#[derive(Clone, Copy, Debug, PartialEq, Eq, PartialOrd, Ord, Hash)]
+#[derive(Clone, Copy, PartialEq, Eq, PartialOrd, Ord, Hash)]
 pub struct Peer(pub u8);
 
 impl PublicKey for Peer {}
@@ -20,7 +20,7 @@ impl Faithful for Peer {
 }
 
 /// What is seen of engine 0: whom it asked, who answered, and whom it blocked.
-#[derive(Clone, Copy, Debug)]
+#[derive(Clone, Copy)]
 pub enum Seen {
     Asked(Peer),
     Answered(Peer),
@@ -75,6 +75,22 @@ impl Wire {
             told: told.clone()?,
         })
     }
+}
+
+/// What an engine has of the network: its way to the others, and what it receives.
+pub type End = (Wire, Inbox);
+
+/// A network of three engines, 0 to 2.
+pub fn joined(alloc: Global, told: &Told) -> Result<(End, End, End), AllocError> {
+    let (first, own) = mpsc::unbounded(alloc)?;
+    let (second, wrong) = mpsc::unbounded(alloc)?;
+    let (third, right) = mpsc::unbounded(alloc)?;
+    let posts = [first, second, third];
+    Ok((
+        (Wire::new(alloc, 0, &posts, told)?, Inbox(own)),
+        (Wire::new(alloc, 1, &posts, told)?, Inbox(wrong)),
+        (Wire::new(alloc, 2, &posts, told)?, Inbox(right)),
+    ))
 }
 
 impl Sender for Wire {
