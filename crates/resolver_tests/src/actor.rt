@@ -1,6 +1,7 @@
 ghost use Rattle.std.specs.Prelude.{not, true, ◌==◌};
 ghost use Rattle.std.proofs.Common.{rules};
 
+use crate::asserting::assert_same;
 use resolver::ingress::{FetchKey, Predicate};
 use resolver::opaque::{Actor, Effect, Event, Input, Phase, Row};
 use resolver_base::base::{Fault, Numbers};
@@ -102,20 +103,30 @@ fn run_shows(rt: &impl Abort, alloc: Global, table: &[Step]) {
 /// That this was seen.
 fn assert_seen(rt: &impl Abort, alloc: Global, table: &[Step], seen: Vec<Seen>) {
     let expected = expected_of(rt, alloc, table);
-    assert_eq!(rt; seen.as_slice(), expected.as_slice());
+    assert_same(rt, seen.as_slice(), expected.as_slice());
+    drop(expected);
+    drop(seen);
 }
 
 fn expected_of(rt: &impl Abort, alloc: Global, table: &[Step]) -> Vec<Seen> {
     let mut expected = Vec::new(alloc);
     for (_, what, answer) in table {
-        if !matches!(what, Do::Look) {
-            expected.push(Seen::Taken).expect(rt, "memory");
-        }
-        for seen in *answer {
-            expected.push(*seen).expect(rt, "memory");
-        }
+        expect_step(rt, what, answer, &mut expected);
     }
     expected
+}
+
+fn expect_step(rt: &impl Abort, what: &Do, answer: &[Seen], expected: &mut Vec<Seen>) {
+    if !matches!(what, Do::Look) {
+        note(rt, Seen::Taken, expected);
+    }
+    for seen in answer {
+        note(rt, *seen, expected);
+    }
+}
+
+fn note(rt: &impl Abort, one: Seen, seen: &mut Vec<Seen>) {
+    seen.push(one).expect(rt, "memory");
 }
 
 fn play(rt: &impl Abort, alloc: Global, actor: Plain, table: &[Step]) -> Vec<Seen> {
@@ -217,16 +228,16 @@ fn note_answers(rt: &impl Abort, answers: &[PlainAnswer], seen: &mut Vec<Seen>) 
 
 /// Notes what an input gave.
 fn note_answer(rt: &impl Abort, answer: &PlainAnswer, seen: &mut Vec<Seen>) {
-    seen.push(Seen::Taken).expect(rt, "memory");
+    note(rt, Seen::Taken, seen);
     match answer {
         Ok(effects) => note_effects(rt, effects.as_slice(), seen),
-        Err(fault) => seen.push(Seen::Refused(*fault)).expect(rt, "memory"),
+        Err(fault) => note(rt, Seen::Refused(*fault), seen),
     }
 }
 
 fn note_effects(rt: &impl Abort, effects: &[PlainEffect], seen: &mut Vec<Seen>) {
     for effect in effects {
-        seen.push(seen_of(effect)).expect(rt, "memory");
+        note(rt, seen_of(effect), seen);
     }
 }
 
@@ -254,14 +265,13 @@ fn look(rt: &impl Abort, actor: &Plain, seen: &mut Vec<Seen>) {
     let rows = actor.rows().expect(rt, "memory");
     note_rows(rt, rows.as_slice(), seen);
     drop(rows);
-    seen.push(Seen::Due(actor.next_retry()))
-        .expect(rt, "memory");
+    note(rt, Seen::Due(actor.next_retry()), seen);
 }
 
 fn note_rows(rt: &impl Abort, rows: &[Row<u64, u16>], seen: &mut Vec<Seen>) {
     for row in rows {
         let seen_row = Seen::Row(row.key, *row.subscribers.first(), row.phase);
-        seen.push(seen_row).expect(rt, "memory");
+        note(rt, seen_row, seen);
     }
 }
 
@@ -414,11 +424,15 @@ fn shows_verdicts(
 ) {
     let mut table = before.to_vec(alloc).expect(rt, "memory");
     for answer in answers {
-        let verdict = (5, Do::Verdict(0, outcome), *answer);
-        table.push(verdict).expect(rt, "memory");
+        add_step(rt, (5, Do::Verdict(0, outcome), *answer), &mut table);
     }
-    table.push((5, Do::Look, left)).expect(rt, "memory");
+    add_step(rt, (5, Do::Look, left), &mut table);
     shows(rt, alloc, table.as_slice());
+    drop(table);
+}
+
+fn add_step(rt: &impl Abort, step: Step<'static>, table: &mut Vec<Step<'static>>) {
+    table.push(step).expect(rt, "memory");
 }
 
 // The table of verdicts, with no subscriber left and with one that came late.
@@ -539,6 +553,12 @@ fn fetched_at_once(rt: &impl Abort, alloc: Global, keys: &[u64]) -> Vec<Seen> {
     seen
 }
 
+fn assert_fetched(rt: &impl Abort, alloc: Global, keys: &[u64], expected: &[Seen]) {
+    let seen = fetched_at_once(rt, alloc, keys);
+    assert_same(rt, seen.as_slice(), expected);
+    drop(seen);
+}
+
 /// A key that is asked for, under this attempt.
 macro_rules! asked {
     ($key:expr, $attempt:expr) => {
@@ -567,8 +587,7 @@ fn fetches_of_each_length(rt: HostRuntime) {
     ];
     const TABLE: &[(&[u64], &[Seen])] = &[(&[], NONE), (&[1], ONE), (&[3, 1, 2], THREE)];
     for &(keys, seen) in TABLE {
-        let given = fetched_at_once(&rt, rt.alloc(), keys);
-        assert_eq!(rt; given.as_slice(), seen, "of {keys:?}");
+        assert_fetched(&rt, rt.alloc(), keys, seen);
     }
 }
 
@@ -689,5 +708,6 @@ fn ten_thousand_deliveries(rt: HostRuntime) {
         Tally(Some(5_000), 0, None),
     ];
     let tallies = play_crowd(&rt, rt.alloc());
-    assert_eq!(rt; tallies.as_slice(), EXPECTED);
+    assert_same(&rt, tallies.as_slice(), EXPECTED);
+    drop(tallies);
 }

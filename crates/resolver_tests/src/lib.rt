@@ -7,6 +7,8 @@
 #[cfg(test)]
 mod actor;
 #[cfg(test)]
+mod asserting;
+#[cfg(test)]
 mod closing;
 #[cfg(test)]
 mod cores;

@@ -1,5 +1,6 @@
 ghost use Rattle.std.specs.Prelude.{◌≡◌, ◌<◌, true};
 
+use crate::asserting::assert_same;
 use bytes::BytesMut;
 use resolver::Fetch;
 use resolver::base::Span;
@@ -13,16 +14,24 @@ use std::panic::Expect;
 use std::process::Abort;
 use std::sync::Wait;
 
+/// A key in bytes.
+fn bytes_of(rt: &impl Abort, alloc: Global, key: Key) -> BytesMut {
+    let mut bytes = BytesMut::new(alloc);
+    key.write(&mut bytes).expect(rt, "memory");
+    bytes
+}
+
 #[test]
 fn a_key_is_read_again(rt: HostRuntime) {
-    let mut bytes = BytesMut::new(rt.alloc());
-    Key(123).write(&mut bytes).expect(&rt, "memory");
-    assert_eq!(rt; bytes.as_slice(), [123].as_slice());
-    assert_eq!(rt; Key::read(&[123]), Some(Key(123)));
-    assert_eq!(rt; Key::default(), Key(0));
+    let bytes = bytes_of(&rt, rt.alloc(), Key(123));
+    assert_same(&rt, bytes.as_slice(), [123].as_slice());
+    drop(bytes);
+    assert_same(&rt, &Key::read(&[123]), &Some(Key(123)));
+    assert_same(&rt, &Key::default(), &Key(0));
     assert!(rt; Key(1) < Key(2));
     let shown = Key(123).to_string(rt.alloc()).expect(&rt, "memory");
-    assert_eq!(rt; shown.as_str(), "Key(123)");
+    assert_same(&rt, shown.as_str(), "Key(123)");
+    drop(shown);
 }
 
 /// Puts a fetch of a key.
@@ -84,5 +93,5 @@ where
 #[test]
 fn a_key_is_booked(rt: HostRuntime) {
     let key = booked::<Brand, _>(rt, rt.alloc(), Pages::new(), Key(123));
-    assert_eq!(rt; key, Some(Key(123)));
+    assert_same(&rt, &key, &Some(Key(123)));
 }
