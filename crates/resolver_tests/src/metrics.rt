@@ -1,5 +1,6 @@
 //! What an engine counts.
 
+use crate::asserting::assert_same;
 use crate::cores::{Given, Plain, input_of, make_core};
 use resolver::p2p::{Durations, Metrics, Tally};
 use resolver::{Outcome, Resolution};
@@ -141,23 +142,27 @@ fn counts(rt: &impl Abort, alloc: Global, lists: &[&[(u64, Given)]]) -> Metrics 
     counted
 }
 
-fn assert_counts(rt: &impl Abort, alloc: Global, lists: &[&[(u64, Given)]], expected: Metrics) {
-    assert_eq!(rt; counts(rt, alloc, lists), expected);
+fn assert_counts(rt: &impl Abort, alloc: Global, lists: &[&[(u64, Given)]], expected: &Metrics) {
+    assert_same(rt, &counts(rt, alloc, lists), expected);
 }
 
-/// The same, where `rest` follows once peer 4 was asked.
-fn assert_asked(rt: &impl Abort, alloc: Global, rest: &[(u64, Given)], expected: Metrics) {
-    assert_counts(rt, alloc, &[ASKED, rest], expected);
+/// What a new core is given, one list after another, and what it counts then.
+type Row = (&'static [&'static [(u64, Given)]], Metrics);
+
+fn assert_rows(rt: &impl Abort, alloc: Global, rows: &[Row]) {
+    for (lists, expected) in rows {
+        assert_counts(rt, alloc, lists, expected);
+    }
 }
 
-/// The same, where this is the verdict on its response.
-fn assert_judged(rt: &impl Abort, alloc: Global, outcome: Option<Outcome>, expected: Metrics) {
+/// That so much is counted where peer 4 was asked, and this is the verdict on its response.
+fn assert_judged(rt: &impl Abort, alloc: Global, outcome: Option<Outcome>, expected: &Metrics) {
     let verdict = [(20, Given::Verdict(0, outcome))];
     assert_counts(rt, alloc, &[ASKED, JUDGED, &verdict], expected);
 }
 
 /// The same, where the key was called off before.
-fn assert_called_off(rt: &impl Abort, alloc: Global, outcome: Option<Outcome>, expected: Metrics) {
+fn assert_called_off(rt: &impl Abort, alloc: Global, outcome: Option<Outcome>, expected: &Metrics) {
     let rest = [(20, Given::Retain(0)), (20, Given::Verdict(0, outcome))];
     assert_counts(rt, alloc, &[ASKED, JUDGED, &rest], expected);
 }
@@ -167,7 +172,7 @@ fn assert_judged_again(
     rt: &impl Abort,
     alloc: Global,
     outcome: Option<Outcome>,
-    expected: Metrics,
+    expected: &Metrics,
 ) {
     let rest = [
         (20, Given::Verdict(0, COMPLETE)),
@@ -176,9 +181,23 @@ fn assert_judged_again(
     assert_counts(rt, alloc, &[ASKED, JOINED, &rest], expected);
 }
 
+/// What is counted of one verdict in each of these courses.
+struct Judged {
+    first: Metrics,
+    called_off: Metrics,
+    again: Metrics,
+}
+
+/// That one verdict is counted so in each of them.
+fn assert_each_judged(rt: &impl Abort, alloc: Global, outcome: Option<Outcome>, expected: &Judged) {
+    assert_judged(rt, alloc, outcome, &expected.first);
+    assert_called_off(rt, alloc, outcome, &expected.called_off);
+    assert_judged_again(rt, alloc, outcome, &expected.again);
+}
+
 #[test]
 fn metrics_after_verdict(rt: HostRuntime) {
-    assert_judged(&rt, rt.alloc(), COMPLETE, COMPLETED);
+    assert_judged(&rt, rt.alloc(), COMPLETE, &COMPLETED);
 }
 
 /// A called off delivery still earns its credit, but the key's time isn't counted.
@@ -188,191 +207,154 @@ fn a_called_off_complete_counts_no_fetch(rt: HostRuntime) {
         cancel: ONE,
         ..CREDITED
     };
-    assert_called_off(&rt, rt.alloc(), COMPLETE, EXPECTED);
+    assert_called_off(&rt, rt.alloc(), COMPLETE, &EXPECTED);
 }
+
+/// Two keys wait.
+const WAITS: &[(u64, Given)] = &[(0, Given::Fetch(1, 10)), (0, Given::Fetch(2, 10))];
+
+/// Two requests of peer 3 wait for their bytes.
+const SERVES: &[(u64, Given)] = &[(5, Given::Net(3, REQUEST)), (6, Given::Net(3, REQUEST))];
+
+/// A request has no answer.
+const ACTIVE: Metrics = Metrics {
+    fetch_active: 1,
+    ..SENT
+};
 
 /// Keys wait, requests have no answer, and serves are open.
 #[test]
 fn what_there_is_now(rt: HostRuntime) {
-    let alloc = rt.alloc();
-    const WAITS: &[(u64, Given)] = &[(0, Given::Fetch(1, 10)), (0, Given::Fetch(2, 10))];
     const TWO: Metrics = Metrics {
         fetch_pending: 2,
         ..UNCOUNTED
     };
-    assert_counts(&rt, alloc, &[WAITS], TWO);
-    assert_asked(
-        &rt,
-        alloc,
-        &[],
-        Metrics {
-            fetch_active: 1,
-            ..SENT
-        },
-    );
-    assert_asked(&rt, alloc, JUDGED, SENT);
-    const SERVES: &[(u64, Given)] = &[(5, Given::Net(3, REQUEST)), (6, Given::Net(3, REQUEST))];
     const OPEN: Metrics = Metrics {
         serve_processing: 2,
         ..UNCOUNTED
     };
-    assert_counts(&rt, alloc, &[SERVES], OPEN);
+    const ROWS: &[Row] = &[
+        (&[WAITS], TWO),
+        (&[ASKED], ACTIVE),
+        (&[ASKED, JUDGED], SENT),
+        (&[SERVES], OPEN),
+    ];
+    assert_rows(&rt, rt.alloc(), ROWS);
 }
 
 /// `Unresolved` is ambiguous, unless the response was accepted before.
 #[test]
 fn ambiguous_fetches(rt: HostRuntime) {
-    let alloc = rt.alloc();
     const ONCE: Metrics = Metrics {
         fetch: AMBIGUOUS,
         ..SENT
     };
-    assert_judged(
-        &rt,
-        alloc,
-        UNRESOLVED,
-        Metrics {
+    const EXPECTED: Judged = Judged {
+        first: Metrics {
             fetch_pending: 1,
             ..ONCE
         },
-    );
-    assert_called_off(
-        &rt,
-        alloc,
-        UNRESOLVED,
-        Metrics {
+        called_off: Metrics {
             cancel: ONE,
             ..ONCE
         },
-    );
-    const ACCEPTED: Metrics = Metrics {
-        fetch_pending: 1,
-        ..COMPLETED
+        again: Metrics {
+            fetch_pending: 1,
+            ..COMPLETED
+        },
     };
-    assert_judged_again(&rt, alloc, UNRESOLVED, ACCEPTED);
+    assert_each_judged(&rt, rt.alloc(), UNRESOLVED, &EXPECTED);
 }
 
 /// `Invalid` is a failure, also where it was called off or conflicts.
 #[test]
 fn invalid_fetches(rt: HostRuntime) {
-    let alloc = rt.alloc();
     const ONCE: Metrics = Metrics {
         fetch: FAILED,
         ..SENT
     };
-    assert_judged(
-        &rt,
-        alloc,
-        INVALID,
-        Metrics {
+    const EXPECTED: Judged = Judged {
+        first: Metrics {
             fetch_pending: 1,
             ..ONCE
         },
-    );
-    assert_called_off(
-        &rt,
-        alloc,
-        INVALID,
-        Metrics {
+        called_off: Metrics {
             cancel: ONE,
             ..ONCE
         },
-    );
-    const BOTH: Tally = Tally { failure: 1, ..ONE };
-    assert_judged_again(
-        &rt,
-        alloc,
-        INVALID,
-        Metrics {
-            fetch: BOTH,
+        again: Metrics {
+            fetch: Tally { failure: 1, ..ONE },
             ..COMPLETED
         },
-    );
+    };
+    assert_each_judged(&rt, rt.alloc(), INVALID, &EXPECTED);
 }
 
 /// A request fails whose time is over, and one that its peer has no data for.
 #[test]
 fn failed_requests(rt: HostRuntime) {
-    let alloc = rt.alloc();
-    const ACTIVE: Metrics = Metrics {
-        fetch_active: 1,
-        ..SENT
-    };
     const UNANSWERED: Metrics = Metrics {
         fetch: FAILED,
         fetch_pending: 1,
         ..SENT
     };
-    assert_asked(&rt, alloc, &[(49, Given::TimeOut)], ACTIVE);
-    assert_asked(&rt, alloc, &[(50, Given::TimeOut)], UNANSWERED);
-    assert_asked(&rt, alloc, &[(20, Given::Net(3, MISSING))], ACTIVE);
-    assert_asked(&rt, alloc, &[(20, Given::Net(4, MISSING))], UNANSWERED);
+    const ROWS: &[Row] = &[
+        (&[ASKED, &[(49, Given::TimeOut)]], ACTIVE),
+        (&[ASKED, &[(50, Given::TimeOut)]], UNANSWERED),
+        (&[ASKED, &[(20, Given::Net(3, MISSING))]], ACTIVE),
+        (&[ASKED, &[(20, Given::Net(4, MISSING))]], UNANSWERED),
+    ];
+    assert_rows(&rt, rt.alloc(), ROWS);
 }
+
+/// One request was sent, and its key called off.
+const CANCELED: Metrics = Metrics {
+    cancel: ONE,
+    ..SENT
+};
+
+/// One request was sent, and its response dropped.
+const LOST: Metrics = Metrics {
+    fetch: DROPPED,
+    ..SENT
+};
 
 /// `Ignored` is dropped, accepted or not, unless it was called off.
 #[test]
 fn ignored_fetches(rt: HostRuntime) {
-    let alloc = rt.alloc();
-    assert_judged(
-        &rt,
-        alloc,
-        IGNORED,
-        Metrics {
-            fetch: DROPPED,
-            ..SENT
-        },
-    );
-    assert_called_off(
-        &rt,
-        alloc,
-        IGNORED,
-        Metrics {
-            cancel: ONE,
-            ..SENT
-        },
-    );
-    const BOTH: Tally = Tally { dropped: 1, ..ONE };
-    assert_judged_again(
-        &rt,
-        alloc,
-        IGNORED,
-        Metrics {
-            fetch: BOTH,
+    const EXPECTED: Judged = Judged {
+        first: LOST,
+        called_off: CANCELED,
+        again: Metrics {
+            fetch: Tally { dropped: 1, ..ONE },
             ..COMPLETED
         },
-    );
+    };
+    assert_each_judged(&rt, rt.alloc(), IGNORED, &EXPECTED);
 }
 
 /// A key is dropped that a dropped verdict retires, unless its response was accepted.
 #[test]
 fn dropped_verdicts(rt: HostRuntime) {
-    let alloc = rt.alloc();
-    const LOST: Metrics = Metrics {
-        fetch: DROPPED,
-        ..SENT
+    const EXPECTED: Judged = Judged {
+        first: LOST,
+        called_off: CANCELED,
+        again: COMPLETED,
     };
-    assert_judged(&rt, alloc, None, LOST);
-    assert_called_off(
-        &rt,
-        alloc,
-        None,
-        Metrics {
-            cancel: ONE,
-            ..SENT
-        },
-    );
-    assert_judged_again(&rt, alloc, None, COMPLETED);
+    assert_each_judged(&rt, rt.alloc(), None, &EXPECTED);
     const FIRST: &[(u64, Given)] = &[(20, Given::Verdict(0, None))];
-    assert_counts(&rt, alloc, &[ASKED, JOINED, FIRST], SENT);
     const SECOND: &[(u64, Given)] = &[(30, Given::Verdict(1, None))];
-    assert_counts(&rt, alloc, &[ASKED, JOINED, FIRST, SECOND], LOST);
+    const ROWS: &[Row] = &[
+        (&[ASKED, JOINED, FIRST], SENT),
+        (&[ASKED, JOINED, FIRST, SECOND], LOST),
+    ];
+    assert_rows(&rt, rt.alloc(), ROWS);
 }
 
 /// A key's time is counted at its first complete response, and at no other.
 #[test]
 fn the_time_of_a_fetch(rt: HostRuntime) {
-    let alloc = rt.alloc();
-    assert_judged_again(&rt, alloc, COMPLETE, COMPLETED);
+    assert_judged_again(&rt, rt.alloc(), COMPLETE, &COMPLETED);
     const TWICE: Metrics = Metrics {
         fetch: Tally { success: 2, ..NONE },
         requests_sent: Tally { success: 2, ..NONE },
@@ -384,14 +366,13 @@ fn the_time_of_a_fetch(rt: HostRuntime) {
     };
     const FIRST: &[(u64, Given)] = &[(20, Given::Verdict(0, PARTIAL))];
     const LAST: &[(u64, Given)] = &[(50, Given::Verdict(1, COMPLETE))];
-    const EXPECTED: Metrics = Metrics {
+    const LATER: Metrics = Metrics {
         fetch_duration: Durations {
             count: 1,
             nanoseconds: 50,
         },
         ..TWICE
     };
-    assert_counts(&rt, alloc, &[ASKED, JUDGED, FIRST, AGAIN, LAST], EXPECTED);
     const BOTH: &[(u64, Given)] = &[
         (20, Given::Verdict(0, COMPLETE)),
         (20, Given::Verdict(1, PARTIAL)),
@@ -401,13 +382,16 @@ fn the_time_of_a_fetch(rt: HostRuntime) {
         fetch_duration: TWENTY,
         ..TWICE
     };
-    assert_counts(&rt, alloc, &[ASKED, JOINED, BOTH, AGAIN, THIRD], SOONER);
+    const ROWS: &[Row] = &[
+        (&[ASKED, JUDGED, FIRST, AGAIN, LAST], LATER),
+        (&[ASKED, JOINED, BOTH, AGAIN, THIRD], SOONER),
+    ];
+    assert_rows(&rt, rt.alloc(), ROWS);
 }
 
 /// A retain counts each key that it calls off, or itself where there is none.
 #[test]
 fn retains(rt: HostRuntime) {
-    let alloc = rt.alloc();
     const KEYS: &[(u64, Given)] = &[
         (0, Given::Fetch(1, 10)),
         (0, Given::Fetch(2, 10)),
@@ -418,29 +402,22 @@ fn retains(rt: HostRuntime) {
         cancel: DROPPED,
         ..UNCOUNTED
     };
-    assert_counts(&rt, alloc, &[KEYS], KEPT);
     const CALLED_OFF: &[(u64, Given)] = &[(0, Given::Retain(0))];
-    const BOTH: Tally = Tally {
-        success: 2,
-        dropped: 1,
-        ..NONE
-    };
-    assert_counts(
-        &rt,
-        alloc,
-        &[KEYS, CALLED_OFF],
-        Metrics {
-            cancel: BOTH,
-            ..UNCOUNTED
+    const BOTH: Metrics = Metrics {
+        cancel: Tally {
+            success: 2,
+            dropped: 1,
+            ..NONE
         },
-    );
+        ..UNCOUNTED
+    };
+    const ROWS: &[Row] = &[(&[KEYS], KEPT), (&[KEYS, CALLED_OFF], BOTH)];
+    assert_rows(&rt, rt.alloc(), ROWS);
 }
 
 /// An answered serve has its time counted, a dropped one has not, and a closed one counts nothing.
 #[test]
 fn serves(rt: HostRuntime) {
-    let alloc = rt.alloc();
-    const OPEN: &[(u64, Given)] = &[(5, Given::Net(3, REQUEST)), (6, Given::Net(3, REQUEST))];
     const CLOSED: &[(u64, Given)] = &[
         (7, Given::Served(1, false)),
         (30, Given::Served(0, true)),
@@ -458,7 +435,7 @@ fn serves(rt: HostRuntime) {
         },
         ..UNCOUNTED
     };
-    assert_counts(&rt, alloc, &[OPEN, CLOSED], EXPECTED);
+    assert_counts(&rt, rt.alloc(), &[SERVES, CLOSED], &EXPECTED);
 }
 
 /// Both peers are asked, and neither request is accepted to be sent.
@@ -482,7 +459,7 @@ fn refused_requests(rt: HostRuntime) {
         requests_sent: Tally { dropped: 2, ..NONE },
         ..UNCOUNTED
     };
-    assert_counts(&rt, rt.alloc(), &[GIVEN], EXPECTED);
+    assert_counts(&rt, rt.alloc(), &[GIVEN], &EXPECTED);
 }
 
 /// Numbers that all differ.
@@ -576,5 +553,6 @@ fn spelled(rt: &impl Abort, alloc: Global, metrics: &Metrics) -> String {
 #[test]
 fn a_scraper_gets_a_line_for_each_number(rt: HostRuntime) {
     let text = spelled(&rt, rt.alloc(), &COUNTED);
-    assert_eq!(rt; text.as_str(), SCRAPED);
+    assert_same(&rt, text.as_str(), SCRAPED);
+    drop(text);
 }
