@@ -1,3 +1,4 @@
+use crate::asserting::assert_same;
 use crate::cores::{Given, Plain, PlainEffect, PlainInput, input_of, make_core};
 use bytes::Bytes;
 use resolver::base::Fault;
@@ -32,10 +33,21 @@ type Answered = Result<Vec<PlainEffect>, Fault>;
 /// An engine that is called 9, with a timeout of 50 and a delay of 10.
 fn open<R: Abort + Copy>(rt: R, alloc: Global) -> Silent<R> {
     let mailbox_size = NonZeroUsize::new(4).expect(&rt, "a size");
+    let consumer = Consumer::dummy(alloc).expect(&rt, "memory");
+    let made = make(rt, alloc, mailbox_size, consumer);
+    made.expect(&rt, "an engine")
+}
+
+fn make<R: Copy>(
+    rt: R,
+    alloc: Global,
+    mailbox_size: NonZeroUsize,
+    consumer: Consumer<Key, Bytes, u16>,
+) -> Result<Silent<R>, Fault> {
     let cfg = Config {
         peer_provider: Quiet::new(),
         blocker: Quiet::new(),
-        consumer: Consumer::dummy(alloc).expect(&rt, "memory"),
+        consumer,
         producer: Producer::new(alloc),
         mailbox_size,
         me: Some(Peer(9)),
@@ -44,9 +56,13 @@ fn open<R: Abort + Copy>(rt: R, alloc: Global) -> Silent<R> {
         priority_requests: false,
         priority_responses: false,
     };
-    let (engine, mailbox) = Engine::new(rt, alloc, cfg).expect(&rt, "an engine");
-    drop(mailbox);
-    engine
+    match Engine::new(rt, alloc, cfg) {
+        Ok((engine, mailbox)) => {
+            drop(mailbox);
+            Ok(engine)
+        }
+        Err(fault) => Err(fault),
+    }
 }
 
 /// What the row `peer_refusals` of the worked rows is given: a scan that sends its request, with answers and events
@@ -67,54 +83,69 @@ const GIVEN: &[Given] = &[
 fn inputs(rt: &impl Abort, alloc: Global) -> Vec<PlainInput> {
     let mut inputs = Vec::new(alloc);
     for given in GIVEN {
-        inputs
-            .push(input_of(rt, alloc, 0, *given))
-            .expect(rt, "memory");
+        add(rt, &mut inputs, input_of(rt, alloc, 0, *given));
     }
     inputs
 }
 
-fn spell_effect(rt: &impl Abort, text: &mut String, effect: &PlainEffect) {
-    let written = match effect {
-        Effect::Ask(Ask::Draw(below)) => write!(text, " draw {below}"),
-        Effect::Ask(Ask::Check(peer)) => write!(text, " check {}", peer.0),
-        Effect::Ask(Ask::Request { peer, id, key, .. }) => {
-            write!(text, " request {} {id} {}", peer.0, key.0)
-        }
-        _ => write!(text, " other"),
+fn add(rt: &impl Abort, inputs: &mut Vec<PlainInput>, input: PlainInput) {
+    inputs.push(input).expect(rt, "memory");
+}
+
+fn spell_ask(rt: &impl Abort, text: &mut String, ask: &Ask<Key, Peer>) {
+    let written = match ask {
+        Ask::Draw(below) => write!(text, " draw {below}"),
+        Ask::Check(peer) => write!(text, " check {}", peer.0),
+        Ask::Request { peer, id, key, .. } => { write!(text, " request {} {id} {}", peer.0, key.0) }
     };
     written.expect(rt, "memory");
+}
+
+fn spell_effect(rt: &impl Abort, text: &mut String, effect: &PlainEffect) {
+    match effect {
+        Effect::Ask(ask) => spell_ask(rt, text, ask),
+        _ => text.push_str(" other").expect(rt, "memory"),
+    }
+}
+
+fn spell_effects(rt: &impl Abort, text: &mut String, effects: &[PlainEffect]) {
+    for effect in effects {
+        spell_effect(rt, text, effect);
+    }
+}
+
+fn spell_refusal(rt: &impl Abort, text: &mut String, fault: Fault) {
+    write!(text, " refused {} {}", fault.number(), fault.name()).expect(rt, "memory");
 }
 
 /// Writes an answer on its line.
 fn spell_answer(rt: &impl Abort, text: &mut String, answer: &Answered) {
     match answer {
-        Ok(effects) => {
-            for effect in effects {
-                spell_effect(rt, text, effect);
-            }
-        }
-        Err(fault) => {
-            write!(text, " refused {} {}", fault.number(), fault.name()).expect(rt, "memory");
-        }
+        Ok(effects) => spell_effects(rt, text, effects.as_slice()),
+        Err(fault) => spell_refusal(rt, text, *fault),
     }
-    writeln!(text).expect(rt, "memory");
+    text.push('\n').expect(rt, "memory");
+}
+
+fn spell_phase(rt: &impl Abort, text: &mut String, phase: &Phase<Peer>) {
+    let written = match phase {
+        Phase::Asked { id, peer, deadline } => {
+            writeln!(text, " asked {id} {} {deadline}", peer.0)
+        }
+        _ => writeln!(text, " idle"),
+    };
+    written.expect(rt, "memory");
+}
+
+fn spell_key(rt: &impl Abort, text: &mut String, key: Key, first: &(u16, u64), retries: u32) {
+    let (subscriber, mark) = first;
+    let Key(key) = key;
+    write!(text, "key {key} subs {subscriber}:{mark} retries {retries}").expect(rt, "memory");
 }
 
 fn spell_row(rt: &impl Abort, text: &mut String, row: &Row<Key, u16, Peer>) {
-    let (subscriber, mark) = row.subscribers.first();
-    write!(
-        text,
-        "key {} subs {subscriber}:{mark} retries {}",
-        row.key.0, row.retries
-    )
-    .expect(rt, "memory");
-    match &row.phase {
-        Phase::Asked { id, peer, deadline } => {
-            writeln!(text, " asked {id} {} {deadline}", peer.0).expect(rt, "memory");
-        }
-        _ => writeln!(text, " idle").expect(rt, "memory"),
-    }
+    spell_key(rt, text, row.key, row.subscribers.first(), row.retries);
+    spell_phase(rt, text, &row.phase);
 }
 
 /// Writes answers, each on its line.
@@ -138,25 +169,32 @@ fn spell_counts(rt: &impl Abort, text: &mut String, counted: &Metrics) {
     writeln!(text, "waiting {waiting} asked {asked} sent {sent}").expect(rt, "memory");
 }
 
-/// Writes the rows, when it is time to ask again and when a request's time is over, and the counts.
+/// When it is time to ask again, and when a request's time is over.
+type Due = (Option<u128>, Option<u128>);
+
+fn spell_due(rt: &impl Abort, text: &mut String, due: Due) {
+    let (wake, timeout) = due;
+    writeln!(text, "wake {wake:?} timeout {timeout:?}").expect(rt, "memory");
+}
+
+/// Writes the rows, what is due, and the counts.
 fn spell_state(
     rt: &impl Abort,
     text: &mut String,
-    rows: Vec<Row<Key, u16, Peer>>,
-    due: (Option<u128>, Option<u128>),
-    counted: Metrics,
+    rows: &[Row<Key, u16, Peer>],
+    due: Due,
+    counted: &Metrics,
 ) {
-    spell_rows(rt, text, rows.as_slice());
-    drop(rows);
-    let (wake, timeout) = due;
-    writeln!(text, "wake {wake:?} timeout {timeout:?}").expect(rt, "memory");
-    spell_counts(rt, text, &counted);
+    spell_rows(rt, text, rows);
+    spell_due(rt, text, due);
+    spell_counts(rt, text, counted);
 }
 
 fn show<R>(rt: &impl Abort, text: &mut String, engine: &Silent<R>) {
     let rows = engine.rows().expect(rt, "memory");
     let due = (engine.get_pending_deadline(), engine.get_active_deadline());
-    spell_state(rt, text, rows, due, engine.metrics());
+    spell_state(rt, text, rows.as_slice(), due, &engine.metrics());
+    drop(rows);
 }
 
 /// What the row `peer_refusals` of the worked rows prints, with an empty line for each input that
@@ -176,18 +214,12 @@ wake None timeout Some(50)
 waiting 0 asked 1 sent 1
 ";
 
-/// Takes an input, and writes the answer.
-fn take<R>(rt: &impl Abort, text: &mut String, engine: &mut Silent<R>, input: PlainInput) {
-    let answer = engine.step(input);
-    spell_answer(rt, text, &answer);
-    drop(answer);
-}
-
 /// The inputs one by one.
 fn step_by_step<R>(rt: &impl Abort, text: &mut String, engine: &mut Silent<R>) {
     for given in GIVEN {
-        let input = input_of(rt, *text.allocator(), 0, *given);
-        take(rt, text, engine, input);
+        let answer = engine.step(input_of(rt, *text.allocator(), 0, *given));
+        spell_answer(rt, text, &answer);
+        drop(answer);
     }
 }
 
@@ -219,9 +251,13 @@ fn run_core(rt: &impl Abort, text: &mut String, core: &mut Plain) {
     let answers = core.run(inputs).expect(rt, "memory");
     spell_answers(rt, text, answers.as_slice());
     drop(answers);
+}
+
+fn show_core(rt: &impl Abort, text: &mut String, core: &Plain) {
     let rows = core.rows().expect(rt, "memory");
     let due = (core.get_pending_deadline(), core.get_active_deadline());
-    spell_state(rt, text, rows, due, core.metrics());
+    spell_state(rt, text, rows.as_slice(), due, &core.metrics());
+    drop(rows);
 }
 
 /// What a core by itself writes of them.
@@ -229,6 +265,7 @@ fn printed_of_core(rt: &impl Abort, alloc: Global) -> String {
     let mut core = make_core(alloc, Some(Peer(9)));
     let mut text = String::new(alloc);
     run_core(rt, &mut text, &mut core);
+    show_core(rt, &mut text, &core);
     drop(core);
     text
 }
@@ -236,17 +273,20 @@ fn printed_of_core(rt: &impl Abort, alloc: Global) -> String {
 #[test]
 fn peer_refusals_step_by_step(rt: HostRuntime) {
     let text = printed(rt, rt.alloc(), false);
-    assert_eq!(rt; text.as_str(), PRINTED);
+    assert_same(&rt, text.as_str(), PRINTED);
+    drop(text);
 }
 
 #[test]
 fn peer_refusals_in_one_run(rt: HostRuntime) {
     let text = printed(rt, rt.alloc(), true);
-    assert_eq!(rt; text.as_str(), PRINTED);
+    assert_same(&rt, text.as_str(), PRINTED);
+    drop(text);
 }
 
 #[test]
 fn peer_refusals_of_a_core(rt: HostRuntime) {
     let text = printed_of_core(&rt, rt.alloc());
-    assert_eq!(rt; text.as_str(), PRINTED);
+    assert_same(&rt, text.as_str(), PRINTED);
+    drop(text);
 }
