@@ -74,7 +74,7 @@ impl Fetcher for Source {
         let Ok((sender, receiver)) = oneshot::channel(self.alloc) else {
             return Look { value: None };
         };
-        let _ = self.looks.unbounded_send((key, sender));
+        drop(self.looks.unbounded_send((key, sender)));
         Look {
             value: Some(receiver),
         }
@@ -250,25 +250,41 @@ impl<R: Wait + Copy + Send + 'static> Asking for Asked<R> {
     }
 }
 
+/// Writes that a key is looked for.
+pub fn spell_look(rt: &impl Abort, text: &mut String, key: Key) {
+    writeln!(text, "look {}", key.0).expect(rt, "memory");
+}
+
+/// Answers a look with these bytes, if there are any.
+pub fn answer_look(look: Looked, value: Option<&'static [u8]>) {
+    let value = match value {
+        Some(bytes) => Some(Bytes::from_static(bytes)),
+        None => None,
+    };
+    drop(look.send(value));
+}
+
 impl Held {
     /// The look that has begun, which is written.
     pub fn look(&mut self, rt: &impl Abort, text: &mut String) -> Option<Looked> {
-        let (key, look) = self.looks.try_recv().ok()?;
-        writeln!(text, "look {}", key.0).expect(rt, "memory");
+        let Ok((key, look)) = self.looks.try_recv() else {
+            return None;
+        };
+        spell_look(rt, text, key);
         Some(look)
     }
 
     /// Answers the look that has begun.
-    pub fn answer(&mut self, rt: &impl Abort, text: &mut String, value: Option<Bytes>) {
+    pub fn answer(&mut self, rt: &impl Abort, text: &mut String, value: Option<&'static [u8]>) {
         if let Some(look) = self.look(rt, text) {
-            let _ = look.send(value);
+            answer_look(look, value);
         }
     }
 
     /// The consumer says that what was delivered last is what was wanted.
     pub fn complete(&mut self) {
         if let Ok(verdict) = self.verdicts.try_recv() {
-            let _ = verdict.send(Outcome::Resolved(Resolution::Complete));
+            drop(verdict.send(Outcome::Resolved(Resolution::Complete)));
         }
     }
 }

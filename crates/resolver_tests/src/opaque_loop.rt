@@ -1,6 +1,6 @@
+use crate::asserting::assert_same;
 use crate::opaque_lent::{Asking, Ends, opened};
-use crate::playing::turn;
-use bytes::Bytes;
+use crate::playing::{spell_feedback, turn};
 use futures::channel::oneshot;
 use futures::test::MockTask;
 use resolver_fakes::seen::Wrong;
@@ -12,62 +12,58 @@ use std::process::Abort;
 use std::random::RandomSource;
 use std::sync::Wait;
 
-/// The source has nothing at first, and a value after the retry delay.
-fn retried<A: Asking, L: Polled>(
-    rt: &impl Abort,
-    text: &mut String,
-    task: &MockTask,
-    looped: &mut L,
-    ends: &mut Ends<A>,
-) {
-    ends.resolver.want(rt, 10);
-    let held = &mut ends.held;
-    turn(rt, text, task, looped, &mut held.told);
-    held.answer(rt, text, None);
-    turn(rt, text, task, looped, &mut held.told);
-    held.watch.put(99);
-    turn(rt, text, task, looped, &mut held.told);
-    held.watch.put(100);
-    turn(rt, text, task, looped, &mut held.told);
-    held.answer(rt, text, Some(Bytes::from_static(b"hi")));
-    turn(rt, text, task, looped, &mut held.told);
-    held.complete();
-    turn(rt, text, task, looped, &mut held.told);
+/// What a test does to an actor's loop.
+#[derive(Clone, Copy)]
+enum Act {
+    /// The subscriber wants key 1.
+    Want(u16),
+    /// The same, and it is told how that was taken.
+    LastWant(u16),
+    /// The look that has begun is answered so.
+    Answer(Option<&'static [u8]>),
+    /// It is this moment.
+    At(u64),
+    /// What was delivered last is what was wanted.
+    Complete,
+    /// The subscribers from this one on are let go.
+    LetGoFrom(u16),
+    /// The same, and the loop is polled, and then it is told whether the look that had begun is given up.
+    LetGoOfLook(u16),
+    /// It is told whether the verdict on what was delivered last is called off.
+    IsCanceled,
+    Close,
+    /// The loop is polled.
+    Turn,
 }
 
-/// Two keys are let go: one that is asked, and one that is judged. Then the mailbox is closed.
-fn let_go<A: Asking, L: Polled>(
-    rt: &impl Abort,
-    text: &mut String,
-    task: &MockTask,
-    looped: &mut L,
-    ends: &mut Ends<A>,
-) {
-    ends.resolver.want(rt, 11);
-    turn(rt, text, task, looped, &mut ends.held.told);
-    let look = ends.held.look(rt, text);
-    ends.resolver.let_go_from(rt, 11);
-    turn(rt, text, task, looped, &mut ends.held.told);
-    writeln!(text, "given up {}", is_given_up(look)).expect(rt, "memory");
-    ends.resolver.want(rt, 12);
-    turn(rt, text, task, looped, &mut ends.held.told);
-    ends.held.answer(rt, text, Some(Bytes::from_static(b"ok")));
-    turn(rt, text, task, looped, &mut ends.held.told);
-    ends.resolver.let_go_from(rt, 11);
-    turn(rt, text, task, looped, &mut ends.held.told);
-    let verdict = ends.held.verdicts.try_recv().ok();
-    writeln!(text, "canceled {}", is_given_up(verdict)).expect(rt, "memory");
-    ends.resolver.end();
-    turn(rt, text, task, looped, &mut ends.held.told);
-}
-
-/// Whether nobody waits for this answer any more.
-fn is_given_up<T: Drop>(answer: Option<oneshot::Sender<T>>) -> bool {
-    match answer {
-        Some(sender) => sender.is_canceled(),
-        None => false,
-    }
-}
+/// The source has nothing at first, and a value after the retry delay. Then two keys are let go: one that is
+/// asked, and one that is judged. Last the mailbox is closed.
+const EVERY: &[Act] = &[
+    Act::Want(10),
+    Act::Turn,
+    Act::Answer(None),
+    Act::Turn,
+    Act::At(99),
+    Act::Turn,
+    Act::At(100),
+    Act::Turn,
+    Act::Answer(Some(b"hi")),
+    Act::Turn,
+    Act::Complete,
+    Act::Turn,
+    Act::Want(11),
+    Act::Turn,
+    Act::LetGoOfLook(11),
+    Act::Want(12),
+    Act::Turn,
+    Act::Answer(Some(b"ok")),
+    Act::Turn,
+    Act::LetGoFrom(11),
+    Act::Turn,
+    Act::IsCanceled,
+    Act::Close,
+    Act::Turn,
+];
 
 /// What the source and the consumer see, by the rules of the opaque machine: a line for each thing that
 /// they are asked, and one for each poll.
@@ -93,84 +89,124 @@ canceled true
 complete
 ";
 
-/// What a test does to an actor's loop.
-#[derive(Clone, Copy)]
-enum Course {
-    /// A key that is looked for again, and two that are let go.
-    Every,
-    /// One key, and whether its mailbox is closed then.
-    Looked(bool),
+/// Whether nobody waits for this answer any more.
+fn is_given_up<T: Drop>(answer: Option<oneshot::Sender<T>>) -> bool {
+    match answer {
+        Some(sender) => sender.is_canceled(),
+        None => false,
+    }
 }
 
-fn go<A: Asking, L: Polled>(
+fn spell_given_up(rt: &impl Abort, text: &mut String, is_given_up: bool) {
+    writeln!(text, "given up {is_given_up}").expect(rt, "memory");
+}
+
+fn spell_canceled(rt: &impl Abort, text: &mut String, is_canceled: bool) {
+    writeln!(text, "canceled {is_canceled}").expect(rt, "memory");
+}
+
+/// The subscribers from this one on are let go while a look has begun. Writes whether that is given up.
+fn let_go_of_look<A: Asking, L: Polled>(
     rt: &impl Abort,
     text: &mut String,
     task: &MockTask,
     looped: &mut L,
     ends: &mut Ends<A>,
-    course: Course,
+    subscriber: u16,
 ) {
-    match course {
-        Course::Every => {
-            retried(rt, text, task, looped, ends);
-            let_go(rt, text, task, looped, ends);
+    let look = ends.held.look(rt, text);
+    ends.resolver.let_go_from(rt, subscriber);
+    turn(rt, text, task, looped, &mut ends.held.told);
+    spell_given_up(rt, text, is_given_up(look));
+}
+
+fn step<A: Asking, L: Polled>(
+    rt: &impl Abort,
+    text: &mut String,
+    task: &MockTask,
+    looped: &mut L,
+    ends: &mut Ends<A>,
+    act: Act,
+) {
+    match act {
+        Act::Want(subscriber) => drop(ends.resolver.want(rt, subscriber)),
+        Act::LastWant(subscriber) => {
+            spell_feedback(rt, text, ends.resolver.want(rt, subscriber));
         }
-        Course::Looked(closes) => looked(rt, text, task, looped, ends, closes),
+        Act::Answer(value) => ends.held.answer(rt, text, value),
+        Act::At(now) => ends.held.watch.put(now),
+        Act::Complete => ends.held.complete(),
+        Act::LetGoFrom(subscriber) => ends.resolver.let_go_from(rt, subscriber),
+        Act::LetGoOfLook(subscriber) => let_go_of_look(rt, text, task, looped, ends, subscriber),
+        Act::IsCanceled => {
+            let verdict = ends.held.verdicts.try_recv().ok();
+            spell_canceled(rt, text, is_given_up(verdict));
+        }
+        Act::Close => ends.resolver.end(),
+        Act::Turn => turn(rt, text, task, looped, &mut ends.held.told),
     }
 }
 
-/// Does this in an actor of its own, and gives what was written.
-fn play<R>(rt: R, wrong: Wrong, course: Course) -> String
+/// Does these, and gives what was written.
+fn written<R, A, L>(rt: &R, looped: &mut L, ends: &mut Ends<A>, acts: &[Act]) -> String
 where
-    R: Abort + Wait + RandomSource + AllocGlobal + Copy + Drop + Send + 'static,
+    R: Abort + RandomSource + AllocGlobal,
+    A: Asking,
+    L: Polled,
 {
-    let task = MockTask::new(&rt).expect(&rt, "a task");
+    let task = MockTask::new(rt).expect(rt, "a task");
     let mut text = String::new(rt.alloc());
-    let (mut ends, mut looped) = opened(rt, rt.alloc(), wrong);
-    go(&rt, &mut text, &task, &mut looped, &mut ends, course);
-    drop(looped);
-    drop(ends);
+    for act in acts {
+        step(rt, &mut text, &task, looped, ends, *act);
+    }
+    drop(task);
     text
 }
 
-/// A key is asked for, and its mailbox closed if it is to be. The source has a value. Writes what becomes
-/// of that, and what one more fetch is answered.
-fn looked<A: Asking, L: Polled>(
-    rt: &impl Abort,
-    text: &mut String,
-    task: &MockTask,
-    looped: &mut L,
-    ends: &mut Ends<A>,
-    closes: bool,
-) {
-    ends.resolver.want(rt, 10);
-    if closes {
-        ends.resolver.end();
-    }
-    turn(rt, text, task, looped, &mut ends.held.told);
-    ends.held.answer(rt, text, Some(Bytes::from_static(b"hi")));
-    if !closes {
-        turn(rt, text, task, looped, &mut ends.held.told);
-    }
-    let feedback = ends.resolver.want(rt, 10);
-    writeln!(text, "{feedback:?}").expect(rt, "memory");
+/// That this is what is seen where these are done to an actor of its own.
+fn sees<R>(rt: R, wrong: Wrong, acts: &[Act], seen: &str)
+where
+    R: Abort + Wait + RandomSource + AllocGlobal + Copy + Drop + Send + 'static,
+{
+    let (mut ends, mut looped) = opened(rt, rt.alloc(), wrong);
+    let text = written(&rt, &mut looped, &mut ends, acts);
+    drop(looped);
+    drop(ends);
+    assert_same(&rt, text.as_str(), seen);
+    drop(text);
 }
 
 #[test]
 fn every_input_every_effect_of_the_actor(rt: HostRuntime) {
-    let text = play(rt, Wrong::Nothing, Course::Every);
-    assert_eq!(rt; text.as_str(), SEEN);
+    sees(rt, Wrong::Nothing, EVERY, SEEN);
 }
 
 /// What was put before the close is still taken, and looked for.
 #[test]
 fn the_mailbox_is_closed_and_nothing_waits(rt: HostRuntime) {
-    let text = play(rt, Wrong::Consumer, Course::Looked(true));
-    assert_eq!(rt; text.as_str(), "complete\nlook 1\nClosed\n");
+    const ACTS: &[Act] = &[
+        Act::Want(10),
+        Act::Close,
+        Act::Turn,
+        Act::Answer(Some(b"hi")),
+        Act::LastWant(10),
+    ];
+    sees(rt, Wrong::Consumer, ACTS, "complete\nlook 1\nClosed\n");
 }
 
 #[test]
 fn the_consumer_answers_1(rt: HostRuntime) {
-    let text = play(rt, Wrong::Consumer, Course::Looked(false));
-    assert_eq!(rt; text.as_str(), "-\nlook 1\nOutOfMemory\nClosed\n");
+    const ACTS: &[Act] = &[
+        Act::Want(10),
+        Act::Turn,
+        Act::Answer(Some(b"hi")),
+        Act::Turn,
+        Act::LastWant(10),
+    ];
+    sees(
+        rt,
+        Wrong::Consumer,
+        ACTS,
+        "-\nlook 1\nOutOfMemory\nClosed\n",
+    );
 }

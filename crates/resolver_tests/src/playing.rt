@@ -1,13 +1,15 @@
 //! What a test does to a loop that it polls by hand, and what is seen of that.
 
+use crate::asserting::assert_same;
 use futures::channel::mpsc;
 use futures::task::Poll;
 use futures::test::MockTask;
 use resolver::Ending;
+use resolver::base::Feedback;
 use resolver_fakes::acts::{Act, Asks};
 use resolver_fakes::seen::{Seen, Wrong, spell};
 use resolver_fakes::world::{Polled, Setting, World, make_loop, settle};
-use std::alloc::AllocGlobal;
+use std::alloc::{AllocGlobal, Global};
 use std::fmt::Write;
 use std::panic::Expect;
 use std::process::Abort;
@@ -40,6 +42,10 @@ pub fn turn<L: Polled>(
     writeln!(text, "{word}").expect(rt, "memory");
 }
 
+fn spell_wanted(rt: &impl Abort, text: &mut String, is_wanted: bool) {
+    writeln!(text, "wanted {is_wanted}").expect(rt, "memory");
+}
+
 /// Does this, and polls the loop.
 fn step<M: Asks, L: Polled>(
     rt: &impl Abort,
@@ -49,12 +55,13 @@ fn step<M: Asks, L: Polled>(
     world: &mut World<M>,
     act: Act<'_>,
 ) {
-    if let Act::IsWanted = act {
-        writeln!(text, "wanted {}", world.held.is_wanted()).expect(rt, "memory");
-        return;
+    match act {
+        Act::IsWanted => spell_wanted(rt, text, world.held.is_wanted()),
+        _ => {
+            world.act(act).expect(rt, "memory");
+            turn(rt, text, task, looped, &mut world.held.told);
+        }
     }
-    world.act(act).expect(rt, "memory");
-    turn(rt, text, task, looped, &mut world.held.told);
 }
 
 fn act_all<M: Asks, L: Polled>(
@@ -68,23 +75,43 @@ fn act_all<M: Asks, L: Polled>(
     for act in acts {
         step(rt, text, task, looped, world, *act);
     }
-    let alloc = world.held.alloc;
-    let feedback = world.mailbox.fetch(alloc, &[(200, 20)]);
-    let feedback = feedback.expect(rt, "an answer");
+}
+
+/// Has one more key fetched, and writes the answer.
+fn fetch_last<M: Asks>(rt: &impl Abort, text: &mut String, alloc: Global, mailbox: &mut M) {
+    let feedback = mailbox.fetch(alloc, &[(200, 20)]);
+    spell_feedback(rt, text, feedback.expect(rt, "an answer"));
+}
+
+/// Writes how a fetch was taken.
+pub fn spell_feedback(rt: &impl Abort, text: &mut String, feedback: Feedback) {
     writeln!(text, "{feedback:?}").expect(rt, "memory");
 }
 
-/// Does these in a world of its own, and polls the loop after each. Gives what the fakes were asked, how each
-/// poll ended, and last what one more fetch is answered.
+/// Does these in this world, and polls the loop after each. Gives what the fakes were asked, how each poll
+/// ended, and last what one more fetch is answered.
+fn written<R, M, L>(rt: &R, looped: &mut L, world: &mut World<M>, acts: &[Act<'_>]) -> String
+where
+    R: Abort + RandomSource + AllocGlobal,
+    M: Asks,
+    L: Polled,
+{
+    let task = MockTask::new(rt).expect(rt, "a task");
+    let mut text = String::new(rt.alloc());
+    act_all(rt, &mut text, &task, looped, world, acts);
+    fetch_last(rt, &mut text, rt.alloc(), &mut world.mailbox);
+    drop(task);
+    text
+}
+
+/// The same in a world of its own.
 fn play<R>(rt: R, wrong: Wrong, acts: &[Act<'_>]) -> String
 where
     R: Abort + Wait + RandomSource + AllocGlobal + Copy + Drop + Send + 'static,
 {
-    let task = MockTask::new(&rt).expect(&rt, "a task");
-    let mut text = String::new(rt.alloc());
     let made = make_loop(rt, rt.alloc(), Setting::with(wrong));
     let (mut world, mut looped) = made.expect(&rt, "a loop");
-    act_all(&rt, &mut text, &task, &mut looped, &mut world, acts);
+    let text = written(&rt, &mut looped, &mut world, acts);
     drop(looped);
     drop(world);
     text
@@ -96,5 +123,6 @@ where
     R: Abort + Wait + RandomSource + AllocGlobal + Copy + Drop + Send + 'static,
 {
     let text = play(rt, wrong, acts);
-    assert_eq!(rt; text.as_str(), seen);
+    assert_same(&rt, text.as_str(), seen);
+    drop(text);
 }
