@@ -34,16 +34,6 @@ type Answered = Result<Vec<PlainEffect>, Fault>;
 fn open<R: Abort + Copy>(rt: R, alloc: Global) -> Silent<R> {
     let mailbox_size = NonZeroUsize::new(4).expect(&rt, "a size");
     let consumer = Consumer::dummy(alloc).expect(&rt, "memory");
-    let made = make(rt, alloc, mailbox_size, consumer);
-    made.expect(&rt, "an engine")
-}
-
-fn make<R: Copy>(
-    rt: R,
-    alloc: Global,
-    mailbox_size: NonZeroUsize,
-    consumer: Consumer<Key, Bytes, u16>,
-) -> Result<Silent<R>, Fault> {
     let cfg = Config {
         peer_provider: Quiet::new(),
         blocker: Quiet::new(),
@@ -56,13 +46,9 @@ fn make<R: Copy>(
         priority_requests: false,
         priority_responses: false,
     };
-    match Engine::new(rt, alloc, cfg) {
-        Ok((engine, mailbox)) => {
-            drop(mailbox);
-            Ok(engine)
-        }
-        Err(fault) => Err(fault),
-    }
+    let (engine, mailbox) = Engine::new(rt, alloc, cfg).expect(&rt, "an engine");
+    drop(mailbox);
+    engine
 }
 
 /// What the row `peer_refusals` of the worked rows is given: a scan that sends its request, with answers and events
@@ -92,13 +78,20 @@ fn add(rt: &impl Abort, inputs: &mut Vec<PlainInput>, input: PlainInput) {
     inputs.push(input).expect(rt, "memory");
 }
 
+/// Writes a word, and a number behind it.
+fn spell_number(rt: &impl Abort, text: &mut String, word: &str, number: u128) {
+    write!(text, " {word} {number}").expect(rt, "memory");
+}
+
 fn spell_ask(rt: &impl Abort, text: &mut String, ask: &Ask<Key, Peer>) {
-    let written = match ask {
-        Ask::Draw(below) => write!(text, " draw {below}"),
-        Ask::Check(peer) => write!(text, " check {}", peer.0),
-        Ask::Request { peer, id, key, .. } => { write!(text, " request {} {id} {}", peer.0, key.0) }
-    };
-    written.expect(rt, "memory");
+    match ask {
+        Ask::Draw(below) => spell_number(rt, text, "draw", *below),
+        Ask::Check(peer) => spell_number(rt, text, "check", u128::from(peer.0)),
+        Ask::Request { peer, id, key, .. } => {
+            spell_number(rt, text, "request", u128::from(peer.0));
+            write!(text, " {id} {}", key.0).expect(rt, "memory");
+        }
+    }
 }
 
 fn spell_effect(rt: &impl Abort, text: &mut String, effect: &PlainEffect) {
