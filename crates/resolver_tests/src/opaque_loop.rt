@@ -1,8 +1,9 @@
 use crate::asserting::assert_same;
 use crate::opaque_lent::{Asking, Ends, opened};
 use crate::playing::{spell_feedback, turn};
-use futures::channel::oneshot;
+use futures::channel::{mpsc, oneshot};
 use futures::test::MockTask;
+use resolver::Outcome;
 use resolver_fakes::seen::Wrong;
 use resolver_fakes::world::Polled;
 use std::alloc::AllocGlobal;
@@ -101,7 +102,13 @@ fn spell_given_up(rt: &impl Abort, text: &mut String, is_given_up: bool) {
     writeln!(text, "given up {is_given_up}").expect(rt, "memory");
 }
 
-fn spell_canceled(rt: &impl Abort, text: &mut String, is_canceled: bool) {
+/// Writes whether the first of these verdicts is called off.
+fn spell_canceled(
+    rt: &impl Abort,
+    text: &mut String,
+    verdicts: &mut mpsc::UnboundedReceiver<oneshot::Sender<Outcome>>,
+) {
+    let is_canceled = is_given_up(verdicts.try_recv().ok());
     writeln!(text, "canceled {is_canceled}").expect(rt, "memory");
 }
 
@@ -138,10 +145,7 @@ fn step<A: Asking, L: Polled>(
         Act::Complete => ends.held.complete(),
         Act::LetGoFrom(subscriber) => ends.resolver.let_go_from(rt, subscriber),
         Act::LetGoOfLook(subscriber) => let_go_of_look(rt, text, task, looped, ends, subscriber),
-        Act::IsCanceled => {
-            let verdict = ends.held.verdicts.try_recv().ok();
-            spell_canceled(rt, text, is_given_up(verdict));
-        }
+        Act::IsCanceled => spell_canceled(rt, text, &mut ends.held.verdicts),
         Act::Close => ends.resolver.end(),
         Act::Turn => turn(rt, text, task, looped, &mut ends.held.told),
     }
