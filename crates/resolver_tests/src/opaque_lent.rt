@@ -83,18 +83,25 @@ impl Fetcher for Source {
     ghost pollable = { λ look. tt };
 }
 
+/// A loop that may be polled in each of its states.
+pub trait Pollable: Future<Output = Ending> {
+    ghost pollable: { (state : Self) → Self.can_poll state };
+}
+
 /// The loop of an actor over a source.
-pub struct Looped<R> {
-    looped: Loop<Key, Bytes, u16, Below, R, Telling, Source, Judge>,
+type Lending<R> = Loop<Key, Bytes, u16, Below, R, Telling, Source, Judge>;
+
+impl<R: Wait + Copy + Drop> Pollable for Lending<R> {
+    ghost pollable = { λ state. tt };
 }
 
-impl<R: Drop> Drop for Looped<R> {
-    fn drop(self) {
-        let Self { looped: _ } = self;
-    }
+/// A loop, as a test knows it, which polls it by hand.
+#[derive(Drop)]
+pub struct Looped<L> {
+    looped: L,
 }
 
-impl<R: Wait + Copy + Drop> Polled for Looped<R> {
+impl<L: Pollable> Polled for Looped<L> {
     fn poll_once(&mut self, task: &MockTask) -> Poll<Ending> {
         task.poll(&mut self.looped)
     }
@@ -197,7 +204,10 @@ fn lend(rt: &impl Abort, alloc: Global, wrong: Wrong) -> (Held, Lent) {
 }
 
 /// An actor over a source, with a delay of 100.
-pub fn opened<R: Abort + Copy>(rt: R, alloc: Global, wrong: Wrong) -> (Ends<Asked<R>>, Looped<R>) {
+pub fn opened<R>(rt: R, alloc: Global, wrong: Wrong) -> (Ends<Asked<R>>, Looped<Lending<R>>)
+where
+    R: Abort + Copy,
+{
     let (held, lent) = lend(&rt, alloc, wrong);
     let Lent {
         clock,
