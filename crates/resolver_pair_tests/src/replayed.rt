@@ -144,6 +144,16 @@ fn assert_prints(
     assert_eq!(rt; ended, expected.1, "{script:?}");
 }
 
+/// That all of a script is read, and that it prints this.
+fn assert_printed(rt: &impl Abort, alloc: Global, name: &str, script: &[u8], expected: &[u8]) {
+    let (output, ended) = replayed(rt, alloc, script);
+    if output.as_slice() != expected {
+        let printed = str::from_utf8(&output);
+        panic!(rt; "{name}: {printed:?}");
+    }
+    assert_eq!(rt; ended, Ok(Ending::End), "{name}");
+}
+
 /// Worked rows, and what they leave out: a name, a script, and what it prints.
 const SCRIPTS: &[(&str, &[u8], &[u8])] = &[
     (
@@ -201,6 +211,10 @@ const SCRIPTS: &[(&str, &[u8], &[u8])] = &[
         b"opaque 10\nfetch 1 1 0\nfetch 2 2 0\nfetched 0 xaa\nfetched 1 xbb\nverdict 0 ignored\nverdict 1 unresolved\nshow\n",
         b"start 0 1\nstart 1 2\ndeliver 0 1 1 xaa\ndeliver 1 2 2 xbb\nkey 2 subs 2:0 phase waiting 10\nwake 10\n",
     ),
+];
+
+/// Keys that are asked for again, retains, stops, and lines that say nothing.
+const LATER: &[(&str, &[u8], &[u8])] = &[
     (
         "opaque_retry",
         b"opaque 100\nfetch 1 10 7\nfetched 0 none\nshow\nat 99\nwake\nat 100\nwake\nfetched 0 xaa\nfetch 1 10 9\nshow\n",
@@ -249,17 +263,24 @@ const SCRIPTS: &[(&str, &[u8], &[u8])] = &[
     ("nothing at all", b"", b""),
 ];
 
-#[test]
-fn scripts(rt: HostRuntime) {
-    for &(name, script, printed) in SCRIPTS {
-        let (output, ended) = replayed(&rt, rt.alloc(), script);
-        assert_eq!(rt; output.as_slice(), printed, "{name}");
-        assert_eq!(rt; ended, Ok(Ending::End), "{name}");
+fn print_all(rt: &impl Abort, alloc: Global, scripts: &[(&str, &[u8], &[u8])]) {
+    for (name, script, printed) in scripts {
+        assert_printed(rt, alloc, name, script, printed);
     }
 }
 
-/// Scripts with a line that can't be read, and what they print.
-const UNREADABLE: &[(&[u8], &[u8])] = &[
+#[test]
+fn scripts(rt: HostRuntime) {
+    print_all(&rt, rt.alloc(), SCRIPTS);
+}
+
+#[test]
+fn retries_retains_and_stops(rt: HostRuntime) {
+    print_all(&rt, rt.alloc(), LATER);
+}
+
+/// Scripts whose machine can't be read, or is asked for too early, and what they print.
+const UNREADABLE_OPENINGS: &[(&[u8], &[u8])] = &[
     (b"show\n", b"line 1 unreadable\n"),
     (b"\n# \nfetch 1 10 7\n", b"line 3 unreadable\n"),
     (b"opaque 1\nopaque 1\nshow\n", b"line 2 unreadable\n"),
@@ -285,6 +306,10 @@ const UNREADABLE: &[(&[u8], &[u8])] = &[
         b"opaque 340282366920938463463374607431768211456\n",
         b"line 1 unreadable\n",
     ),
+];
+
+/// Scripts with another line that can't be read, and what they print.
+const UNREADABLE: &[(&[u8], &[u8])] = &[
     (b"opaque 1\n \nshow\n", b"line 2 unreadable\n"),
     (b"opaque 1\n # no comment\n", b"line 2 unreadable\n"),
     (b"opaque 1\nshow all\n", b"line 2 unreadable\n"),
@@ -324,13 +349,25 @@ fn is_unreadable(ended: Result<Ending, Fault>) -> bool {
     }
 }
 
+/// That a script ends with a line that can't be read, once it printed this.
+fn assert_unread(rt: &impl Abort, alloc: Global, script: &[u8], printed: &[u8]) {
+    let (output, ended) = replayed(rt, alloc, script);
+    assert_eq!(rt; output.as_slice(), printed, "{script:?}");
+    assert!(rt; is_unreadable(ended), "{script:?}");
+}
+
 // The first line that can't be read ends the script, and is named.
+#[test]
+fn unreadable_openings(rt: HostRuntime) {
+    for &(script, printed) in UNREADABLE_OPENINGS {
+        assert_unread(&rt, rt.alloc(), script, printed);
+    }
+}
+
 #[test]
 fn unreadable_lines(rt: HostRuntime) {
     for &(script, printed) in UNREADABLE {
-        let (output, ended) = replayed(&rt, rt.alloc(), script);
-        assert_eq!(rt; output.as_slice(), printed);
-        assert!(rt; is_unreadable(ended));
+        assert_unread(&rt, rt.alloc(), script, printed);
     }
     assert_eq!(rt; Ending::End.status(), 0);
 }

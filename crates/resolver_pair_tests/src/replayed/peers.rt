@@ -201,9 +201,7 @@ fn hostile_peers(rt: HostRuntime) {
 #[test]
 fn ten_thousand_requests(rt: HostRuntime) {
     let (script, printed) = many_requests(&rt, rt.alloc());
-    let (output, ended) = replayed(&rt, rt.alloc(), &script);
-    assert!(rt; output == printed);
-    assert_eq!(rt; ended, Ok(Ending::End));
+    assert_printed(&rt, rt.alloc(), "many requests", &script, &printed);
 }
 
 /// The script of ten thousand requests, and what it prints.

@@ -133,6 +133,10 @@ sent accepted => refused 5 Unasked
 sent refused => refused 5 Unasked
 ",
     ),
+];
+
+/// What clears the waiter, and what leaves it.
+const WAITERS: &[(&str, &str, &str)] = &[
     (
         "a new key clears the waiter",
         LIMITED,
@@ -243,6 +247,10 @@ verdict 0 complete => credit 0 4 20 2
 show => key 2 subs 20:0 targets all retries 0 phase waiting fresh 0 / wake 100
 ",
     ),
+];
+
+/// Verdicts, targets, and times.
+const VERDICTS: &[(&str, &str, &str)] = &[
     (
         "targets are shown as they were added, and drawn in the order of the peers",
         NOTHING,
@@ -385,6 +393,16 @@ show => wake none
 #[test]
 fn scans(rt: HostRuntime) {
     print_as_worked(&rt, rt.alloc(), SCANS);
+}
+
+#[test]
+fn waiters(rt: HostRuntime) {
+    print_as_worked(&rt, rt.alloc(), WAITERS);
+}
+
+#[test]
+fn verdicts(rt: HostRuntime) {
+    print_as_worked(&rt, rt.alloc(), VERDICTS);
 }
 
 /// The greatest numbers that lines may have.

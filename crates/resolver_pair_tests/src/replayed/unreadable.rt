@@ -158,7 +158,5 @@ fn assert_unreadable(rt: &impl Abort, alloc: Global, before: &[u8], line: &[u8],
     script.extend_from_slice(before).expect(rt, "memory");
     script.extend_from_slice(line).expect(rt, "memory");
     script.extend_from_slice(b"\nshow\n").expect(rt, "memory");
-    let (output, ended) = replayed(rt, alloc, &script);
-    assert_eq!(rt; output.as_slice(), printed, "{line:?}");
-    assert!(rt; is_unreadable(ended), "{line:?}");
+    assert_unread(rt, alloc, &script, printed);
 }

@@ -59,14 +59,19 @@ const SAID: &[(&[u8], &str)] = &[
     (b"p2p 9 50 10\nsent\n", "line 2: field 2: missing"),
 ];
 
+fn assert_says(rt: &impl Abort, alloc: Global, script: &[u8], said: &str) {
+    let (output, ended) = replayed(rt, alloc, script);
+    drop(output);
+    let Ok(Ending::Unreadable(place)) = ended else {
+        panic!(rt; "an unreadable line");
+    };
+    let text = format!(in alloc; "{place}").expect(rt, "memory");
+    assert_eq!(rt; text.as_str(), said);
+}
+
 #[test]
 fn unreadable_lines_say_why(rt: HostRuntime) {
     for &(script, said) in SAID {
-        let (_, ended) = replayed(&rt, rt.alloc(), script);
-        let Ok(Ending::Unreadable(place)) = ended else {
-            panic!(rt; "an unreadable line");
-        };
-        let text = format!(in rt.alloc(); "{place}").expect(&rt, "memory");
-        assert_eq!(rt; text.as_str(), said);
+        assert_says(&rt, rt.alloc(), script, said);
     }
 }

@@ -44,9 +44,7 @@ fn print_one(rt: &impl Abort, alloc: Global, name: &str, before: &str, after: &s
     let mut printed = Vec::new(alloc);
     add_lines(rt, before, &mut script, &mut printed);
     add_lines(rt, after, &mut script, &mut printed);
-    let (output, ended) = replayed(rt, alloc, &script);
-    assert_eq!(rt; str::from_utf8(&output), str::from_utf8(&printed), "{name}");
-    assert_eq!(rt; ended, Ok(Ending::End), "{name}");
+    assert_printed(rt, alloc, name, &script, &printed);
 }
 
 /// Adds lines to a script, and what they print.
