@@ -3,8 +3,9 @@
 ghost use Rattle.std.proofs.Common.{rules};
 ghost use Rattle.resolver_script.specs.Kept.{is_kept};
 
-use resolver::base::{Faithful, Predicate};
-use resolver::p2p::mocks::Key;
+use resolver_base::base::Faithful;
+use resolver_p2p::mocks::Key;
+use resolver_root::Predicate;
 
 /// What a line keeps.
 #[derive(Clone, Copy)]

@@ -5,10 +5,11 @@ use crate::kept::Kept;
 use crate::print;
 use crate::script::{Said, Wish};
 use bytes::Bytes;
-use resolver::base::{Moment, NonEmptyVec};
-use resolver::ingress::FetchKey;
-use resolver::opaque::{Actor, Effect, Event, Input, Row};
-use resolver::p2p::mocks::Key;
+use resolver_actor::opaque::{Actor, Effect, Event, Input, Row};
+use resolver_ingress::ingress::FetchKey;
+use resolver_moment::Moment;
+use resolver_p2p::mocks::Key;
+use resolver_root::NonEmptyVec;
 use std::alloc::Global;
 use std::io::Write;
 

@@ -6,8 +6,9 @@ pub mod peers;
 use crate::endings::{Fault, written};
 use bytes::Bytes;
 use itoa::Buffer;
-use resolver::p2p::mocks::Key;
-use resolver::{Delivery, base};
+use resolver_base::base;
+use resolver_p2p::mocks::Key;
+use resolver_root::Delivery;
 use std::io;
 use std::io::Write;
 

@@ -6,8 +6,8 @@ use crate::peers::Peers;
 use crate::script::{Command, Rejected, Said, Why, Wrong, is_skipped, parse};
 use log::{Log, trace};
 use memchr::memchr;
-use resolver::base::Moment;
-use resolver::p2p::fetcher::Answer;
+use resolver_fetch::fetcher::Answer;
+use resolver_moment::Moment;
 use std::alloc::Global;
 use std::io::{BufRead, BufReader, ErrorKind, Read, Write};
 

@@ -2,8 +2,8 @@
 
 use crate::print::{deliver, demand, line_of_number, word_and_number};
 use bytes::Bytes;
-use resolver::opaque::{Effect, Phase, Row};
-use resolver::p2p::mocks::Key;
+use resolver_actor::opaque::{Effect, Phase, Row};
+use resolver_p2p::mocks::Key;
 use std::io;
 use std::io::Write;
 

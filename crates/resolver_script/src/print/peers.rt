@@ -2,11 +2,11 @@
 
 use crate::peer::Peer;
 use crate::print::{bytes, deliver, demand};
-use resolver::p2p::effects::Effect;
-use resolver::p2p::fetcher::Ask;
-use resolver::p2p::mocks::Key;
-use resolver::p2p::named::Source;
-use resolver::p2p::rows::{Phase, Row, Targets};
+use resolver_engine::effects::Effect;
+use resolver_engine::rows::{Phase, Row, Targets};
+use resolver_fetch::fetcher::Ask;
+use resolver_p2p::mocks::Key;
+use resolver_peer::named::Source;
 use std::io;
 use std::io::Write;
 

@@ -11,7 +11,8 @@ ghost use Rattle.resolver_script.specs.Numbers.{begins_plainly, list_of, number_
 use crate::script::{Unread, Why};
 use bytes::Bytes;
 use memchr::memchr;
-use resolver::base::{Moment, NonEmptyVec};
+use resolver_moment::Moment;
+use resolver_root::NonEmptyVec;
 use std::alloc::{AllocError, Global};
 
 /// The fields of a line, between single spaces, and how many were asked for.

@@ -5,9 +5,9 @@ use crate::kept::Kept;
 use crate::script::fields::{Fields, bytes, count, key, peer, peers, subscriber, targets, wide};
 use crate::script::{Said, Unread, Why, Wish};
 use bytes::Bytes;
-use resolver::base::Check;
-use resolver::p2p::fetcher::Answer;
-use resolver::{Outcome, Resolution};
+use resolver_base::base::Check;
+use resolver_fetch::fetcher::Answer;
+use resolver_root::{Outcome, Resolution};
 use std::alloc::Global;
 
 /// What both machines are told.
