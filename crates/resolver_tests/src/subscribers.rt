@@ -1,63 +1,41 @@
 //! Who waits for which key, as the docs show it.
 
-use crate::asserting::assert_same;
 use resolver::base::NonEmptyVec;
 use resolver::subscribers::Tracker;
 use std::alloc::Global;
-use std::panic::Expect;
-use std::process::Abort;
+use std::test::Fail;
 
-fn list(rt: &impl Abort, alloc: Global, subscribers: &[(u16, u64)]) -> NonEmptyVec<(u16, u64)> {
-    let subscribers = subscribers.to_vec(alloc).expect(rt, "memory");
-    let list = NonEmptyVec::try_from(subscribers).ok();
-    list.expect(rt, "a list with subscribers")
+fn list(alloc: Global, subscribers: &[(u16, u64)]) -> Result<NonEmptyVec<(u16, u64)>, Fail> {
+    let list = NonEmptyVec::try_from(subscribers.to_vec(alloc)?);
+    Ok(list.ok().ok_or("a list without subscribers")?)
 }
 
-/// That key 1 is new, or isn't, where these subscribers come to it.
-fn assert_inserted(
-    rt: &impl Abort,
-    alloc: Global,
+fn insert(
     tracker: &mut Tracker<u16, u16>,
+    alloc: Global,
+    key: u16,
     subscribers: &[(u16, u64)],
-    is_new: bool,
-) {
-    let inserted = tracker.insert(1, list(rt, alloc, subscribers));
-    assert_same(rt, inserted.expect(rt, "memory"), is_new);
+) -> Result<bool, Fail> {
+    Ok(tracker.insert(key, list(alloc, subscribers)?)?)
 }
 
-/// That these wait for key 1.
-fn assert_pending(rt: &impl Abort, tracker: &Tracker<u16, u16>, expected: &[(u16, u64)]) {
-    let pending = tracker.pending(&1).expect(rt, "memory");
-    let pending = pending.expect(rt, "a key that somebody waits for");
-    assert_same(rt, pending.as_slice(), expected);
-    drop(pending);
-}
-
-/// That these are left once key 1 was delivered to those.
-fn assert_left(
-    rt: &impl Abort,
-    alloc: Global,
-    tracker: &mut Tracker<u16, u16>,
-    delivered: &[(u16, u64)],
-    expected: &[(u16, u64)],
-) {
-    let delivered = list(rt, alloc, delivered);
-    let left = tracker
-        .remove_delivered(&1, &delivered)
-        .expect(rt, "memory");
-    drop(delivered);
-    let left = left.expect(rt, "somebody is left");
-    assert_same(rt, left.as_slice(), expected);
-    drop(left);
+fn pending(tracker: &Tracker<u16, u16>, key: u16) -> Result<Vec<(u16, u64)>, Fail> {
+    let pending = tracker.pending(&key)?;
+    Ok(pending.ok_or("a key that nobody waits for")?.into_vec())
 }
 
 #[test]
-fn tracker(rt: HostRuntime) {
+fn tracker(rt: HostRuntime) -> Result<(), Fail> {
     let alloc = rt.alloc();
     let mut tracker = Tracker::new(alloc);
-    assert_inserted(&rt, alloc, &mut tracker, &[(10, 0), (11, 0)], true);
-    assert_inserted(&rt, alloc, &mut tracker, &[(11, 0), (12, 0)], false);
-    assert_pending(&rt, &tracker, &[(10, 0), (11, 0), (12, 0)]);
-    assert_left(&rt, alloc, &mut tracker, &[(10, 0), (12, 0)], &[(11, 0)]);
-    drop(tracker);
+    assert!(rt; insert(&mut tracker, alloc, 1, &[(10, 0), (11, 0)])?);
+    assert!(rt; !insert(&mut tracker, alloc, 1, &[(11, 0), (12, 0)])?);
+    assert_eq!(rt;
+        pending(&tracker, 1)?.as_slice(),
+        [(10, 0), (11, 0), (12, 0)].as_slice()
+    );
+
+    let rest = tracker.remove_delivered(&1, &list(alloc, &[(10, 0), (12, 0)])?)?;
+    assert_eq!(rt; rest.ok_or("11 is left")?.as_slice(), [(11, 0)].as_slice());
+    Ok(())
 }
