@@ -9,6 +9,7 @@ pub mod ChoosesBelow
 pub mod DrawCounts
 pub mod Askable
 pub mod Among
+pub mod Passing
 pub mod Queues
 pub mod Dues
 pub mod Pending

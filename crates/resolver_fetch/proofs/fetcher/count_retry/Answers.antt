@@ -6,6 +6,8 @@ use Rattle.std.specs.BTreeMap.{is_at}
 use Rattle.std.proofs.lemmas.Map.Steps.{set_value_same}
 use Rattle.resolver_trying.specs.Waiting.{once_more}
 use Rattle.resolver_fetch.proofs.Entries.{insert-held, removed-inserted}
+use Rattle.resolver_fetch.specs.Pending.{with_key}
+use Rattle.resolver_fetch.proofs.Fetching.{on-err}
 use Rattle.resolver_fetch.proofs.fetcher.count_retry.Goals as goal
 
 pub returns-in_err-put-clause-as_before : goal.returns-in_err-put-clause-as_before
@@ -30,3 +32,26 @@ pub returns-in-Err-clause-as_before : goal.returns-in-Err-clause-as_before
 returns-in-Err-clause-as_before g c =
     let none : lookup (is_at (g.K.Ord.cmp c.args.key)) c.args.retries.now.entries ≡ None = search rules in
     search (rules, none, removed-inserted g.K.Ord.cmp c.args.key c.args.retries.now.entries 1 (ap is_eq (tied_itself g.met.K.Ord.total c.args.key)) none)
+
+pub returns-in-Some-clause-ok : goal.returns-in-Some-clause-ok
+returns-in-Some-clause-ok g c = c.in_ok-put.ensures.ok
+
+pub returns-clause-ok : goal.returns-clause-ok
+returns-clause-ok g c =
+    let waits : c.in_ok-waits.waits ≡ c.args.key = c.requires.keys_clone c.args.key c.in_ok-waits.waits c.in_ok-waits.ensures.cases in
+    c.in_default-put.ensures.ok ∙ ap (λ k. with_key g.K.Ord.cmp (c.args.place, k) c.args.pending.now) waits
+
+pub put-requires-2-clause-not_waiting : goal.put-requires-2-clause-not_waiting
+put-requires-2-clause-not_waiting g c =
+    let waits : c.in_ok-waits.waits ≡ c.args.key = c.requires.keys_clone c.args.key c.in_ok-waits.waits c.in_ok-waits.ensures.cases in
+    rw waits c.requires.not_waiting
+
+pub returns-in_err-insert-clause-as_before : goal.returns-in_err-insert-clause-as_before
+returns-in_err-insert-clause-as_before g c =
+    let same : c.insert.new.self.entries ≡ c.args.retries.now.entries = search rules in
+    on-err c.from_residual-in_err-insert.result _ same
+
+pub returns-in_err-counted-clause-as_before : goal.returns-in_err-counted-clause-as_before
+returns-in_err-counted-clause-as_before g c =
+    let same : c.get_mut.follows.lender-at-none.entries ≡ c.args.retries.now.entries = search rules in
+    on-err c.from_residual-in_err-counted.result _ same

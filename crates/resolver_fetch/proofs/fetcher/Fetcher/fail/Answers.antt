@@ -1,6 +1,7 @@
-use Rattle.std.proofs.Common.{refl, ◌∙◌, sym, ◌<◌, [], ◌∷◌, ◌++◌, length, arith}
+use Rattle.std.proofs.Common.{refl, ap, ◌∙◌, sym, ◌<◌, [], ◌∷◌, ◌++◌, length, arith}
 use Rattle.std.proofs.lemmas.Bool.{eqb-true, eqb-false}
 use Rattle.resolver_trying.specs.declared.trail.Try.{Try}
+use Rattle.resolver_fetch.specs.Cursor.{opened}
 use Rattle.resolver_fetch.specs.Fetcher.{snapshot}
 use Rattle.resolver_trying.specs.Orders.{orders}
 use Rattle.resolver_trying.specs.Trying.{apart_from}
@@ -34,3 +35,16 @@ invariant_of-self g c =
         new_id = rw (← c.self.view_is) at c.requires.right.new_id;
       },
     )
+
+pub pass-requires-clause-right : goal.pass-requires-clause-right
+pass-requires-clause-right g c = record {
+  moment_fits = c.requires.right.moment_fits;
+  tries = c.requires.right.tries;
+  new_id = c.requires.right.new_id;
+}
+
+pub returns-clause-ok : goal.returns-clause-ok
+returns-clause-ok g c = rw c.in_default.ensures.ok at c.go_on.ensures.after
+
+pub returns-in-Err-clause-err : goal.returns-in-Err-clause-err
+returns-in-Err-clause-err g c = rw (c.keep.ensures, c.in-Err.ensures.err) (ap (opened c.args.cursor) c.self.view_is)
