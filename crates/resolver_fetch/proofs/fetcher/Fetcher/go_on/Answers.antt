@@ -1,4 +1,4 @@
-use Rattle.std.proofs.Common.{◌≡◌, ap, ◌∙◌, sym, is_some, None, Some}
+use Rattle.std.proofs.Common.{◌≡◌, refl, ap, ◌∙◌, sym, is_some, None, Some}
 use Rattle.resolver_fetch.specs.Fetcher.{Fetcher}
 use Rattle.resolver_fetch.specs.Pending.{waits_until}
 use Rattle.resolver_trying.specs.Orders.{orders}
@@ -6,8 +6,8 @@ use Rattle.resolver_fetch.specs.Seeking.{next_of}
 use Rattle.resolver_trying.specs.declared.trail.Expected.TheVariants.{Mode}
 use Rattle.resolver_trying.specs.declared.trying.Next.TheVariants.{Try as Tries, Wait}
 use Rattle.resolver_trying.specs.Trying.{Trying}
-use Rattle.resolver_fetch.proofs.Kept.{closed-none}
-use Rattle.resolver_fetch.proofs.Nexts.{next-tries, waits-after}
+use Rattle.resolver_fetch.proofs.Kept.{closed-any, closed-none}
+use Rattle.resolver_fetch.proofs.Nexts.{next-tries, tries-after, waits-after}
 use Rattle.resolver_fetch.proofs.Stepping.{asks-kept}
 use Rattle.resolver_fetch.proofs.fetcher.Fetcher.go_on.Goals as goal
 
@@ -41,3 +41,21 @@ returns-in-Try-clause-asked g c =
     let retries = ap (λ (t : Trying g.row.K.Denot g.row.P.Denot). t.retries) c.trying.view_is in
     rw (c.from-bound.ensures, retries, c.keep.ensures, c.wake.ensures)
     (sym (rw (← c.self.view_is) at (asks-kept o c.args.self.now c.args.moment c.args.trail c.in-Try.trying Mode c.self.inside.last_id None tries)))
+
+pub invariant_of-self-in-Wait : goal.invariant_of-self-in-Wait
+invariant_of-self-in-Wait g c =
+    let shut = ap is_some (ap (λ (f : Fetcher g.row.K.Denot g.row.P.Denot). f.scan) c.self.view_is) ∙ c.requires.closed in
+    rw c.sleep.ensures (c.self.invariant.0, closed-any c.self.inside.cursor shut _)
+
+pub returns-in-Try-clause-after : goal.returns-in-Try-clause-after
+returns-in-Try-clause-after g c =
+    let o = orders g.K.Ord.cmp g.P.Ord.cmp in
+    let is : next_of o c.args.self.now c.args.moment c.args.trail ≡ Tries c.in-Try.trying = sym c.requires.next ∙ c.in-Try.is in
+    rw (c.keep.ensures, c.wake.ensures)
+    (ap (λ (f : Fetcher g.row.K.Denot g.row.P.Denot). record f { scan = Some (record { moment = c.args.moment; trail = c.args.trail; expects = Some Mode }); waiter = None }) c.self.view_is
+    ∙ sym (tries-after o c.args.self.now c.args.moment c.args.trail c.in-Try.trying is))
+
+pub returns-in-Wait-clause-asked : goal.returns-in-Wait-clause-asked
+returns-in-Wait-clause-asked g c =
+    let shut = ap is_some (ap (λ (f : Fetcher g.row.K.Denot g.row.P.Denot). f.scan) c.self.view_is) ∙ c.requires.closed in
+    rw (closed-none c.self.inside.cursor shut) refl

@@ -70,3 +70,25 @@ returns-clause-ok g c =
     let none : c.in_ok-found.field-0 ≡ None = search rules in
     let is = behind-fresh-retry o f c.args.moment c.args.trail.now queued p (sym found ∙ none) in
     IfOk-weaker c.seek_retry.result _ _ (λ t it. it ∙ sym is ∙ ap (λ (q : Place × g.row.K.Denot). tried_behind o f q (scan_at c.args.moment c.args.trail.now)) place) c.seek_retry.ensures.ok
+
+pub returns-then-tried-clause-ordered : goal.returns-then-tried-clause-ordered
+returns-then-tried-clause-ordered g c =
+    let waiting : c.keys-keys.result.now ≡ c.args.self.now.waiting = c.keys-keys.ensures ∙ ap (λ (f : Fetcher g.row.K.Denot g.row.P.Denot). f.waiting) c.self.view_is in
+    rw waiting at c.law.ensures
+
+pub returns-in_err-found-clause-ordered : goal.returns-in_err-found-clause-ordered
+returns-in_err-found-clause-ordered g c =
+    let waiting : c.keys-keys.result.now ≡ c.args.self.now.waiting = c.keys-keys.ensures ∙ ap (λ (f : Fetcher g.row.K.Denot g.row.P.Denot). f.waiting) c.self.view_is in
+    rw waiting at c.law.ensures
+
+pub first_until-requires-clause-ordered : goal.first_until-requires-clause-ordered
+first_until-requires-clause-ordered g c = c.range_after-behind.ensures.ordered
+
+pub first_until-requires-clause-runs : goal.first_until-requires-clause-runs
+first_until-requires-clause-runs g c = c.range_after-behind.ensures.runs
+
+pub first_until-requires-2-clause-ordered : goal.first_until-requires-2-clause-ordered
+first_until-requires-2-clause-ordered g c = c.range_after-behind-2.ensures.ordered
+
+pub first_until-requires-2-clause-runs : goal.first_until-requires-2-clause-runs
+first_until-requires-2-clause-runs g c = c.range_after-behind-2.ensures.runs
