@@ -8,10 +8,13 @@ use Rattle.std.specs.declared.cmp.Ordering.{Ordering}
 use Rattle.resolver_priorities.specs.Priorities.{priorities_of, put, without}
 use Rattle.resolver_asked.specs.declared.requests.request.Request.{Request}
 use Rattle.resolver_asked.specs.Ids.{is_held}
-use Rattle.resolver_asked.specs.Requests.{IsTaken, ids_of, is_asked, without_request}
+use Rattle.resolver_asked.specs.Requests.{IsTaken, ids_of, is_asked, matching, overdue, taken_if, taken_matching, taken_overdue, taken_soonest, without_request}
 use Rattle.resolver_trying.specs.declared.cursor.Cursor.{Cursor}
 use Rattle.resolver_trying.specs.declared.place.Place.{Place}
 use Rattle.resolver_fetch.specs.Cursor.{IsKept, scan_of}
+use Rattle.resolver_fetch.specs.Fetcher.{Fetcher, charge, pop_active, pop_missing, popped_active, popped_missing}
+use Rattle.resolver_request.specs.Times.{elapsed_since}
+use Rattle.resolver_trying.specs.Orders.{Orders}
 use Rattle.resolver_trying.specs.Waiting.{place_order}
 use Rattle.resolver_fetch.proofs.Phases.{fewer-without, once-put, once-sent}
 
@@ -60,3 +63,31 @@ module _ {K P : Type 0} {by_key : K → K → Ordering} (o : IsTotalOrder by_key
     once = once-sent o id r waiting asked kept.once new idle;
     none_yet = λ none. let clash : None ≡ Some id = sym none ∙ taken in absurd cc;
   }
+
+module _ {K P : Type 0} (o : Orders K P) (f : Fetcher K P) (r : Request K P) (left : List (ℕ × Request K P)) where
+  active-found : (found : Option (ℕ × Request K P)) → (Some r, left) ≡ taken_soonest f.asked found
+      → popped_active o f found ≡ (Some r.key, charge o r.peer f.configuration.fetch_timeout (record f { asked = left }))
+  active-found None is = let clash = ap (λ p. p.0) is in absurd cc
+  active-found (Some x) is =
+      let one = ap (λ p. p.0) is in
+      let same : r ≡ x.1 = cc in
+      let rest = ap (λ p. p.1) is in
+      rw (same, rest) refl
+
+  missing-found : (id now : ℕ) (found : Option (Request K P)) → (Some r, left) ≡ taken_if f.asked id found
+      → popped_missing o f id now found ≡ (Some r.key, charge o r.peer (elapsed_since r.start now) (record f { asked = left }))
+  missing-found id now None is = let clash = ap (λ p. p.0) is in absurd cc
+  missing-found id now (Some x) is =
+      let one = ap (λ p. p.0) is in
+      let same : r ≡ x = cc in
+      let rest = ap (λ p. p.1) is in
+      rw (same, rest) refl
+
+  -- the peer of the request that is taken out is charged
+  pub active-popped : (now : ℕ) → (Some r, left) ≡ taken_overdue f.asked now
+      → pop_active o now f ≡ (Some r.key, charge o r.peer f.configuration.fetch_timeout (record f { asked = left }))
+  active-popped now is = active-found (overdue f.asked now) is
+
+  pub missing-popped : (id : ℕ) (peer : P) (now : ℕ) → (Some r, left) ≡ taken_matching o.peer f.asked id peer
+      → pop_missing o id peer now f ≡ (Some r.key, charge o r.peer (elapsed_since r.start now) (record f { asked = left }))
+  missing-popped id peer now is = missing-found id now (matching o.peer f.asked id peer) is

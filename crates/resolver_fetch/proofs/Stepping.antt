@@ -21,7 +21,7 @@ use Rattle.resolver_request.specs.Modes.{means_weighted}
 use Rattle.resolver_asked.specs.declared.requests.request.Request.{Request}
 use Rattle.resolver_trying.specs.declared.cursor.Cursor.{Cursor}
 use Rattle.resolver_fetch.specs.Cursor.{ExpectsNewId, TakesNewId, scan_of}
-use Rattle.resolver_fetch.specs.Fetcher.{Fetcher, answered as answered_with, question, scan_answer, scan_taken, snapshot, turned}
+use Rattle.resolver_fetch.specs.Fetcher.{AsksNewId, Fetcher, answered as answered_with, question, scan_answer, scan_taken, snapshot, turned}
 use Rattle.resolver_trying.specs.Orders.{Orders}
 use Rattle.resolver_request.specs.Scores.{weight_of}
 use Rattle.resolver_fetch.specs.Seeking.{scan_at, tried_next}
@@ -177,6 +177,15 @@ module _ {K P : Type 0} (o : Orders K P) where
       → question o (record f { scan = Some (record { moment = moment; trail = trail; expects = Some e }); last_id = last; waiter = waiter }) ≡ Some (ask_for f.configuration.priority_requests t e)
   asks-kept f moment trail t e last waiter tried =
       asks-for (snapshot o f) (record { moment = moment; trail = trail; expects = Some e }) t e (next o (snapshot o f) (scan_at moment trail)) (Some e) tried refl
+
+  -- what is asked has no id that is held, where none is expected
+  pub asks-new : (f : Fetcher K P) (priority : Bool) (t : Trying K P) (last : Option ℕ) (e : Expected P) → ExpectsNewId f.asked last e → AsksNewId o f (Some (ask_for priority t e))
+  asks-new f priority t last Mode is = tt
+  asks-new f priority t last ByWeight is = tt
+  asks-new f priority t last ByPlace is = tt
+  asks-new f priority t last (Checking peer) is = tt
+  asks-new f priority t last (FirstId peer) is = tt
+  asks-new f priority t last (Sending peer id) is = is.0
 
   goes-like : (s : Snapshot K P) (moment : ℕ) (trail : List (Try K P)) (e d : Option (Expected P)) (w : Option (K × Waiting P))
       → goes_on_with o s (record { moment = moment; trail = trail; expects = e }) w ≡ goes_on_with o s (record { moment = moment; trail = trail; expects = d }) w

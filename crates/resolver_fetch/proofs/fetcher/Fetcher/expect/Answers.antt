@@ -1,6 +1,8 @@
-use Rattle.std.proofs.Common.{sym, None}
+use Rattle.std.proofs.Common.{ap, sym, None}
 use Rattle.resolver_trying.specs.Orders.{orders}
-use Rattle.resolver_fetch.proofs.Stepping.{asks-kept}
+use Rattle.resolver_fetch.specs.Cursor.{opened, scan_of}
+use Rattle.resolver_fetch.specs.Stepping.{expecting}
+use Rattle.resolver_fetch.proofs.Stepping.{asks-kept, asks-new}
 use Rattle.resolver_fetch.proofs.fetcher.Fetcher.expect.Goals as goal
 
 pub returns-in-Ok-clause-asked : goal.returns-in-Ok-clause-asked
@@ -36,3 +38,16 @@ invariant_of-self-in-Err g c =
         new_id = rw (← c.self.view_is) at c.requires.right.new_id;
       },
     )
+
+pub returns-in-Ok-clause-ok : goal.returns-in-Ok-clause-ok
+returns-in-Ok-clause-ok g c =
+    rw (c.keep.ensures, c.replace.ensures.after, c.wake.ensures)
+    (ap (expecting (orders g.K.Ord.cmp g.P.Ord.cmp) (scan_of c.args.cursor) c.args.expected c.args.last_id) c.self.view_is)
+
+pub returns-in-Ok-clause-new_id : goal.returns-in-Ok-clause-new_id
+returns-in-Ok-clause-new_id g c =
+    rw c.in-Ok.ensures.ok
+    (asks-new (orders g.K.Ord.cmp g.P.Ord.cmp) (record c.args.self.now { asked = c.self.inside.requests }) c.self.inside.priority_requests c.args.cursor.trying c.args.last_id c.args.expected (rw (← c.self.view_is) at c.requires.new_id))
+
+pub returns-in-Err-clause-err : goal.returns-in-Err-clause-err
+returns-in-Err-clause-err g c = rw c.keep-in-Err.ensures (ap (opened c.args.cursor) c.self.view_is)

@@ -1,7 +1,8 @@
-use Rattle.std.proofs.Common.{ap, ◌∙◌, is_some, rules}
+use Rattle.std.proofs.Common.{ap, sym, ◌∙◌, is_some, rules}
 use Rattle.resolver_asked.specs.Requests.{IsTaken}
-use Rattle.resolver_fetch.specs.Fetcher.{Fetcher}
-use Rattle.resolver_fetch.proofs.Kept.{closed-any, kept-taken}
+use Rattle.resolver_trying.specs.Orders.{orders}
+use Rattle.resolver_fetch.specs.Fetcher.{Fetcher, pop_active}
+use Rattle.resolver_fetch.proofs.Kept.{active-popped, closed-any, kept-taken}
 use Rattle.resolver_fetch.proofs.Phases.{idle-then}
 use Rattle.resolver_fetch.proofs.fetcher.Fetcher.pop_active.Goals as goal
 
@@ -18,3 +19,9 @@ returns-clause-idle g c =
     let out : IsTaken a.requests c.take_overdue.new.self c.in_ok-request.request = search rules in
     let idle = idle-then g.met.K.Ord.total out.0 c.in_ok-request.request a.pending.keys a.requests c.self.invariant.0.once out.1 in
     record { not_waiting = idle.0; not_asked = rw out.2 idle.1 }
+
+pub returns-clause-popped : goal.returns-clause-popped
+returns-clause-popped g c =
+    let o = orders g.K.Ord.cmp g.P.Ord.cmp in
+    let is = rw (← c.self.view_is) at (active-popped o c.args.self.now c.in_ok-request.request c.take_overdue.new.self c.args.now) in
+    rw (c.record.ensures, c.charged-time.ensures) (sym (is c.in_ok-request.ensures.taken) ∙ ap (pop_active o c.args.now) c.self.view_is)
