@@ -91,3 +91,19 @@ module _ {K P : Type 0} (o : Orders K P) (f : Fetcher K P) (r : Request K P) (le
   pub missing-popped : (id : ℕ) (peer : P) (now : ℕ) → (Some r, left) ≡ taken_matching o.peer f.asked id peer
       → pop_missing o id peer now f ≡ (Some r.key, charge o r.peer (elapsed_since r.start now) (record f { asked = left }))
   missing-popped id peer now is = missing-found id now (matching o.peer f.asked id peer) is
+
+module _ {K P : Type 0} (o : Orders K P) (f : Fetcher K P) (left : List (ℕ × Request K P)) where
+  active-left : (found : Option (ℕ × Request K P)) → (None, left) ≡ taken_soonest f.asked found → (left ≡ f.asked) × (popped_active o f found ≡ (None, f))
+  active-left None is = (ap (λ p. p.1) is, refl)
+  active-left (Some x) is = let clash = ap (λ p. p.0) is in absurd cc
+
+  missing-left : (id now : ℕ) (found : Option (Request K P)) → (None, left) ≡ taken_if f.asked id found → (left ≡ f.asked) × (popped_missing o f id now found ≡ (None, f))
+  missing-left id now None is = (ap (λ p. p.1) is, refl)
+  missing-left id now (Some x) is = let clash = ap (λ p. p.0) is in absurd cc
+
+  -- where no request is taken out, nothing changes
+  pub active-none : (now : ℕ) → (None, left) ≡ taken_overdue f.asked now → (left ≡ f.asked) × (pop_active o now f ≡ (None, f))
+  active-none now is = active-left (overdue f.asked now) is
+
+  pub missing-none : (id : ℕ) (peer : P) (now : ℕ) → (None, left) ≡ taken_matching o.peer f.asked id peer → (left ≡ f.asked) × (pop_missing o id peer now f ≡ (None, f))
+  missing-none id peer now is = missing-left id now (matching o.peer f.asked id peer) is

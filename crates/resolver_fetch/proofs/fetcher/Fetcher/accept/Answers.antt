@@ -1,8 +1,12 @@
-use Rattle.std.proofs.Common.{ap, ◌∙◌, is_some}
+use Rattle.std.proofs.Common.{ap, ◌∙◌, ◌+◌, is_some}
+use Rattle.resolver_asked.specs.declared.requests.request.Request.{Request}
 use Rattle.resolver_fetch.specs.Fetcher.{Fetcher}
 use Rattle.resolver_trying.specs.Orders.{orders}
 use Rattle.resolver_trying.specs.Trying.{Trying}
-use Rattle.resolver_fetch.proofs.Kept.{closed-any, kept-sent}
+use Rattle.resolver_trying.specs.declared.step.Step.TheVariants.{Accept}
+use Rattle.resolver_fetch.specs.Cursor.{opened, scan_of}
+use Rattle.resolver_fetch.specs.Stepping.{after_step}
+use Rattle.resolver_fetch.proofs.Kept.{closed-any, closed-none, kept-sent}
 use Rattle.resolver_fetch.proofs.Phases.{tried-apart, tried-kind}
 use Rattle.resolver_fetch.proofs.Weighing.{all-tried}
 use Rattle.resolver_fetch.proofs.fetcher.Fetcher.accept.Goals as goal
@@ -26,8 +30,10 @@ invariant_of-self g c =
     let new = rw (← c.self.view_is) at c.requires.new_id in
     let taken = rw (← c.self.view_is) at c.requires.taken in
     let key = ap (λ (t : Trying g.row.K.Denot g.row.P.Denot). t.key) c.trying.view_is in
+    let request : Request g.row.K.Denot g.row.P.Denot =
+    record { key = c.args.cursor.trying.key; peer = c.args.peer; start = c.args.cursor.moment; deadline = c.args.cursor.moment + a.fetch_timeout } in
     rw (c.remove.ensures, c.in-Ok.ensures.ok, key)
-    (kept-sent g.met.K.Ord.total a.fetch_timeout a.retry_delay a.last_id a.pending.keys a.requests c.self.invariant.0 c.args.id _ new idle taken, closed-any a.cursor shut _)
+    (kept-sent g.met.K.Ord.total a.fetch_timeout a.retry_delay a.last_id a.pending.keys a.requests c.self.invariant.0 c.args.id request new idle taken, closed-any a.cursor shut _)
 
 pub keep_pool-requires : goal.keep_pool-requires
 keep_pool-requires g c = record {
@@ -44,3 +50,14 @@ invariant_of-self-in-Err g c =
         new_id = rw (← c.self.view_is) at c.requires.right.new_id;
       },
     )
+
+pub returns-in-Ok-clause-ok : goal.returns-in-Ok-clause-ok
+returns-in-Ok-clause-ok g c =
+    let o = orders g.K.Ord.cmp g.P.Ord.cmp in
+    let shut = ap is_some (ap (λ (f : Fetcher g.row.K.Denot g.row.P.Denot). f.scan) c.self.view_is) ∙ c.requires.closed in
+    let key = ap (λ (t : Trying g.row.K.Denot g.row.P.Denot). t.key) c.trying.view_is in
+    rw (c.keep_pool.ensures, c.remove.ensures, c.in-Ok.ensures.ok, key, closed-none c.self.inside.cursor shut)
+    (ap (after_step o (scan_of c.args.cursor) c.args.cursor.trying.key (Accept c.args.peer c.args.id)) c.self.view_is)
+
+pub returns-in-Err-clause-err : goal.returns-in-Err-clause-err
+returns-in-Err-clause-err g c = rw (c.keep.ensures, c.in-Err.ensures.err) (ap (opened c.args.cursor) c.self.view_is)

@@ -2,7 +2,7 @@ use Rattle.std.proofs.Common.{ap, sym, ◌∙◌, is_some, rules}
 use Rattle.resolver_asked.specs.Requests.{IsTaken}
 use Rattle.resolver_trying.specs.Orders.{orders}
 use Rattle.resolver_fetch.specs.Fetcher.{Fetcher, pop_active}
-use Rattle.resolver_fetch.proofs.Kept.{active-popped, closed-any, kept-taken}
+use Rattle.resolver_fetch.proofs.Kept.{active-none, active-popped, closed-any, kept-taken}
 use Rattle.resolver_fetch.proofs.Phases.{idle-then}
 use Rattle.resolver_fetch.proofs.fetcher.Fetcher.pop_active.Goals as goal
 
@@ -25,3 +25,15 @@ returns-clause-popped g c =
     let o = orders g.K.Ord.cmp g.P.Ord.cmp in
     let is = rw (← c.self.view_is) at (active-popped o c.args.self.now c.in_ok-request.request c.take_overdue.new.self c.args.now) in
     rw (c.record.ensures, c.charged-time.ensures) (sym (is c.in_ok-request.ensures.taken) ∙ ap (pop_active o c.args.now) c.self.view_is)
+
+pub invariant_of-self : goal.invariant_of-self
+invariant_of-self g c =
+    let is = rw (← c.self.view_is) at (active-none (orders g.K.Ord.cmp g.P.Ord.cmp) c.args.self.now c.take_overdue.new.self c.args.now) in
+    rw (is c.in_err-request.ensures.taken).0 c.self.invariant
+
+pub returns-in_err-request-clause-popped : goal.returns-in_err-request-clause-popped
+returns-in_err-request-clause-popped g c =
+    let o = orders g.K.Ord.cmp g.P.Ord.cmp in
+    let is = rw (← c.self.view_is) at (active-none o c.args.self.now c.take_overdue.new.self c.args.now) in
+    let none = is c.in_err-request.ensures.taken in
+    rw (c.from_residual.ensures, none.0) (sym none.1 ∙ ap (pop_active o c.args.now) c.self.view_is)
