@@ -1,6 +1,6 @@
 -- A scan that takes one answer more.
 use Rattle.std.proofs.Common.{◌≡◌, refl, ap, subst, ◌∙◌, List, [], ◌∷◌, ◌++◌, Option, None, Some, Result, Ok, Err}
-use Rattle.std.specs.Prelude.{OnErr}
+use Rattle.std.specs.Prelude.{IfOk, OnErr, OnOk}
 use Rattle.resolver_trying.specs.declared.scan.Answer.{Answer}
 use Rattle.resolver_trying.specs.declared.scan.Ask.{Ask}
 use Rattle.resolver_fetch.specs.Fetcher.{Fetcher, asked_by, question}
@@ -32,3 +32,8 @@ module _ {K P : Type 0} (o : Orders K P) (f g h : Fetcher K P) where
 pub on-err : {T E : Type 0} (r : Result T E) (A : Type 0) → A → OnErr r A
 on-err (Ok x) A a = tt
 on-err (Err e) A a = a
+
+-- what is so of a value that is there, and of all else then
+pub if-both : {T E : Type 0} (r : Result T E) (A : Type 0) (P Q : T → Type 0) → (A → (x : T) → P x → Q x) → OnOk r A → IfOk r P → IfOk r Q
+if-both (Ok x) A P Q so a is = so a x is
+if-both (Err e) A P Q so a is = tt
