@@ -1,5 +1,6 @@
-use Rattle.std.proofs.Common.{◌≡◌, ◌∙◌, ap, filter, is_some, rules}
+use Rattle.std.proofs.Common.{◌≡◌, ◌∙◌, ap, subst, sym, filter, is_some, rules}
 use Rattle.std.proofs.lemmas.Map.Made.{filter_same_pairs}
+use Rattle.std.specs.Fn.{FnReturnsAt}
 use Rattle.resolver_fetch.specs.Fetcher.{Fetcher, retain}
 use Rattle.resolver_trying.specs.Orders.{orders}
 use Rattle.resolver_fetch.specs.Pending.{with_kept}
@@ -8,12 +9,12 @@ use Rattle.resolver_fetch.proofs.fetcher.Fetcher.retain.Goals as goal
 
 pub returns : goal.returns
 returns g c = λ test pure.
-    let waiting : c.retain.new.self ≡ with_kept test c.self.inside.pending = c.retain.ensures.kept test (record { by = λ key b at. pure.by key b (search rules) }) in
-    let asked : c.retain-2.new.self ≡ filter (λ r. test r.1.key) c.self.inside.requests = c.retain-2.ensures.kept test (record { by = λ key b at. pure.by key b (search rules) }) in
+    let waiting : c.retain.new.self ≡ with_kept test c.self.inside.pending = c.retain.ensures.kept test (record { by = λ key b called. pure.by key b (subst (λ k. FnReturnsAt g.F.Fn c.args.keep k b) called.shows called.says.met) }) in
+    let asked : c.retain-2.new.self ≡ filter (λ r. test r.1.key) c.self.inside.requests = c.retain-2.ensures.kept test (record { by = λ key b called. pure.by key b (subst (λ k. FnReturnsAt g.F.Fn c.args.keep k b) called.shows called.says.met) }) in
     let targets : c.retain-3.new.self.entries ≡ filter (λ e. test e.0) c.self.inside.targets.entries =
-    filter_same_pairs _ (λ e. test e.0) _ (λ k v b w f' t. (pure.by k b (rw (← t.shows.0) (search rules)), search rules, search rules)) _ _ c.retain-3.ensures.filtered in
+    filter_same_pairs _ (λ e. test e.0) _ (λ k v b w f' t. (pure.by k b (subst (λ k. FnReturnsAt g.F.Fn c.args.keep k b) t.shows.0 t.called.met.1.0), sym t.leaves ∙ t.called.met.1.1 ∙ t.shows.1, search rules)) _ _ c.retain-3.ensures.filtered in
     let retries : c.retain-4.new.self.entries ≡ filter (λ e. test e.0) c.self.inside.retries.entries =
-    filter_same_pairs _ (λ e. test e.0) _ (λ k v b w f' t. (pure.by k b (rw (← t.shows.0) (search rules)), search rules, search rules)) _ _ c.retain-4.ensures.filtered in
+    filter_same_pairs _ (λ e. test e.0) _ (λ k v b w f' t. (pure.by k b (subst (λ k. FnReturnsAt g.F.Fn c.args.keep k b) t.shows.0 t.called.met.1.0), sym t.leaves ∙ t.called.met.1.1 ∙ t.shows.1, search rules)) _ _ c.retain-4.ensures.filtered in
     rw (waiting, asked, targets, retries) (ap (λ (f : Fetcher _ _). retain (orders g.K.Ord.cmp g.P.Ord.cmp) test f) c.self.view_is)
 
 pub invariant_of-self : goal.invariant_of-self
