@@ -1,4 +1,4 @@
-use Rattle.std.proofs.Common.{◌≡◌, ◌∙◌, ap, subst, sym, ℕ, ◌<◌, ◌≤◌, ◌∷◌, Some, false, true, length, rules, arith}
+use Rattle.std.proofs.Common.{◌≡◌, ◌∙◌, ap, subst, sym, ℕ, suc, ◌<◌, ◌≤◌, ◌∷◌, Some, false, true, length, rules, arith}
 use Rattle.std.proofs.lemmas.Bool.Decides.{nat_tests}
 use Rattle.std.proofs.lemmas.Map.Keys.{sorted_tail}
 use Rattle.std.specs.Ordering.{nat_cmp}
@@ -9,6 +9,7 @@ use Rattle.resolver_fetch.specs.Queues.{placed}
 use Rattle.resolver_fetch.specs.Seeking.{first_until, trying_key}
 use Rattle.resolver_trying.specs.Trying.{Trying}
 use Rattle.resolver_fetch.proofs.Dues.{until-here, until-none, until-past}
+use Rattle.resolver_fetch.proofs.Fetching.{refused, refused-as}
 use Rattle.resolver_fetch.proofs.fetcher.Fetcher.first_until.Goals as goal
 
 past : (x y : ℕ) → y < x → nat_le x y ≡ false
@@ -63,3 +64,38 @@ loop-pair-preserved g c =
           ∙ c.loop-pair.invariant.first;
       at_hand = c.trying.ensures.at_hand;
     }
+
+pub loop-pair-init : goal.loop-pair-init
+loop-pair-init g c =
+    let o = orders g.K.Ord.cmp g.P.Ord.cmp in
+    let queue : c.into_iter-pair-iterator.result ≡ c.args.queue = c.into_iter-pair-iterator.ensures.into_iter_gives in
+    record {
+      ordered = rw queue c.requires.ordered;
+      first = ap (λ ps. first_until o c.args.self.now c.args.trail.now c.args.moment (placed c.args.is_retry ps)) queue;
+      at_hand = c.requires.at_hand;
+    }
+
+pub loop-pair-smaller : goal.loop-pair-smaller
+loop-pair-smaller g c =
+    let more : length c.loop-pair.pair-iterator ≡ suc (length c.next.new.self) = ap length c.in-Some.ensures.steps in
+    omega (arith, more)
+
+pub trying-requires-clause-at_hand : goal.trying-requires-clause-at_hand
+trying-requires-clause-at_hand g c = c.loop-pair.invariant.at_hand
+
+pub returns-clause-at_hand : goal.returns-clause-at_hand
+returns-clause-at_hand g c = c.loop-pair.invariant.at_hand
+
+pub returns-clause-ok : goal.returns-clause-ok
+returns-clause-ok g c =
+    ap (λ ps. first_until (orders g.K.Ord.cmp g.P.Ord.cmp) c.args.self.now c.args.trail.now c.args.moment (placed c.args.is_retry ps)) (sym c.in-None.ensures.steps.0)
+    ∙ c.loop-pair.invariant.first
+
+pub returns-in_err-trying-clause-ok : goal.returns-in_err-trying-clause-ok
+returns-in_err-trying-clause-ok g c = refused c.from_residual.result _ _ c.from_residual.ensures.1
+
+pub returns-in_err-trying-clause-only : goal.returns-in_err-trying-clause-only
+returns-in_err-trying-clause-only g c = refused-as c.from_residual.result _ _ c.from_residual.ensures.1 (λ fault same. same ∙ c.in_err-trying.ensures.only)
+
+pub returns-in_err-trying-clause-at_hand : goal.returns-in_err-trying-clause-at_hand
+returns-in_err-trying-clause-at_hand g c = c.trying.ensures.at_hand

@@ -9,6 +9,7 @@ use Rattle.resolver_fetch.specs.Queues.{IsQueued, fresh_queue, placed, retry_que
 use Rattle.resolver_fetch.specs.Seeking.{first_until, scan_at, tried_behind}
 use Rattle.resolver_trying.specs.Trying.{Trying}
 use Rattle.resolver_trying.specs.Waiting.{fresh_at, retry_at}
+use Rattle.resolver_fetch.proofs.Fetching.{refused-as}
 use Rattle.resolver_fetch.proofs.Seeking.{behind-fresh, behind-fresh-retry, behind-retry}
 use Rattle.resolver_fetch.proofs.fetcher.Fetcher.seek_behind.Goals as goal
 
@@ -92,3 +93,6 @@ first_until-requires-2-clause-ordered g c = c.range_after-behind-2.ensures.order
 
 pub first_until-requires-2-clause-runs : goal.first_until-requires-2-clause-runs
 first_until-requires-2-clause-runs g c = c.range_after-behind-2.ensures.runs
+
+pub returns-in_err-found-clause-only : goal.returns-in_err-found-clause-only
+returns-in_err-found-clause-only g c = refused-as c.from_residual.result _ _ c.from_residual.ensures.1 (λ fault same. same ∙ c.in_err-found.ensures.only)
