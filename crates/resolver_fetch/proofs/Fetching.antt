@@ -47,3 +47,8 @@ refused (Err e) P Q is = tt
 pub refused-as : {T E : Type 0} (r : Result T E) (P Q : E → Type 0) → IsErrAnd r P → ((e : E) → P e → Q e) → IfErr r Q
 refused-as (Ok x) P Q is so = absurd is
 refused-as (Err e) P Q is so = so e is
+
+-- what follows from both
+pub on-both : {T E : Type 0} (r : Result T E) (A B C : Type 0) → (A → B → C) → OnOk r A → OnOk r B → OnOk r C
+on-both (Ok x) A B C so a b = so a b
+on-both (Err e) A B C so a b = tt

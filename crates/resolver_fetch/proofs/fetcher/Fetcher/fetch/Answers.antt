@@ -1,7 +1,8 @@
-use Rattle.std.proofs.Common.{subst, sym}
+use Rattle.std.proofs.Common.{inl, refl, subst, sym}
 use Rattle.resolver_fetch.specs.Fetcher.{Fetcher}
 use Rattle.resolver_trying.specs.Orders.{orders}
 use Rattle.resolver_fetch.specs.Progress.{IsSound}
+use Rattle.resolver_fetch.proofs.Fetching.{on-both, on-err}
 use Rattle.resolver_fetch.proofs.Progress.{begins-sound}
 use Rattle.resolver_fetch.proofs.fetcher.Fetcher.fetch.Goals as goal
 
@@ -12,3 +13,14 @@ drive-driven-requires-clause-sound g c =
     let by_peer = g.met.P.Ord.total in
     let Q : Fetcher g.row.K.Denot g.row.P.Denot → Type 0 = λ f. IsSound o f in
     subst Q (sym c.in_ok-asked.ensures.ok) (begins-sound o by_key by_peer c.args.self.now c.args.now)
+
+pub drive-driven-requires-clause-asked : goal.drive-driven-requires-clause-asked
+drive-driven-requires-clause-asked g c = c.in_ok-asked.ensures.asked
+
+pub returns-else-is_err-clause-ok : goal.returns-else-is_err-clause-ok
+returns-else-is_err-clause-ok g c =
+    on-both c.drive-driven.result _ _ _ (λ goes over. record { goes_on = goes; over = over })
+    (rw c.in_ok-asked.ensures.ok at c.drive-driven.ensures.goes_on) c.drive-driven.ensures.over
+
+pub returns-in_err-asked-clause-err : goal.returns-in_err-asked-clause-err
+returns-in_err-asked-clause-err g c = on-err c.from_residual.result _ (inl (rw c.in_err-asked.ensures.err refl))

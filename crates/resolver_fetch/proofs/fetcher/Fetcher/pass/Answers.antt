@@ -55,3 +55,12 @@ returns-clause-err g c =
     let back = c.pop.ensures t.trail (record { key = t.trying.key; peer = c.args.peer; reason = c.args.reason }) (ap (λ (n : Cursor g.row.K.Denot g.row.P.Denot). n.trail) noted) in
     rw (c.keep-in-Err-find_behind.ensures, back, noted)
     (ap (opened t) (c.self-in-Err-find_behind.view_is ∙ c.find_behind.ensures.same))
+
+pub returns-in-Err-clause-err : goal.returns-in-Err-clause-err
+returns-in-Err-clause-err g c = rw (c.keep.ensures, c.in-Err.ensures.err) (ap (opened c.args.cursor) c.self.view_is)
+
+pub go_on-requires-clause-closed : goal.go_on-requires-clause-closed
+go_on-requires-clause-closed g c = rw c.find_behind.ensures.same c.requires.closed
+
+pub go_on-requires-clause-moment : goal.go_on-requires-clause-moment
+go_on-requires-clause-moment g c = rw c.in_default.ensures.ok c.requires.right.moment_fits
