@@ -12,15 +12,15 @@ use Rattle.resolver_fetch.proofs.fetcher.count_retry.Goals as goal
 
 pub returns-in_err-put-clause-as_before : goal.returns-in_err-put-clause-as_before
 returns-in_err-put-clause-as_before g c =
-    let there : lookup (is_at (g.K.Ord.cmp c.args.key)) c.args.retries.now.entries ≡ Some c.in-Some.count.now = search rules in
+    let there : lookup (is_at (g.K.Ord.cmp c.args.key)) c.args.retries.now.entries ≡ Some c.in-Some.count.now = sym c.in-Some.ensures.value in
     let same : (c.get_mut.follows.lender c.in-Some.count.now).entries ≡ c.args.retries.now.entries =
     (c.get_mut.follows.holds c.in-Some.count.now).0
     ∙ set_value_same _ c.args.retries.now.entries c.in-Some.count.now there in
-    search (rules, same)
+    on-err c.from_residual.result _ same
 
 pub returns-in-Some-clause-counted : goal.returns-in-Some-clause-counted
 returns-in-Some-clause-counted g c =
-    let there : lookup (is_at (g.K.Ord.cmp c.args.key)) c.args.retries.now.entries ≡ Some c.in-Some.count.now = search rules in
+    let there : lookup (is_at (g.K.Ord.cmp c.args.key)) c.args.retries.now.entries ≡ Some c.in-Some.count.now = sym c.in-Some.ensures.value in
     let more : c.saturating_add.result ≡ once_more c.in-Some.count.now = search rules in
     rw there
     ((c.get_mut.follows.holds c.saturating_add.result).0
@@ -30,7 +30,7 @@ returns-in-Some-clause-counted g c =
 
 pub returns-in-Err-clause-as_before : goal.returns-in-Err-clause-as_before
 returns-in-Err-clause-as_before g c =
-    let none : lookup (is_at (g.K.Ord.cmp c.args.key)) c.args.retries.now.entries ≡ None = search rules in
+    let none : lookup (is_at (g.K.Ord.cmp c.args.key)) c.args.retries.now.entries ≡ None = sym c.in_default.ensures.value in
     search (rules, none, removed-inserted g.K.Ord.cmp c.args.key c.args.retries.now.entries 1 (ap is_eq (tied_itself g.met.K.Ord.total c.args.key)) none)
 
 pub returns-in-Some-clause-ok : goal.returns-in-Some-clause-ok
