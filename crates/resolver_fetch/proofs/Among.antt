@@ -1,7 +1,6 @@
 -- The peers that may be asked are found by their names.
-use Rattle.std.proofs.Common.{◌≡◌, refl, ap, sym, ◌∙◌, Bool, true, false, ◌&&◌, ◌||◌, List, [], ◌∷◌, ◌++◌, filter, None, Some, cond, if◌then◌else◌, arith}
+use Rattle.std.proofs.Common.{◌≡◌, refl, ap, sym, ◌∙◌, Bool, true, false, ◌&&◌, ◌||◌, List, [], ◌∷◌, ◌++◌, filter, None, Some, cond, if◌then◌else◌}
 use Rattle.std.proofs.lemmas.Cmp.{alike_right, eq_by_cmp_equiv}
-use Rattle.std.proofs.lemmas.Grind.{common_steps}
 use Rattle.std.proofs.lemmas.Map.Keys.{sorted_head, sorted_tail}
 use Rattle.std.specs.BTreeMap.{is_at}
 use Rattle.std.specs.Cmp.{IsTotalOrder}
@@ -16,15 +15,23 @@ use Rattle.resolver_trying.specs.Known.{Known, askable_at, eligible, may_be_aske
 use Rattle.resolver_request.specs.declared.score.Averages.{Averages}
 use Rattle.resolver_trying.proofs.Tried.{equal-is}
 
+and-true : (b : Bool) → (b && true) ≡ b
+and-true true = refl
+and-true false = refl
+
+and-false : (b : Bool) → (b && false) ≡ false
+and-false true = refl
+and-false false = refl
+
 module _ {X : Type 0} (test other : X → Bool) where
   same-filter : ((x : X) → test x ≡ other x) → (xs : List X) → filter test xs ≡ filter other xs
   same-filter same [] = refl
-  same-filter same (x ∷ xs) = let rest = same-filter same xs in let here = same x in grind (arith, common_steps, rest, here)
+  same-filter same (x ∷ xs) = rw (same x, same-filter same xs) refl
 
 module _ {X : Type 0} (test : X → Bool) where
   passes-none : (xs : List X) → filter (λ x. test x && false) xs ≡ []
   passes-none [] = refl
-  passes-none (x ∷ xs) = let rest = passes-none xs in grind (arith, common_steps, rest)
+  passes-none (x ∷ xs) = rw (and-false (test x)) (passes-none xs)
 
 module _ {P : Type 0} {R : P → P → Ordering} (total : IsTotalOrder R) where
   -- what is behind a name is not that name
@@ -51,9 +58,7 @@ module _ {P X : Type 0} {R : P → P → Ordering} (total : IsTotalOrder R) (may
   none-behind : (n p : P) → R n p ≡ Less → (es : List (P × X)) → AllByRecursion (λ q. R p q ≡ Less) (keys_of es) → filter (λ e. may e.0 && is_eq (R e.0 n)) es ≡ []
   none-behind n p first [] all = refl
   none-behind n p first (e ∷ es) all =
-      let rest = none-behind n p first es all.1 in
-      let here = not-behind total n p e.0 first all.0 in
-      grind (arith, common_steps, rest, here)
+      rw (not-behind total n p e.0 first all.0, and-false (may e.0)) (none-behind n p first es all.1)
 
   -- the entries of some names are those of the first, and then those of the rest
   split-first : (n : P) (ns : List P) → AllByRecursion (λ m. R n m ≡ Less) ns → (es : List (P × X)) → IsStrictlySortedBy R (keys_of es)
@@ -83,19 +88,20 @@ module _ {P X : Type 0} {R : P → P → Ordering} (total : IsTotalOrder R) (may
         none-equal : R n e.0 ≡ Equal → (fs : List (P × X)) → AllByRecursion (λ q. R e.0 q ≡ Less) (keys_of fs) → filter (λ f. may f.0 && is_eq (R f.0 n)) fs ≡ []
         none-equal same [] all = refl
         none-equal same (f ∷ fs) all =
-            let rest = none-equal same fs all.1 in
             let here : is_eq (R f.0 n) ≡ false = ap is_eq (total.antisymm f.0 n ∙ ap ordering_reverse (total.congr n e.0 f.0 same ∙ all.0)) in
-            grind (arith, common_steps, rest, here)
+            rw (here, and-false (may f.0)) (none-equal same fs all.1)
 
         at : (b : Bool) → is_eq (R n e.0) ≡ b → is_eq (R e.0 n) ≡ is_eq (R n e.0) → cond b (Some e.0) (lookup_key (is_at (R n)) es) ≡ Some k → cond b (Some e.1) (lookup (is_at (R n)) es) ≡ Some v
             → (lookup_key (is_at (R n)) es ≡ Some k → lookup (is_at (R n)) es ≡ Some v → filter (λ e. may e.0 && is_eq (R e.0 n)) es ≡ (if may k then (k, v) ∷ [] else []))
             → filter (λ e. may e.0 && is_eq (R e.0 n)) (e ∷ es) ≡ (if may k then (k, v) ∷ [] else [])
         at true here back is value rest =
             let empty = none-equal (equal-is (R n e.0) here) es (sorted_head R e.0 (keys_of es) sorted) in
-            grind (arith, common_steps, here, back, is, value, empty)
+            let key : e.0 ≡ k = cc in
+            let same : e.1 ≡ v = cc in
+            rw (back ∙ here, and-true (may e.0), empty)
+            (ap (λ p. if may p then (p, e.1) ∷ [] else []) key ∙ ap (λ x. if may k then (k, x) ∷ [] else []) same)
         at false here back is value rest =
-            let later = rest is value in
-            grind (arith, common_steps, here, back, later)
+            rw (back ∙ here, and-false (may e.0)) (rest is value)
 
   -- and of one that isn't
   pub none-at : (n : P) (es : List (P × X)) → lookup_key (is_at (R n)) es ≡ None → filter (λ e. may e.0 && is_eq (R e.0 n)) es ≡ []
@@ -104,7 +110,7 @@ module _ {P X : Type 0} {R : P → P → Ordering} (total : IsTotalOrder R) (may
     at : (b : Bool) → is_eq (R n e.0) ≡ b → is_eq (R e.0 n) ≡ is_eq (R n e.0) → cond b (Some e.0) (lookup_key (is_at (R n)) es) ≡ None
         → (lookup_key (is_at (R n)) es ≡ None → filter (λ e. may e.0 && is_eq (R e.0 n)) es ≡ []) → filter (λ e. may e.0 && is_eq (R e.0 n)) (e ∷ es) ≡ []
     at true here back is rest = absurd cc
-    at false here back is rest = let later = rest is in grind (arith, common_steps, here, back, later)
+    at false here back is rest = rw (back ∙ here, and-false (may e.0)) (rest is)
 
 module _ {P : Type 0} (R : P → P → Ordering) (known : Known P) where
   -- the peers of these names that may be asked

@@ -6,6 +6,7 @@ use Rattle.resolver_fetch.specs.Queues.{IsQueued, fresh_queue, placed}
 use Rattle.resolver_fetch.specs.Seeking.{first_until}
 use Rattle.resolver_fetch.proofs.Askable.{tries-none}
 use Rattle.resolver_fetch.proofs.Dues.{from-first}
+use Rattle.resolver_fetch.proofs.Fetching.{refused, refused-as}
 use Rattle.resolver_fetch.proofs.Seeking.{seeks-fresh, seeks-retry}
 use Rattle.resolver_fetch.proofs.fetcher.Fetcher.seek.Goals as goal
 
@@ -36,3 +37,24 @@ returns-clause-ok g c =
     let none : c.in_ok-found.field-0 ≡ None = search rules in
     let is = seeks-retry o f c.args.moment c.args.trail.now queued (sym found ∙ none) in
     IfOk-weaker c.seek_retry.result _ _ (λ t it. it ∙ sym is) c.seek_retry.ensures.ok
+
+pub first_until-requires-clause-ordered : goal.first_until-requires-clause-ordered
+first_until-requires-clause-ordered g c = c.in_ok-queue.ensures.ordered
+
+pub first_until-requires-clause-runs : goal.first_until-requires-clause-runs
+first_until-requires-clause-runs g c = c.in_ok-queue.ensures.runs
+
+pub first_until-requires-clause-at_hand : goal.first_until-requires-clause-at_hand
+first_until-requires-clause-at_hand g c = c.requires.at_hand
+
+pub seek_retry-requires-clause-at_hand : goal.seek_retry-requires-clause-at_hand
+seek_retry-requires-clause-at_hand g c = c.first_until.ensures.at_hand
+
+pub returns-in_err-queue-clause-ok : goal.returns-in_err-queue-clause-ok
+returns-in_err-queue-clause-ok g c = refused c.from_residual.result _ _ c.from_residual.ensures.1
+
+pub returns-in_err-found-clause-ok : goal.returns-in_err-found-clause-ok
+returns-in_err-found-clause-ok g c = refused c.from_residual-in_err-found.result _ _ c.from_residual-in_err-found.ensures.1
+
+pub returns-in_err-found-clause-only : goal.returns-in_err-found-clause-only
+returns-in_err-found-clause-only g c = refused-as c.from_residual-in_err-found.result _ _ c.from_residual-in_err-found.ensures.1 (λ fault same. same ∙ c.in_err-found.ensures.only)
