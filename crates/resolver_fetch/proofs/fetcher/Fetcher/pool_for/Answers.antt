@@ -4,6 +4,7 @@ use Rattle.resolver_trying.specs.Orders.{orders}
 use Rattle.resolver_trying.specs.Pools.{Pool}
 use Rattle.resolver_fetch.specs.Fetcher.{snapshot, targets_of}
 use Rattle.resolver_trying.specs.Snapshot.{eligible}
+use Rattle.resolver_fetch.proofs.Fetching.{refused, refused-as}
 use Rattle.resolver_fetch.proofs.Weighing.{drop-all, drop-first, untried, untried-left, untried-more, untried-none}
 use Rattle.resolver_fetch.proofs.fetcher.Fetcher.pool_for.Goals as goal
 
@@ -44,3 +45,18 @@ returns-clause-ok g c =
     ∙ c.loop-peer.invariant.left in
     ap (λ (ps : List (g.row.P.Denot × ℕ)). record c.loop-peer.pool { left = ps }) left
     ∙ ap (λ (ps : List (g.row.P.Denot × ℕ)). record whole { all = ps }) c.loop-peer.invariant.all
+
+pub returns-clause-at_hand : goal.returns-clause-at_hand
+returns-clause-at_hand g c = c.loop-peer.invariant.at_hand
+
+pub returns-in-Err-clause-at_hand : goal.returns-in-Err-clause-at_hand
+returns-in-Err-clause-at_hand g c = c.loop-peer.invariant.at_hand
+
+pub returns-in_err-pool-clause-ok : goal.returns-in_err-pool-clause-ok
+returns-in_err-pool-clause-ok g c = refused c.from_residual.result _ _ c.from_residual.ensures.1
+
+pub returns-in_err-pool-clause-only : goal.returns-in_err-pool-clause-only
+returns-in_err-pool-clause-only g c = refused-as c.from_residual.result _ _ c.from_residual.ensures.1 (λ fault same. same ∙ c.in_err-pool.ensures.only)
+
+pub returns-in_err-pool-clause-at_hand : goal.returns-in_err-pool-clause-at_hand
+returns-in_err-pool-clause-at_hand g c = c.peers_for.ensures.at_hand
