@@ -174,9 +174,9 @@ module _ {K P : Type 0} (o : Orders K P) where
 
   -- what is asked once the scan expects something
   pub asks-kept : (f : Fetcher K P) (moment : ℕ) (trail : List (Try K P)) (t : Trying K P) (e : Expected P) (last waiter : Option ℕ) → tried_next o f moment trail ≡ Some t
-      → question o (record f { scan = Some (record { moment = moment; trail = trail; expects = Some e }); last_id = last; waiter = waiter }) ≡ Some (ask_for f.configuration.priority_requests t e)
+      → Some (ask_for f.configuration.priority_requests t e) ≡ question o (record f { scan = Some (record { moment = moment; trail = trail; expects = Some e }); last_id = last; waiter = waiter })
   asks-kept f moment trail t e last waiter tried =
-      asks-for (snapshot o f) (record { moment = moment; trail = trail; expects = Some e }) t e (next o (snapshot o f) (scan_at moment trail)) (Some e) tried refl
+      sym (asks-for (snapshot o f) (record { moment = moment; trail = trail; expects = Some e }) t e (next o (snapshot o f) (scan_at moment trail)) (Some e) tried refl)
 
   -- what is asked has no id that is held, where none is expected
   pub asks-new : (f : Fetcher K P) (priority : Bool) (t : Trying K P) (last : Option ℕ) (e : Expected P) → ExpectsNewId f.asked last e → AsksNewId o f (Some (ask_for priority t e))

@@ -1,4 +1,4 @@
-use Rattle.std.proofs.Common.{ap, sym, None}
+use Rattle.std.proofs.Common.{ap, None}
 use Rattle.resolver_trying.specs.Orders.{orders}
 use Rattle.resolver_fetch.specs.Cursor.{opened, scan_of}
 use Rattle.resolver_fetch.specs.Stepping.{expecting}
@@ -10,7 +10,7 @@ returns-in-Ok-clause-asked g c =
     let o = orders g.K.Ord.cmp g.P.Ord.cmp in
     let t = c.args.cursor in
     rw (c.in-Ok.ensures.ok, c.keep.ensures, c.replace.ensures.after, c.wake.ensures)
-    (sym (rw (← c.self.view_is) at (asks-kept o c.args.self.now t.moment t.trail t.trying c.args.expected c.args.last_id None c.requires.right.tries)))
+    (rw (← c.self.view_is) at (asks-kept o c.args.self.now t.moment t.trail t.trying c.args.expected c.args.last_id None c.requires.right.tries))
 
 pub invariant_of-self : goal.invariant_of-self
 invariant_of-self g c =

@@ -40,7 +40,7 @@ returns-in-Try-clause-asked g c =
     let tries = next-tries o c.args.self.now c.args.moment c.args.trail c.in-Try.trying is in
     let retries = ap (λ (t : Trying g.row.K.Denot g.row.P.Denot). t.retries) c.trying.view_is in
     rw (c.from-bound.ensures, retries, c.keep.ensures, c.wake.ensures)
-    (sym (rw (← c.self.view_is) at (asks-kept o c.args.self.now c.args.moment c.args.trail c.in-Try.trying Mode c.self.inside.last_id None tries)))
+    (rw (← c.self.view_is) at (asks-kept o c.args.self.now c.args.moment c.args.trail c.in-Try.trying Mode c.self.inside.last_id None tries))
 
 pub invariant_of-self-in-Wait : goal.invariant_of-self-in-Wait
 invariant_of-self-in-Wait g c =
