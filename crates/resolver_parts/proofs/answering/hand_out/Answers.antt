@@ -1,4 +1,4 @@
-use Rattle.std.proofs.Common.{◌∙◌, ap, refl}
+use Rattle.std.proofs.Common.{◌∙◌, ap, refl, subst, ◌<◌, ◌^◌, rules}
 use Rattle.resolver_parts.proofs.Refusals.{refusal-is, refused, refused-as}
 use Rattle.resolver_parts.proofs.answering.hand_out.Goals as goal
 
@@ -31,3 +31,6 @@ returns-in_err-push-clause-room g c = refused c.from_residual.result _ _ c.from_
 
 pub returns-in_err-push-clause-only : goal.returns-in_err-push-clause-only
 returns-in_err-push-clause-only g c = refused-as c.from_residual.result _ _ c.from_residual.ensures.1 (λ fault same. rw same tt)
+
+pub returns-clause-room : goal.returns-clause-room
+returns-clause-room g c = subst (λ n. n < 2 ^ 64) c.in-Ok-deliver.ensures.number (search rules)

@@ -1,8 +1,8 @@
-use Rattle.std.proofs.Common.{◌≡◌, refl, ap, sym, ◌∙◌, subst, ◌++◌, ◌∷◌, [], None, Some, rules}
+use Rattle.std.proofs.Common.{◌≡◌, refl, ap, ◌∙◌, subst, ◌<◌, ◌^◌, None, Some, rules}
 use Rattle.std.specs.Prelude.{IsSome}
-use Rattle.resolver_demand.specs.Entries.{response_of}
-use Rattle.resolver_parts.specs.Ruled.{flagged}
+use Rattle.resolver_demand.specs.Entries.{redelivered, refusal_at, response_of}
 use Rattle.resolver_parts.proofs.Cached.{caches-some, flagged-next, flagged-number, flagged-response, noted, noted-name, noted-value, response-is}
+use Rattle.resolver_parts.proofs.Refusals.{refusal-is, refused, refused-as}
 use Rattle.resolver_parts.proofs.judging.hand_out_again.Goals as goal
 
 none-some : {X : Type 0} (x : X) → None ≡ Some x → ⊥
@@ -41,3 +41,39 @@ returns-clause-told g c =
     let value = c.in-Ok.ensures.value ∙ ap (λ r. r.value) same ∙ noted-value g.K.Ord.cmp c.args.delivery.key c.args.entries.now x c.args.accepted in
     rw (response-is g.K.Ord.cmp c.args.delivery.key c.args.entries.now x)
     (c.in_ok-push.ensures.items ∙ rw (number, name, c.in-Ok.ensures.delivery, value) refl)
+
+pub returns-clause-ok : goal.returns-clause-ok
+returns-clause-ok g c = c.in-Ok-redeliver.ensures.ok ∙ ap (redelivered g.K.Ord.cmp c.args.delivery) c.note_accepted.ensures
+
+pub redeliver-requires-clause-contexts_clone : goal.redeliver-requires-clause-contexts_clone
+redeliver-requires-clause-contexts_clone g c = λ x y is.
+    ap (λ peer. record y { peer = peer }) (c.requires.peers_clone x.peer y.peer is.0)
+    ∙ ap (λ elapsed. record y { peer = x.peer; elapsed = elapsed }) is.1.0
+    ∙ ap (λ bytes. record x { bytes = bytes }) is.1.1
+
+pub returns-in-Err-clause-only : goal.returns-in-Err-clause-only
+returns-in-Err-clause-only g c = rw c.in-Err.ensures.only tt
+
+pub returns-in-Err-redeliver-clause-only : goal.returns-in-Err-redeliver-clause-only
+returns-in-Err-redeliver-clause-only g c =
+    let x = caches-some g.K.Ord.cmp c.args.delivery.key c.args.entries.now c.requires.cached in
+    let next = ap (λ d. d.next) c.note_accepted.ensures ∙ flagged-next g.K.Ord.cmp c.args.delivery.key c.args.entries.now x c.args.accepted in
+    rw (c.in-Err-redeliver.ensures.only ∙ ap refusal_at next) (refusal-is c.args.entries.now.next)
+
+pub returns-in_err-push-clause-told : goal.returns-in_err-push-clause-told
+returns-in_err-push-clause-told g c = refused c.from_residual.result _ _ c.from_residual.ensures.1
+
+pub returns-in_err-push-clause-ok : goal.returns-in_err-push-clause-ok
+returns-in_err-push-clause-ok g c = refused c.from_residual.result _ _ c.from_residual.ensures.1
+
+pub returns-in_err-push-clause-room : goal.returns-in_err-push-clause-room
+returns-in_err-push-clause-room g c = refused c.from_residual.result _ _ c.from_residual.ensures.1
+
+pub returns-in_err-push-clause-only : goal.returns-in_err-push-clause-only
+returns-in_err-push-clause-only g c = refused-as c.from_residual.result _ _ c.from_residual.ensures.1 (λ fault same. rw same tt)
+
+pub returns-clause-room : goal.returns-clause-room
+returns-clause-room g c =
+    let x = caches-some g.K.Ord.cmp c.args.delivery.key c.args.entries.now c.requires.cached in
+    let number = c.in-Ok-redeliver.ensures.number ∙ ap (λ d. d.next) c.note_accepted.ensures ∙ flagged-next g.K.Ord.cmp c.args.delivery.key c.args.entries.now x c.args.accepted in
+    subst (λ n. n < 2 ^ 64) number (search rules)
