@@ -1,5 +1,6 @@
-use Rattle.std.proofs.Common.{refl}
+use Rattle.std.proofs.Common.{refl, sym, append-nil}
 use Rattle.resolver_peer.specs.Parties.{parties}
+use Rattle.resolver_peer.specs.Peer.{quiet}
 use Rattle.resolver_parts.specs.Said.{codec}
 use Rattle.resolver_parts.proofs.Agreeing.{goes-quiet}
 use Rattle.resolver_parts.proofs.parts.Parts.advance.Goals as goal
@@ -61,3 +62,9 @@ returns-in-End-clause-goes g c = λ m is. rw c.in-End.is (c.end.ensures m is)
 
 pub returns-in-End-clause-memory : goal.returns-in-End-clause-memory
 returns-in-End-clause-memory g c = λ wanting m is. rw c.in-End.is refl
+
+pub returns-in-PendingDue-clause-goes : goal.returns-in-PendingDue-clause-goes
+returns-in-PendingDue-clause-goes g c = λ m is. rw c.in-PendingDue.is (record { done = quiet m; is = refl; told = sym (append-nil c.args.effects.now.items); agrees = is })
+
+pub returns-in-PendingDue-clause-memory : goal.returns-in-PendingDue-clause-memory
+returns-in-PendingDue-clause-memory g c = λ wanting m is. absurd cc
