@@ -113,6 +113,13 @@ module _ {K S P : Type 0} (a : Parties K S P) where
         goes-then (scanned a first.done.machine now) (happen a m now event) before mid after f r (scans first.done.machine first.agrees (ap (λ scan. scan.expects) left ∙ over))
         (both m now event before mid after e f first)
 
+    -- an event that is refused begins no scan
+    pub refused-behind : (m : Machine K S P) (now : ℕ) (event : Event K S P) (before after : List (Told K P S)) (e : Parts K P S) (fault : Fault)
+        → Goes a c (does a (record m { moment = now }) now event) before after e (Err fault) → Goes a c (happen a m now event) before after e (Err fault)
+    refused-behind m now event before after e OutOfMemory goes = tt
+    refused-behind m now event before after e Exhausted goes = ap (option_and_then (λ d. and_then d (λ n. Some (scanned a n now)))) goes
+    refused-behind m now event before after e fault goes = absurd goes
+
     -- memory is wanting in a scan alone where the event took none
     pub wanting-behind : (m : Machine K S P) (now : ℕ) (event : Event K S P) (before mid : List (Told K P S)) (e : Parts K P S) (first : Went a c (does a (record m { moment = now }) now event) before mid e)
         → is_due now (wake_up a first.done.machine) ≡ true → takes_no_memory a m now (Happens event) ≡ false

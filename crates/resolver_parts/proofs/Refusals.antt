@@ -1,5 +1,5 @@
 -- What a refusal that is handed on says of the outcome.
-use Rattle.std.proofs.Common.{◌≡◌, refl, ℕ, ◌^◌, Bool, true, false, Result, Ok, Err, if◌then◌else◌}
+use Rattle.std.proofs.Common.{◌≡◌, refl, ap, ℕ, ◌^◌, Bool, true, false, Result, Ok, Err, if◌then◌else◌}
 use Rattle.std.specs.Prelude.{IfErr, IfOk, IsErrAnd, nat_lt}
 use Rattle.resolver_base.specs.declared.base.fault.Fault.TheVariants.{OutOfMemory, Exhausted}
 use Rattle.resolver_demand.specs.Entries.{refusal_at}
@@ -15,6 +15,11 @@ module _ {T E : Type 0} where
   pub refused-as : (r : Result T E) (P Q : E → Type 0) → IsErrAnd r P → ((e : E) → P e → Q e) → IfErr r Q
   refused-as (Ok x) P Q is so = absurd is
   refused-as (Err e) P Q is so = so e is
+
+  -- a refusal that is handed on as it is
+  pub refused-with : (r : Result T E) (e : E) → IsErrAnd r (λ other. other ≡ e) → r ≡ Err e
+  refused-with (Ok x) e is = absurd is
+  refused-with (Err other) e is = ap Err is
 
 -- what entries refuse with is a reason not to hand out
 pub refusal-is : (next : ℕ) → IsRefusal next (refusal_at next)

@@ -1,7 +1,9 @@
+use Rattle.std.proofs.Common.{refl, sym, ◌∙◌}
 use Rattle.resolver_peer.specs.Parties.{parties}
 use Rattle.resolver_parts.specs.Said.{codec, event_of}
 use Rattle.resolver_parts.proofs.Agreeing.{agrees-later, closed-over}
-use Rattle.resolver_parts.proofs.Happening.{closed-behind, happened, wanting-behind}
+use Rattle.resolver_parts.proofs.Happening.{closed-behind, happened, refused-behind, wanting-behind}
+use Rattle.resolver_parts.proofs.Refusals.{refused-with}
 use Rattle.resolver_parts.proofs.parts.Parts.happen.Goals as goal
 
 pub scan-requires-clause-closed : goal.scan-requires-clause-closed
@@ -27,3 +29,15 @@ returns-clause-memory g c = λ wanting m is.
     let first = c.in_ok-advance.ensures.goes (record m { moment = c.args.now }) (agrees-later a c.args.self.now m c.args.now is) in
     wanting-behind a words m c.args.now (event_of words g.Q.Predicate.keeps c.args.event) c.args.effects.now.items c.advance.new.effects.items c.advance.new.self first
     (c.scan.ensures.memory wanting first.done.machine first.agrees)
+
+pub returns-in_err-advance-clause-goes : goal.returns-in_err-advance-clause-goes
+returns-in_err-advance-clause-goes g c = λ m is.
+    let a = parties g.K.Ord.cmp g.S.Ord.cmp g.P.Ord.cmp in
+    let words = codec g.K.Span.SIZE g.K.Span.bytes_of g.K.Span.read_from in
+    rw (refused-with c.from_residual.result _ c.from_residual.ensures.1)
+    (refused-behind a words m c.args.now (event_of words g.Q.Predicate.keeps c.args.event) c.args.effects.now.items c.advance.new.effects.items c.advance.new.self _
+    (c.in_err-advance.ensures.goes (record m { moment = c.args.now }) (agrees-later a c.args.self.now m c.args.now is)))
+
+pub returns-in_err-advance-clause-memory : goal.returns-in_err-advance-clause-memory
+returns-in_err-advance-clause-memory g c = λ wanting m is.
+    rw (c.in_err-advance.ensures.memory (sym (refused-with c.from_residual.result _ c.from_residual.ensures.1) ∙ wanting) m is) refl
