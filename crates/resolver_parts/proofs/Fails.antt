@@ -152,3 +152,30 @@ module _ {K S P : Type 0} (a : Parties K S P) (o : IsTotalOrder a.key) (e n : Pa
           let left = sym (ap (λ r. r.1) pops) ∙ ap (λ r. r.1) was in
           fails-agrees now (elapsed_since q.start now) (id, q) (among-by_id (filter_map request_of m.rows) (id, q) is.sound.ids (matching-among a.peer (by_id (filter_map request_of m.rows)) id peer q found))
           (waits ∙ ap (λ k. fetchers.add_retry (orders_of a) k now popped) keys ∙ ap (fetchers.add_retry (orders_of a) q.key now) left) same
+
+module _ {K S P : Type 0} (a : Parties K S P) (e : Parts K P S) (m : Machine K S P) (is : Agrees a e m) (popped : Fetcher K P) where
+  -- the fetcher is as it was
+  left : (f : Fetcher K P) (x y : Option K) → f ≡ e.fetcher → ◌≡◌ {A = Option K × Fetcher K P} (x, f) (y, popped) → Agrees a (record e { fetcher = popped }) m
+  left f x y same pops = subst (λ f. Agrees a (record e { fetcher = f }) m) (sym same ∙ ap (λ r. r.1) pops) is
+
+  some-other : (k : K) (f g : Fetcher K P) → ◌≡◌ {A = Option K × Fetcher K P} (Some k, f) (None, g) → ⊥
+  some-other k f g same = clash (ap (λ r. r.0) same)
+    where
+      clash : Some k ≡ None → ⊥
+      clash same = cc
+
+  -- no request's time is over
+  pub none-times_out : (now : ℕ) → fetchers.pop_active (orders_of a) now e.fetcher ≡ (None, popped) → Agrees a (record e { fetcher = popped }) (times_out a m now (overdue (snapshot a m).asked now))
+  none-times_out now pops = at (overdue (snapshot a m).asked now) (sym (ap (fetchers.pop_active (orders_of a) now) is.fetcher) ∙ pops)
+    where
+      at : (r : Option (ℕ × Request K P)) → fetchers.popped_active (orders_of a) (fetcher_of a m) r ≡ (None, popped) → Agrees a (record e { fetcher = popped }) (times_out a m now r)
+      at None pops = left (fetcher_of a m) None None (sym is.fetcher) pops
+      at (Some q) pops = absurd (some-other q.1.key _ popped pops)
+
+  -- no request of the peer is missed
+  pub none-misses : (now id : ℕ) (peer : P) → fetchers.pop_missing (orders_of a) id peer now e.fetcher ≡ (None, popped) → Agrees a (record e { fetcher = popped }) (misses a m now (answered a m peer id))
+  none-misses now id peer pops = at (answered a m peer id) (sym (ap (fetchers.pop_missing (orders_of a) id peer now) is.fetcher) ∙ pops)
+    where
+      at : (r : Option (Request K P)) → fetchers.popped_missing (orders_of a) (fetcher_of a m) id now r ≡ (None, popped) → Agrees a (record e { fetcher = popped }) (misses a m now r)
+      at None pops = left (fetcher_of a m) None None (sym is.fetcher) pops
+      at (Some q) pops = absurd (some-other q.key _ popped pops)
