@@ -16,6 +16,10 @@ module _ {T E : Type 0} where
   refused-as (Ok x) P Q is so = absurd is
   refused-as (Err e) P Q is so = so e is
 
+  -- what is done is no refusal
+  pub done : (x : T) (e : E) → ◌≡◌ {A = Result T E} (Ok x) (Err e) → ⊥
+  done x e same = cc
+
   -- a refusal that is handed on as it is
   pub refused-with : (r : Result T E) (e : E) → IsErrAnd r (λ other. other ≡ e) → r ≡ Err e
   refused-with (Ok x) e is = absurd is

@@ -3,6 +3,7 @@ use Rattle.resolver_peer.specs.Parties.{parties}
 use Rattle.resolver_peer.specs.Peer.{quiet}
 use Rattle.resolver_parts.specs.Said.{codec}
 use Rattle.resolver_parts.proofs.Agreeing.{goes-quiet}
+use Rattle.resolver_parts.proofs.Refusals.{done}
 use Rattle.resolver_parts.proofs.parts.Parts.advance.Goals as goal
 
 pub returns-in-Fetch-clause-goes : goal.returns-in-Fetch-clause-goes
@@ -67,4 +68,4 @@ pub returns-in-PendingDue-clause-goes : goal.returns-in-PendingDue-clause-goes
 returns-in-PendingDue-clause-goes g c = λ m is. rw c.in-PendingDue.is (record { done = quiet m; is = refl; told = sym (append-nil c.args.effects.now.items); agrees = is })
 
 pub returns-in-PendingDue-clause-memory : goal.returns-in-PendingDue-clause-memory
-returns-in-PendingDue-clause-memory g c = λ wanting m is. absurd cc
+returns-in-PendingDue-clause-memory g c = λ wanting m is. absurd (done _ _ wanting)
