@@ -1,6 +1,6 @@
 -- The parts once a verdict closed a delivery, and what it earned was told.
 use Rattle.std.proofs.Common.{◌≡◌, refl, ap, sym, ◌∙◌, subst, ℕ, ◌<◌, Bool, true, false, cond, List, [], ◌∷◌, ◌++◌, map, Option, None, Some, Result, Ok, Err, append-nil, append_assoc, arith}
-use Rattle.std.specs.Prelude.{◌==◌, if◌then◌else◌, is_none, not}
+use Rattle.std.specs.Prelude.{◌==◌, if◌then◌else◌, is_none, is_some, not}
 use Rattle.std.proofs.lemmas.Grind.{common_steps}
 use Rattle.std.proofs.lemmas.Cmp.{eq_by_cmp_equiv, tied_itself}
 use Rattle.std.proofs.lemmas.List.{map-append}
@@ -52,6 +52,16 @@ is-same i k is = grind (arith, common_steps, is)
 
 at-other : (i k : ℕ) → (i == k) ≡ false → is_at (nat_cmp i) k ≡ false
 at-other i k other = grind (arith, common_steps, other)
+
+module _ {K S P : Type 0} (a : Parties K S P) where
+  -- what a response earned leaves a scan closed
+  pub paid-closed : (source : Source P) (b : Bool) (outcome : Option Outcome) (f : Fetcher K P) → is_some f.scan ≡ false → is_some (paid (orders_of a) source b outcome f).scan ≡ false
+  paid-closed source true outcome f closed = closed
+  paid-closed source false None f closed = closed
+  paid-closed source false (Some (Resolved resolution)) f closed = closed
+  paid-closed source false (Some Invalid) f closed = closed
+  paid-closed source false (Some Unresolved) f closed = closed
+  paid-closed source false (Some Ignored) f closed = closed
 
 module _ {K S P : Type 0} (a : Parties K S P) (c : Codec K) where
   -- one after the other

@@ -7,7 +7,8 @@ use Rattle.resolver_peer.specs.Peer.{Open, ruled}
 use Rattle.resolver_parts.specs.Going.{Goes}
 use Rattle.resolver_parts.specs.Ruled.{Names, earned, paid}
 use Rattle.resolver_parts.proofs.Fails.{over}
-use Rattle.resolver_parts.proofs.Verdicts.{Opened, aborted-goes, accounted, dead-goes, handed, live-goes, live-tied, opened, opened-some}
+use Rattle.resolver_parts.proofs.Verdicts.{Opened, aborted-goes, accounted, dead-goes, handed, live-goes, live-tied, opened, opened-some, paid-closed}
+use Rattle.resolver_parts.proofs.Refusals.{done, refused-with}
 use Rattle.resolver_parts.proofs.parts.Parts.verdict.Goals as goal
 
 pub returns-in_default-clause-goes : goal.returns-in_default-clause-goes
@@ -82,3 +83,16 @@ pub returns-clause-memory : goal.returns-clause-memory
 returns-clause-memory g c = λ wanting m is.
     let a = parties g.K.Ord.cmp g.S.Ord.cmp g.P.Ord.cmp in
     opened-some a g.met.K.Ord.total c.args.self.now m is (over a c.args.self.now m is c.requires.closed) c.args.number c.args.outcome c.in-Ok.completion c.completed.new.self c.in-Ok.ensures
+
+pub returns-in_default-clause-memory : goal.returns-in_default-clause-memory
+returns-in_default-clause-memory g c = λ wanting m is. absurd (done _ _ wanting)
+
+pub returns-then-canceled-clause-memory : goal.returns-then-canceled-clause-memory
+returns-then-canceled-clause-memory g c = λ wanting m is. absurd (done _ _ wanting)
+
+pub returns-in_err-account-clause-goes : goal.returns-in_err-account-clause-goes
+returns-in_err-account-clause-goes g c = λ said m is. rw (refused-with c.from_residual.result _ c.from_residual.ensures.1, c.in_err-account.ensures.only) tt
+
+pub rule-requires-clause-closed : goal.rule-requires-clause-closed
+rule-requires-clause-closed g c =
+    rw c.in_ok-account.ensures.ok (paid-closed (parties g.K.Ord.cmp g.S.Ord.cmp g.P.Ord.cmp) c.in-Ok.completion.context c.in-Ok.completion.previously_accepted c.args.outcome c.args.self.now.fetcher c.requires.closed)
