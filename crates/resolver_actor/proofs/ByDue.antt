@@ -17,8 +17,8 @@ use Rattle.resolver_machine.specs.Lawful.{Each}
 use Rattle.resolver_machine.proofs.Rows.{each_found}
 use Rattle.std.specs.Prelude.{option_and_then, unwrap_or, ◌++◌, IfSome, nat_lt}
 use Rattle.std.proofs.Common.{append_assoc}
-use Rattle.resolver_actor.specs.declared.opaque.actor.Effect.{Effect}
-use Rattle.resolver_actor.specs.declared.opaque.actor.Effect.TheVariants.{Start}
+use Rattle.resolver_stages.specs.declared.effects.Effect.{Effect}
+use Rattle.resolver_stages.specs.declared.effects.Effect.TheVariants.{Start}
 use Rattle.resolver_actor.specs.OpaqueSteps.{onto, Goes}
 use Rattle.std.specs.Prelude.{Err}
 use Rattle.resolver_base.specs.declared.base.fault.Fault.{Fault}

@@ -29,8 +29,8 @@ use Rattle.resolver_demand.specs.declared.delivery.completion.Aborted.{Aborted}
 use Rattle.resolver_machine.specs.declared.ruling.Ruling.TheVariants.{Serve, Retry, Retire}
 use Rattle.resolver_stages.specs.declared.phase.Stage.{Stage}
 use Rattle.resolver_stages.specs.declared.phase.Stage.TheVariants as stages
-use Rattle.resolver_actor.specs.declared.opaque.actor.Effect.{Effect}
-use Rattle.resolver_actor.specs.declared.opaque.actor.Effect.TheVariants.{Deliver}
+use Rattle.resolver_stages.specs.declared.effects.Effect.{Effect}
+use Rattle.resolver_stages.specs.declared.effects.Effect.TheVariants.{Deliver}
 use Rattle.resolver_machine.specs.Account.{Handed}
 use Rattle.resolver_machine.specs.Verdicts.{ruling}
 use Rattle.resolver_actor.specs.Opaque.{Machine, Row, Done, Status, quiet, hand_out, row_of, without_row, served, ruled, verdict, verdict_on, verdict_at, verdict_in}

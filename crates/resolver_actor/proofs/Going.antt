@@ -17,8 +17,8 @@ use Rattle.resolver_demand.specs.Entries.{Numbered, changed, changed_at, with_st
 use Rattle.resolver_demand.specs.declared.delivery.entry.Response.{Response}
 use Rattle.resolver_stages.specs.declared.phase.Stage.{Stage}
 use Rattle.resolver_stages.specs.declared.phase.Stage.TheVariants as stages
-use Rattle.resolver_actor.specs.declared.opaque.actor.Effect.{Effect}
-use Rattle.resolver_actor.specs.declared.opaque.actor.Effect.TheVariants.{Start, Deliver}
+use Rattle.resolver_stages.specs.declared.effects.Effect.{Effect}
+use Rattle.resolver_stages.specs.declared.effects.Effect.TheVariants.{Start, Deliver}
 use Rattle.resolver_actor.specs.Opaque.{Machine, Row, Done, Status, Item, quiet, retry, hand_out, fetch_one, row_of, start_new, start_again, retain, end, Ended, all_called_off, called_off}
 use Rattle.resolver_stages.specs.OpaquePhases.{Phase, Asked, Waiting, Judged, is_asked_by}
 use Rattle.resolver_stages.specs.OpaqueStages.{Kept, IsAsked, Staged, resting}

@@ -5,10 +5,10 @@ use Rattle.resolver_root.specs.Names.{Names, same_key, same_subscriber}
 use Rattle.resolver_root.specs.Demand.{all_pairs_of, IsSameDemand}
 use Rattle.resolver_base.specs.declared.base.fault.Fault.{Fault}
 use Rattle.resolver_ingress.specs.declared.ingress.FetchKey.{FetchKey}
-use Rattle.resolver_actor.specs.declared.opaque.actor.Effect.{Effect}
-use Rattle.resolver_actor.specs.declared.opaque.actor.Event.{Event as CodeEvent}
-use Rattle.resolver_actor.specs.declared.opaque.actor.Event.TheVariants as events
-use Rattle.resolver_actor.specs.declared.opaque.actor.Input.{Input as CodeInput}
+use Rattle.resolver_stages.specs.declared.effects.Effect.{Effect}
+use Rattle.resolver_stages.specs.declared.inputs.Event.{Event as CodeEvent}
+use Rattle.resolver_stages.specs.declared.inputs.Event.TheVariants as events
+use Rattle.resolver_stages.specs.declared.inputs.Input.{Input as CodeInput}
 use Rattle.resolver_actor.specs.OpaqueInputs.{item_of, event_of, input_of}
 use Rattle.resolver_machine.specs.Account.{pairs, nothing_asked, account_of}
 use Rattle.resolver_actor.specs.Opaque.{Machine}

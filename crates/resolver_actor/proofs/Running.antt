@@ -4,7 +4,7 @@ use Rattle.std.specs.declared.vec.Vec.{Vec}
 use Rattle.std.specs.declared.alloc.Global.{Global}
 use Rattle.resolver_base.specs.declared.base.fault.Fault.{Fault}
 use Rattle.resolver_base.specs.declared.base.fault.Fault.TheVariants as faults
-use Rattle.resolver_actor.specs.declared.opaque.actor.Effect.{Effect}
+use Rattle.resolver_stages.specs.declared.effects.Effect.{Effect}
 use Rattle.resolver_actor.specs.OpaqueSteps.{answer_of}
 use Rattle.resolver_machine.specs.Steps.{stops}
 

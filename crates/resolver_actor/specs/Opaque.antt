@@ -10,8 +10,8 @@ use Rattle.resolver_root.specs.declared.root.Outcome.{Outcome}
 use Rattle.resolver_machine.specs.declared.ruling.Ruling.{Ruling}
 use Rattle.resolver_machine.specs.declared.ruling.Ruling.TheVariants.{Serve, Retry, Retire}
 use Rattle.resolver_machine.specs.Verdicts.{ruling}
-use Rattle.resolver_actor.specs.declared.opaque.actor.Effect.{Effect}
-use Rattle.resolver_actor.specs.declared.opaque.actor.Effect.TheVariants.{Start, Abort, Deliver, Cancel}
+use Rattle.resolver_stages.specs.declared.effects.Effect.{Effect}
+use Rattle.resolver_stages.specs.declared.effects.Effect.TheVariants.{Start, Abort, Deliver, Cancel}
 use Rattle.resolver_root.specs.Names.{Names, same_key}
 use Rattle.resolver_root.specs.Subscribers.{attached_all, without}
 use Rattle.resolver_machine.specs.Account.{Handed}

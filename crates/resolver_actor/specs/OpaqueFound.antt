@@ -8,7 +8,7 @@ use Rattle.resolver_base.specs.declared.base.fault.Fault.TheVariants as faults
 use Rattle.resolver_root.specs.declared.root.Delivery.{Delivery}
 use Rattle.resolver_demand.specs.Entries.{Numbered, accepted, redelivered, response_changed}
 use Rattle.resolver_stages.specs.declared.phase.Stage.{Stage}
-use Rattle.resolver_actor.specs.declared.opaque.actor.Effect.{Effect}
+use Rattle.resolver_stages.specs.declared.effects.Effect.{Effect}
 use Rattle.resolver_actor.specs.Opaque.{Row, called_off}
 use Rattle.resolver_stages.specs.OpaquePhases.{Phase, Asked, Judged}
 use Rattle.resolver_stages.specs.OpaqueStages.{Kept}

@@ -1,9 +1,9 @@
 -- What the actor's inputs are to the machine.
 use Rattle.std.specs.Prelude.{Bool, map}
 use Rattle.resolver_ingress.specs.declared.ingress.FetchKey.{FetchKey}
-use Rattle.resolver_actor.specs.declared.opaque.actor.Event.{Event as CodeEvent}
-use Rattle.resolver_actor.specs.declared.opaque.actor.Event.TheVariants as events
-use Rattle.resolver_actor.specs.declared.opaque.actor.Input.{Input as CodeInput}
+use Rattle.resolver_stages.specs.declared.inputs.Event.{Event as CodeEvent}
+use Rattle.resolver_stages.specs.declared.inputs.Event.TheVariants as events
+use Rattle.resolver_stages.specs.declared.inputs.Input.{Input as CodeInput}
 use Rattle.resolver_actor.specs.OpaqueSteps.{Input}
 use Rattle.resolver_actor.specs.Opaque.{Event, Item, Fetch, Retain, Fetched, Verdict, RetriesDue, End}
 

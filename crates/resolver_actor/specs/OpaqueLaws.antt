@@ -7,8 +7,8 @@ use Rattle.resolver_root.specs.declared.root.Outcome.{Outcome}
 use Rattle.resolver_base.specs.declared.base.fault.Fault.{Fault}
 use Rattle.resolver_root.specs.Names.{Names}
 use Rattle.resolver_root.specs.Demand.{all_pairs_of, IsSameDemand}
-use Rattle.resolver_actor.specs.declared.opaque.actor.Effect.{Effect}
-use Rattle.resolver_actor.specs.declared.opaque.actor.Effect.TheVariants.{Deliver}
+use Rattle.resolver_stages.specs.declared.effects.Effect.{Effect}
+use Rattle.resolver_stages.specs.declared.effects.Effect.TheVariants.{Deliver}
 use Rattle.resolver_machine.specs.Account.{Change, Adds, Keeps, Judges, Empties, Leaves, Handed, pairs, nothing_asked, account_of}
 use Rattle.resolver_actor.specs.Opaque.{Machine, Row, Event, Fetch, Retain, Verdict, End, Running, Failed, opening, row_of, closed, step}
 use Rattle.resolver_stages.specs.OpaquePhases.{Phase, Judged}

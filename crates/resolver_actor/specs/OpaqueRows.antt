@@ -8,8 +8,8 @@ use Rattle.resolver_root.specs.declared.root.Outcome.TheVariants.{Invalid, Resol
 use Rattle.resolver_root.specs.declared.root.Resolution.TheVariants.{Complete, Partial}
 use Rattle.resolver_root.specs.Names.{Names, names}
 use Rattle.resolver_root.specs.Demand.{Pair}
-use Rattle.resolver_actor.specs.declared.opaque.actor.Effect.{Effect}
-use Rattle.resolver_actor.specs.declared.opaque.actor.Effect.TheVariants.{Start, Abort, Deliver, Cancel}
+use Rattle.resolver_stages.specs.declared.effects.Effect.{Effect}
+use Rattle.resolver_stages.specs.declared.effects.Effect.TheVariants.{Start, Abort, Deliver, Cancel}
 use Rattle.resolver_machine.specs.Account.{pairs, nothing_asked, account_of}
 use Rattle.resolver_actor.specs.Opaque.{Machine, Row, Event, Fetch, Retain, Fetched, Verdict, RetriesDue, End, opening, step, next_retry}
 use Rattle.resolver_stages.specs.OpaquePhases.{Asked, Waiting}

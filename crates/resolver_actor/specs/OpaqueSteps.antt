@@ -5,7 +5,7 @@ use Rattle.std.specs.declared.alloc.Global.{Global}
 use Rattle.resolver_base.specs.declared.base.fault.Fault.{Fault}
 use Rattle.resolver_base.specs.declared.base.fault.Fault.TheVariants as faults
 use Rattle.resolver_root.specs.Names.{Names}
-use Rattle.resolver_actor.specs.declared.opaque.actor.Effect.{Effect}
+use Rattle.resolver_stages.specs.declared.effects.Effect.{Effect}
 use Rattle.resolver_machine.specs.Steps as steps
 use Rattle.std.specs.Prelude.{Bool, false, is_none, length, ◌==◌}
 use Rattle.std.specs.Map.{lookup}

@@ -5,6 +5,8 @@
 mod actor;
 mod rows;
 
-pub use actor::{Actor, Effect, Event, Input};
+pub use actor::Actor;
 pub use resolver_stages::Phase;
+pub use resolver_stages::effects::Effect;
+pub use resolver_stages::inputs::{Event, Input};
 pub use rows::Row;

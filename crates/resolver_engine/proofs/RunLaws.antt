@@ -22,11 +22,11 @@ use Rattle.resolver_peer.proofs.PaysOnce.{is_paid_once}
 use Rattle.resolver_peer.proofs.PaysSenders.{is_paid_to_senders}
 use Rattle.resolver_peer.proofs.PeerKept.{demand_is_kept}
 use Rattle.resolver_peer.proofs.PeerRunLaws.{asks-new, keeps-awake}
-use Rattle.resolver_parts.specs.declared.effects.Effect.{Effect as Told}
-use Rattle.resolver_parts.specs.declared.inputs.Event.{Event as CodeEvent}
-use Rattle.resolver_parts.specs.declared.inputs.Event.TheVariants as events
-use Rattle.resolver_parts.specs.declared.inputs.Input.{Input as CodeInput}
-use Rattle.resolver_parts.specs.declared.inputs.Input.TheVariants as inputs
+use Rattle.resolver_peer.specs.declared.effects.Effect.{Effect as Told}
+use Rattle.resolver_peer.specs.declared.inputs.Event.{Event as CodeEvent}
+use Rattle.resolver_peer.specs.declared.inputs.Event.TheVariants as events
+use Rattle.resolver_peer.specs.declared.inputs.Input.{Input as CodeInput}
+use Rattle.resolver_peer.specs.declared.inputs.Input.TheVariants as inputs
 use Rattle.resolver_engine.specs.EngineLaws.{RunsWell}
 use Rattle.resolver_parts.specs.EngineSteps.{Runs, Takes, all_fed, later, step_written, written_of}
 use Rattle.resolver_engine.specs.Matching.{Engine, Matches}

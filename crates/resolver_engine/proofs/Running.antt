@@ -9,8 +9,8 @@ use Rattle.resolver_machine.proofs.Runs.{Runs-last, Runs-step}
 use Rattle.resolver_peer.specs.Parties.{Parties}
 use Rattle.resolver_peer.specs.Peer.{Machine, Failed}
 use Rattle.resolver_peer.specs.PeerSteps.{MayWant}
-use Rattle.resolver_parts.specs.declared.effects.Effect.{Effect as Told}
-use Rattle.resolver_parts.specs.declared.inputs.Input.{Input as CodeInput}
+use Rattle.resolver_peer.specs.declared.effects.Effect.{Effect as Told}
+use Rattle.resolver_peer.specs.declared.inputs.Input.{Input as CodeInput}
 use Rattle.resolver_parts.specs.EngineSteps.{Runs, all_fed, later, step_written}
 use Rattle.resolver_engine.specs.Matching.{Engine, Matches}
 use Rattle.resolver_parts.specs.Said.{Codec, answer_of, fed_of}

@@ -7,13 +7,13 @@ use Rattle.resolver_peer.specs.Peer.{Machine, Status, Running, Ended, Failed}
 use Rattle.resolver_peer.specs.Peer as machines
 use Rattle.resolver_peer.specs.PeerRun.{Fed}
 use Rattle.resolver_peer.specs.PeerSteps.{step_on}
-use Rattle.resolver_parts.specs.declared.effects.Effect.{Effect as Told}
+use Rattle.resolver_peer.specs.declared.effects.Effect.{Effect as Told}
 use Rattle.resolver_engine.specs.declared.engine.Status.{Status as CodeStatus}
 use Rattle.resolver_engine.specs.declared.engine.Status.TheVariants as statuses
-use Rattle.resolver_parts.specs.declared.inputs.Event.{Event as CodeEvent}
-use Rattle.resolver_parts.specs.declared.inputs.Event.TheVariants as events
-use Rattle.resolver_parts.specs.declared.inputs.Input.{Input as CodeInput}
-use Rattle.resolver_parts.specs.declared.inputs.Input.TheVariants as inputs
+use Rattle.resolver_peer.specs.declared.inputs.Event.{Event as CodeEvent}
+use Rattle.resolver_peer.specs.declared.inputs.Event.TheVariants as events
+use Rattle.resolver_peer.specs.declared.inputs.Input.{Input as CodeInput}
+use Rattle.resolver_peer.specs.declared.inputs.Input.TheVariants as inputs
 use Rattle.resolver_parts.specs.declared.parts.Parts.{Parts}
 use Rattle.resolver_engine.specs.Ending.{is_end, is_end_event}
 use Rattle.resolver_parts.specs.Going.{IsTied}

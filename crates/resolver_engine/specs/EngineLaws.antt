@@ -8,7 +8,7 @@ use Rattle.resolver_peer.specs.PeerRun.{Fed}
 use Rattle.resolver_peer.specs.PeerSteps as machines
 use Rattle.resolver_peer.specs.PeerLaws.{AskedOnce, AsksWell, KeepsDemand, PaysOnce, PaysRightly}
 use Rattle.resolver_peer.specs.PeerRunLaws.{AsksNew, KeepsAwake}
-use Rattle.resolver_parts.specs.declared.effects.Effect.{Effect as Told}
+use Rattle.resolver_peer.specs.declared.effects.Effect.{Effect as Told}
 use Rattle.resolver_parts.specs.EngineSteps.{written_of}
 use Rattle.resolver_engine.specs.Matching.{Engine, Matches}
 use Rattle.resolver_parts.specs.Said.{Codec}

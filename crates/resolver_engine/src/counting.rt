@@ -16,9 +16,9 @@ use bytes::Bytes;
 use resolver_base::base::{Fault, Span};
 use resolver_fetch::fetcher::Answer;
 use resolver_metrics::metrics::{Metrics, Tally, raise};
-use resolver_parts::effects::Effect;
-use resolver_parts::inputs::{Event, Input};
 use resolver_parts::parts::Parts;
+use resolver_peer::effects::Effect;
+use resolver_peer::inputs::{Event, Input};
 use resolver_root::{Outcome, Predicate, Resolution};
 
 /// A verdict on an open delivery, as it is before the verdict.

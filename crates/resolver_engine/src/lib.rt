@@ -8,4 +8,4 @@ mod counting;
 pub mod engine;
 pub mod rows;
 
-pub use resolver_parts::{effects, inputs};
+pub use resolver_peer::{effects, inputs};

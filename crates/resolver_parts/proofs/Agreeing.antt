@@ -9,7 +9,7 @@ use Rattle.resolver_fetch.specs.Fetcher.{Fetcher}
 use Rattle.resolver_peer.specs.Parties.{Parties}
 use Rattle.resolver_peer.specs.Peer.{Done, Machine, quiet}
 use Rattle.resolver_parts.specs.declared.parts.Parts.{Parts}
-use Rattle.resolver_parts.specs.declared.effects.Effect.{Effect as Told}
+use Rattle.resolver_peer.specs.declared.effects.Effect.{Effect as Told}
 use Rattle.resolver_parts.specs.Going.{Goes, Went}
 use Rattle.resolver_parts.specs.Said.{Codec}
 use Rattle.resolver_parts.specs.Tied.{Agrees, IsSound, demand_of, fetcher_of, held_of, holds_of, open_of}

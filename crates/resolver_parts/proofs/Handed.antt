@@ -28,8 +28,8 @@ use Rattle.resolver_peer.specs.declared.named.Source.{Source}
 use Rattle.resolver_peer.specs.Parties.{Parties, names_of, orders_of}
 use Rattle.resolver_peer.specs.PeerRows.{Row, Asked, Judged, Judging, change_entry, request_in, request_of}
 use Rattle.resolver_peer.specs.Peer.{Deliver, Done, Machine, Open, answered, hand_out, handed_as, is_key, responds, row_of, snapshot}
-use Rattle.resolver_parts.specs.declared.effects.Effect.{Effect as Told}
-use Rattle.resolver_parts.specs.declared.effects.Effect.TheVariants as told
+use Rattle.resolver_peer.specs.declared.effects.Effect.{Effect as Told}
+use Rattle.resolver_peer.specs.declared.effects.Effect.TheVariants as told
 use Rattle.resolver_parts.specs.declared.parts.Parts.{Parts}
 use Rattle.resolver_parts.specs.Going.{Goes, IsRefusal, Went}
 use Rattle.resolver_parts.specs.Said.{Codec}

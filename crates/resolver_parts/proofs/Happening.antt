@@ -17,7 +17,7 @@ use Rattle.resolver_peer.specs.Peer.{Done, Event, Fetch, Retain, PeerSet, Blocke
 use Rattle.resolver_peer.specs.Peer as machines
 use Rattle.resolver_peer.specs.PeerSteps.{is_passed_over, takes_no_memory}
 use Rattle.resolver_peer.proofs.AsksEligible.{IsCalmIfDone, does-calm}
-use Rattle.resolver_parts.specs.declared.effects.Effect.{Effect as Told}
+use Rattle.resolver_peer.specs.declared.effects.Effect.{Effect as Told}
 use Rattle.resolver_parts.specs.declared.parts.Parts.{Parts}
 use Rattle.resolver_parts.specs.Answering.{Answered}
 use Rattle.resolver_parts.specs.EngineSteps.{Taken, running}

@@ -35,7 +35,7 @@ use Rattle.resolver_peer.specs.declared.named.Source.{Source}
 use Rattle.resolver_peer.specs.Parties.{Parties, names_of, orders_of}
 use Rattle.resolver_peer.specs.PeerRows.{Row, Phase, Waits, Asked, Judged, request_in, request_of}
 use Rattle.resolver_peer.specs.Peer.{Machine, Open, cancel_in, cancels, end, has_subscribers, pruned, retain}
-use Rattle.resolver_parts.specs.declared.effects.Effect.TheVariants as told
+use Rattle.resolver_peer.specs.declared.effects.Effect.TheVariants as told
 use Rattle.resolver_parts.specs.declared.parts.Parts.{Parts}
 use Rattle.resolver_parts.specs.Canceled.{all_canceled, canceled, each_canceled}
 use Rattle.resolver_parts.specs.Said.{Codec, written}

@@ -36,8 +36,8 @@ use Rattle.resolver_peer.specs.declared.named.Source.{Source}
 use Rattle.resolver_peer.specs.Parties.{Parties, names_of, orders_of}
 use Rattle.resolver_peer.specs.PeerRows.{Row, Judged, Judging, change_entry, request_of}
 use Rattle.resolver_peer.specs.Peer.{Deliver, Done, Machine, Open, hand_out, handed_as, is_key, quiet, retry, ruled, serves_rest, without_row}
-use Rattle.resolver_parts.specs.declared.effects.Effect.{Effect as Told}
-use Rattle.resolver_parts.specs.declared.effects.Effect.TheVariants as told
+use Rattle.resolver_peer.specs.declared.effects.Effect.{Effect as Told}
+use Rattle.resolver_peer.specs.declared.effects.Effect.TheVariants as told
 use Rattle.resolver_parts.specs.declared.parts.Parts.{Parts}
 use Rattle.resolver_parts.specs.Going.{Goes, IsRefusal, Went}
 use Rattle.resolver_parts.specs.Ruled.{IsClosed, Names, flagged, handed_again}

@@ -19,8 +19,8 @@ use Rattle.resolver_trying.specs.Waiting.{Waiting}
 use Rattle.resolver_peer.specs.Parties.{Parties, orders_of}
 use Rattle.resolver_peer.specs.Peer.{Effect, Machine, asking, is_due, scanned, snapshot, turned, wake_up}
 use Rattle.resolver_peer.specs.Peer as machines
-use Rattle.resolver_parts.specs.declared.effects.Effect.{Effect as Told}
-use Rattle.resolver_parts.specs.declared.effects.Effect.TheVariants as told
+use Rattle.resolver_peer.specs.declared.effects.Effect.{Effect as Told}
+use Rattle.resolver_peer.specs.declared.effects.Effect.TheVariants as told
 use Rattle.resolver_parts.specs.declared.parts.Parts.{Parts}
 use Rattle.resolver_parts.specs.Answering.{Answered, Turned}
 use Rattle.resolver_parts.specs.Going.{Went}

@@ -32,7 +32,7 @@ use Rattle.resolver_peer.specs.Parties.{Parties, orders_of}
 use Rattle.resolver_peer.specs.PeerRows.{Row, Phase, Waits, Asked, Judged, Judging}
 use Rattle.resolver_peer.specs.Peer.{Done, Machine, Open, account_for, and_then, closed, is_key, quiet, row_of, ruled, ruled_at, ruled_in, verdict, verdict_on}
 use Rattle.resolver_peer.proofs.PeerDemand.{same_tests}
-use Rattle.resolver_parts.specs.declared.effects.Effect.{Effect as Told}
+use Rattle.resolver_peer.specs.declared.effects.Effect.{Effect as Told}
 use Rattle.resolver_parts.specs.declared.parts.Parts.{Parts}
 use Rattle.resolver_parts.specs.Going.{Goes, Went}
 use Rattle.resolver_parts.specs.Ruled.{IsClosed, earned, paid}

@@ -5,8 +5,8 @@ use Rattle.std.specs.declared.cmp.Ordering.{Ordering}
 use Rattle.resolver_demand.specs.declared.delivery.entry.Entry.{Entry}
 use Rattle.resolver_demand.specs.Entries.{Numbered, number_of}
 use Rattle.resolver_peer.specs.declared.named.Source.{Source}
-use Rattle.resolver_parts.specs.declared.effects.Effect.{Effect as Told}
-use Rattle.resolver_parts.specs.declared.effects.Effect.TheVariants as told
+use Rattle.resolver_peer.specs.declared.effects.Effect.{Effect as Told}
+use Rattle.resolver_peer.specs.declared.effects.Effect.TheVariants as told
 
 abbrev pub canceled : {K P S : Type 0} → Option ℕ → Option (Told K P S)
 canceled number = option_map told.Cancel number

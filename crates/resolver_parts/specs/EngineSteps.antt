@@ -8,9 +8,9 @@ use Rattle.resolver_peer.specs.Parties.{Parties}
 use Rattle.resolver_peer.specs.Peer.{Machine, Effect, Failed, step_running}
 use Rattle.resolver_peer.specs.PeerRun.{Fed}
 use Rattle.resolver_peer.specs.PeerSteps.{MayWant, is_refused, step_on, takes_no_memory}
-use Rattle.resolver_parts.specs.declared.effects.Effect.{Effect as Told}
-use Rattle.resolver_parts.specs.declared.inputs.Input.{Input as CodeInput}
-use Rattle.resolver_parts.specs.declared.inputs.Input.TheVariants as inputs
+use Rattle.resolver_peer.specs.declared.effects.Effect.{Effect as Told}
+use Rattle.resolver_peer.specs.declared.inputs.Input.{Input as CodeInput}
+use Rattle.resolver_peer.specs.declared.inputs.Input.TheVariants as inputs
 use Rattle.resolver_parts.specs.declared.parts.Parts.{Parts}
 use Rattle.resolver_parts.specs.Said.{Codec, fed_of, written}
 use Rattle.resolver_parts.specs.Tied.{Agrees}

@@ -14,8 +14,8 @@ use Rattle.resolver_peer.specs.declared.named.Source.{Source}
 use Rattle.resolver_peer.specs.Parties.{Parties}
 use Rattle.resolver_peer.specs.PeerRows.{Row, Judged, Judging, request_of}
 use Rattle.resolver_peer.specs.Peer.{Machine, Open}
-use Rattle.resolver_parts.specs.declared.effects.Effect.{Effect as Told}
-use Rattle.resolver_parts.specs.declared.effects.Effect.TheVariants as told
+use Rattle.resolver_peer.specs.declared.effects.Effect.{Effect as Told}
+use Rattle.resolver_peer.specs.declared.effects.Effect.TheVariants as told
 use Rattle.resolver_parts.specs.declared.parts.Parts.{Parts}
 use Rattle.resolver_parts.specs.Tied.{AreOwn, demand_of, fetcher_of, held_of, holds_of, open_of, same_id}
 

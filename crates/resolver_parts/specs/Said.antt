@@ -7,12 +7,12 @@ use Rattle.resolver_ingress.specs.declared.ingress.FetchKey.{FetchKey}
 use Rattle.resolver_request.specs.declared.wire.Message.{Message}
 use Rattle.resolver_request.specs.Reading.{whole_message}
 use Rattle.resolver_request.specs.Spelling.{spelling}
-use Rattle.resolver_parts.specs.declared.effects.Effect.{Effect as Told}
-use Rattle.resolver_parts.specs.declared.effects.Effect.TheVariants as told
-use Rattle.resolver_parts.specs.declared.inputs.Event.{Event as CodeEvent}
-use Rattle.resolver_parts.specs.declared.inputs.Event.TheVariants as events
-use Rattle.resolver_parts.specs.declared.inputs.Input.{Input as CodeInput}
-use Rattle.resolver_parts.specs.declared.inputs.Input.TheVariants as inputs
+use Rattle.resolver_peer.specs.declared.effects.Effect.{Effect as Told}
+use Rattle.resolver_peer.specs.declared.effects.Effect.TheVariants as told
+use Rattle.resolver_peer.specs.declared.inputs.Event.{Event as CodeEvent}
+use Rattle.resolver_peer.specs.declared.inputs.Event.TheVariants as events
+use Rattle.resolver_peer.specs.declared.inputs.Input.{Input as CodeInput}
+use Rattle.resolver_peer.specs.declared.inputs.Input.TheVariants as inputs
 use Rattle.resolver_peer.specs.Peer.{Item, Event, Fetch, Retain, PeerSet, Blocked, ActiveDue, PendingDue, Verdict, Served, Net, End, Input, Happens, Answers, Effect, Ask, Deliver, Cancel, Produce, Reply, Credit, Block}
 use Rattle.resolver_peer.specs.PeerRun.{Fed}
 

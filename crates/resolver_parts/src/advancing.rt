@@ -10,10 +10,10 @@ ghost use Rattle.resolver_parts.specs.Going.{Goes, IsTied};
 ghost use Rattle.resolver_parts.specs.Said.{codec, event_of, fed_of};
 ghost use Rattle.resolver_parts.specs.Tied.{Agrees};
 
-use crate::effects::Effect;
-use crate::inputs::{Event, Input};
 use crate::parts::Parts;
 use resolver_base::base::{Fault, Span};
+use resolver_peer::effects::Effect;
+use resolver_peer::inputs::{Event, Input};
 use resolver_root::Predicate;
 
 impl<K: Span + Drop, P: Ord + Clone + Drop, S: Ord + Clone + Drop> Parts<K, P, S> {

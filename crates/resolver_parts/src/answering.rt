@@ -9,14 +9,14 @@ ghost use Rattle.resolver_peer.specs.Peer.{Machine, answered, responds, row_of};
 ghost use Rattle.resolver_parts.specs.Going.{Goes, IsRefusal, IsTied};
 ghost use Rattle.resolver_parts.specs.Said.{Codec};
 ghost use Rattle.resolver_parts.specs.Tied.{Agrees};
-ghost use Rattle.resolver_parts.specs.declared.effects.Effect.TheVariants.{Deliver};
+ghost use Rattle.resolver_peer.specs.declared.effects.Effect.TheVariants.{Deliver};
 
-use crate::effects::Effect;
 use crate::inflight::Inflight;
 use crate::parts::Parts;
 use bytes::Bytes;
 use resolver_base::base::Fault;
 use resolver_fetch::fetcher::{Request, elapsed_since};
+use resolver_peer::effects::Effect;
 use resolver_peer::named::Source;
 use resolver_root::Delivery;
 

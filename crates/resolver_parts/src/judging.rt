@@ -16,16 +16,16 @@ ghost use Rattle.resolver_parts.specs.Going.{Goes, IsRefusal, IsTied};
 ghost use Rattle.resolver_parts.specs.Ruled.{IsClosed, Names, earned, flagged, handed_again, paid};
 ghost use Rattle.resolver_parts.specs.Said.{Codec};
 ghost use Rattle.resolver_parts.specs.Tied.{Agrees};
-ghost use Rattle.resolver_parts.specs.declared.effects.Effect.TheVariants.{Deliver};
+ghost use Rattle.resolver_peer.specs.declared.effects.Effect.TheVariants.{Deliver};
 
 use crate::answering::copies;
-use crate::effects::Effect;
 use crate::inflight::Inflight;
 use crate::parts::Parts;
 use resolver_base::base::Fault;
 use resolver_demand::delivery::Completion;
 use resolver_fetch::fetcher::Fetcher;
 use resolver_machine::ruling::{Ruling, rule_on};
+use resolver_peer::effects::Effect;
 use resolver_peer::named::Source;
 use resolver_root::{Delivery, Outcome};
 

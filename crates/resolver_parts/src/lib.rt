@@ -7,11 +7,9 @@
 
 mod advancing;
 mod answering;
-pub mod effects;
 mod failing;
 mod fetching;
 pub mod inflight;
-pub mod inputs;
 mod judging;
 pub mod parts;
 mod receiving;

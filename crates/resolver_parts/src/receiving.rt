@@ -7,10 +7,10 @@ ghost use Rattle.resolver_parts.specs.Going.{Goes, IsTied};
 ghost use Rattle.resolver_parts.specs.Said.{codec, message_of};
 ghost use Rattle.resolver_parts.specs.Tied.{Agrees};
 
-use crate::effects::Effect;
 use crate::parts::Parts;
 use bytes::Bytes;
 use resolver_base::base::{Fault, Span};
+use resolver_peer::effects::Effect;
 use resolver_request::wire::{Message, Payload};
 
 impl<K: Span + Drop, P: Ord + Clone + Drop, S: Ord + Clone + Drop> Parts<K, P, S> {

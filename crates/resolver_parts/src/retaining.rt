@@ -14,12 +14,12 @@ ghost use Rattle.resolver_parts.specs.Going.{Goes};
 ghost use Rattle.resolver_parts.specs.Said.{codec};
 ghost use Rattle.resolver_parts.specs.Tied.{Agrees};
 
-use crate::effects::Effect;
 use crate::inflight::Inflight;
 use crate::parts::Parts;
 use resolver_base::base::{Fault, Span};
 use resolver_demand::subscribers::Tracker;
 use resolver_fetch::fetcher::Fetcher;
+use resolver_peer::effects::Effect;
 use resolver_root::Predicate;
 
 impl<K: Span + Drop, P: Ord + Drop, S: Ord + Drop> Parts<K, P, S> {

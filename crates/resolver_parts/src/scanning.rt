@@ -6,16 +6,16 @@ ghost use Rattle.resolver_base.specs.declared.base.fault.Fault.TheVariants.{OutO
 ghost use Rattle.resolver_trying.specs.Scan.{is_over};
 ghost use Rattle.resolver_peer.specs.Parties.{parties};
 ghost use Rattle.resolver_peer.specs.Peer.{Machine, active_deadline, is_due, scanned, wake_up};
-ghost use Rattle.resolver_parts.specs.declared.effects.Effect.TheVariants as told;
+ghost use Rattle.resolver_peer.specs.declared.effects.Effect.TheVariants as told;
 ghost use Rattle.resolver_parts.specs.Answering.{Answered};
 ghost use Rattle.resolver_parts.specs.Going.{Goes};
 ghost use Rattle.resolver_parts.specs.Said.{codec};
 ghost use Rattle.resolver_parts.specs.Tied.{Agrees};
 
-use crate::effects::Effect;
 use crate::parts::Parts;
 use resolver_base::base::{Fault, Span};
 use resolver_fetch::fetcher::{Answer, Ask};
+use resolver_peer::effects::Effect;
 
 impl<K: Ord + Drop, P: Ord + Drop, S: Ord + Drop> Parts<K, P, S> {
     /// Whether a scan is open: it expects an answer.

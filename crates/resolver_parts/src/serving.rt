@@ -10,11 +10,11 @@ ghost use Rattle.resolver_parts.specs.Going.{Goes};
 ghost use Rattle.resolver_parts.specs.Said.{codec};
 ghost use Rattle.resolver_parts.specs.Tied.{Agrees};
 
-use crate::effects::Effect;
 use crate::parts::Parts;
 use bytes::{Bytes, BytesMut};
 use resolver_base::base::{Fault, Span};
 use resolver_fetch::fetcher::elapsed_since;
+use resolver_peer::effects::Effect;
 use resolver_peer::named::Serve;
 use resolver_request::wire::{Message, Payload};
 use std::alloc::Global;

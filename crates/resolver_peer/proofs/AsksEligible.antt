@@ -30,7 +30,7 @@ use Rattle.resolver_peer.specs.Peer.{Machine, Open, Done, Effect, Ask, Deliver, 
 use Rattle.std.specs.List.{cons_option}
 use Rattle.resolver_peer.specs.PeerRun.{Fed, effects_of, after}
 use Rattle.resolver_peer.specs.PeerLaws.{IsWellAsked, AsksEligible}
-use Rattle.resolver_peer.proofs.Effects.{all-append, over-none}
+use Rattle.resolver_peer.proofs.Told.{all-append, over-none}
 
 module _ {K S P : Type 0} (a : Parties K S P) where
   -- no pair was tried twice

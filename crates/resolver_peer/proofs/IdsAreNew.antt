@@ -28,7 +28,7 @@ use Rattle.resolver_peer.specs.PeerLaws.{HasNewId, IdsAreNew}
 use Rattle.resolver_peer.proofs.AsksEligible.{IsNoQuestion, IsCalmIfDone, does-calm}
 use Rattle.resolver_asked.proofs.NewIds.{next-new}
 use Rattle.resolver_peer.proofs.PeerPhases.{RowsAre, IsKeptIfDone, does-kept}
-use Rattle.resolver_peer.proofs.Effects.{all-append, over-none}
+use Rattle.resolver_peer.proofs.Told.{all-append, over-none}
 
 abbrev pub IsUnasked : {K P : Type 0} → Phase K P → Type 0
 IsUnasked phase = request_in phase ≡ None

@@ -1,4 +1,4 @@
-pub mod Effects
+pub mod Told
 pub mod EarnsOnce
 pub mod AsksEligible
 pub mod TriesOnce

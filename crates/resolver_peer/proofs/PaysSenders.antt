@@ -34,7 +34,7 @@ use Rattle.resolver_peer.specs.PeerLaws.{brought, senders_in, IsFrom, PaysSender
 use Rattle.resolver_machine.specs.Lawful.{Each}
 use Rattle.resolver_machine.proofs.Deliveries.{Each-imply, Each-push, Each-found, Each-remove_entry}
 use Rattle.resolver_peer.proofs.Changed.{Each-inserted}
-use Rattle.resolver_peer.proofs.Effects.{all-append}
+use Rattle.resolver_peer.proofs.Told.{all-append}
 
 lookup-front : {K X : Type 0} (test : K → Bool) (es fs : List (K × X)) (x : X) → lookup test es ≡ Some x → lookup test (es ++ fs) ≡ Some x
 lookup-front test [] fs x found = cc

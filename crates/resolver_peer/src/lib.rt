@@ -3,5 +3,7 @@
 //! and the types that the engine's code shares with it.
 #![tactic(auto)]
 
+pub mod effects;
+pub mod inputs;
 pub mod laws;
 pub mod named;

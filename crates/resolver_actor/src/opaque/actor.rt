@@ -3,10 +3,10 @@
 ghost use Rattle.std.specs.Prelude.{◌≡◌, ◌<◌, ◌^◌, ◌++◌, ◌∷◌, [], None, IfErr, IfOk, IfSome, IsSome, OnOk, map};
 ghost use Rattle.std.specs.Map.{keys_of};
 ghost use Rattle.resolver_demand.specs.Entries.{is_accepted, number_of, response_of, state_of};
-ghost use Rattle.resolver_actor.specs.declared.opaque.actor.Effect.TheVariants.{Deliver};
 ghost use Rattle.resolver_actor.specs.OpaqueActor.{AreCached};
 ghost use Rattle.resolver_actor.specs.OpaqueFound.{IsRefusal, flagged, handed_again};
 ghost use Rattle.resolver_stages.specs.OpaqueStages.{IsAsked};
+ghost use Rattle.resolver_stages.specs.declared.effects.Effect.TheVariants.{Deliver};
 ghost use Rattle.resolver_machine.specs.Steps.{stops};
 ghost use Rattle.resolver_machine.specs.Verdicts.{ruling};
 
@@ -17,67 +17,10 @@ use resolver_ingress::ingress::FetchKey;
 use resolver_machine::ruling::{Ruling, rule_on};
 use resolver_root::{Delivery, NonEmptyVec, Outcome, Predicate};
 use resolver_stages::Stages;
+use resolver_stages::effects::Effect;
+use resolver_stages::inputs::{Event, Input};
 use std::alloc::{AllocError, Global};
 use std::marker::{Model, PhantomData};
-
-/// What the actor takes.
-#[derive(Debug, Drop)]
-pub enum Event<K, V, S, Q> {
-    /// Subscribers want keys. A new key is asked for, and a demanded one takes the subscribers.
-    Fetch(Vec<FetchKey<K, S, ()>>),
-    /// Subscribers that the predicate doesn't keep want their keys no more. A key without a
-    /// subscriber is called off.
-    Retain(Q),
-    /// The source's answer to an attempt: a value, or none. An old attempt's is passed over.
-    Fetched {
-        attempt: u64,
-        value: Option<V>,
-    },
-    /// The consumer's outcome for a delivery, or none where it dropped the delivery. A number
-    /// that is not open is passed over.
-    Verdict {
-        number: u64,
-        outcome: Option<Outcome>,
-    },
-    /// The waiting keys that are due are asked for again, from the earliest due on.
-    RetriesDue,
-    /// No key is wanted any more, and none will be: every later input is refused.
-    End,
-}
-
-/// An event, and when it came, in nanoseconds: below 2^94.
-#[derive(Debug, Drop)]
-pub struct Input<K, V, S, Q> {
-    pub now: u128,
-    pub event: Event<K, V, S, Q>,
-    ghost in_range: { now < 2 ^ 94 },
-}
-
-/// What the actor wants done.
-#[derive(Debug, Drop)]
-pub enum Effect<K, V, S> {
-    /// The source is to be asked for the key, under this attempt.
-    Start {
-        attempt: u64,
-        key: K,
-    },
-    /// The answer to this attempt is no longer wanted.
-    Abort {
-        attempt: u64,
-    },
-    /// The value is to be handed to the consumer, which judges it under this number. A response
-    /// goes by the number of the first delivery that carried it.
-    Deliver {
-        number: u64,
-        response: u64,
-        delivery: Delivery<K, S>,
-        value: V,
-    },
-    /// The judgement under this number is no longer wanted.
-    Cancel {
-        number: u64,
-    },
-}
 
 #[derive(Clone, Copy)]
 enum Status {

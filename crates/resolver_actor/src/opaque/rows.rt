@@ -10,11 +10,11 @@ ghost use Rattle.resolver_actor.specs.OpaqueFound.{all_kept_called_off, each_cal
 ghost use Rattle.resolver_actor.specs.OpaqueListed.{listed};
 ghost use Rattle.resolver_stages.specs.OpaquePhased.{phase_of};
 
-use super::actor::Effect;
 use resolver_base::base::Fault;
 use resolver_demand::delivery::Entry;
 use resolver_demand::subscribers::{Subscribers, Tracker};
 use resolver_root::NonEmptyVec;
+use resolver_stages::effects::Effect;
 use resolver_stages::{Keys, Phase, Stage, Stages, listed_phase};
 use std::alloc::{AllocError, Global};
 

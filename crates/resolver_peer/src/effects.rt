@@ -1,8 +1,8 @@
 //! What the engine wants done.
 
+use crate::named::Source;
 use bytes::Bytes;
 use resolver_fetch::fetcher::Ask;
-use resolver_peer::named::Source;
 use resolver_root::Delivery;
 
 /// What the engine wants done. A response goes by the number of the first delivery that carried it.
