@@ -7,7 +7,6 @@ use Rattle.resolver_base.specs.declared.base.fault.Fault.{Fault}
 use Rattle.resolver_base.specs.declared.base.fault.Fault.TheVariants as faults
 use Rattle.resolver_ingress.specs.declared.ingress.FetchKey.{FetchKey}
 use Rattle.resolver_machine.specs.Lawful.{AnswersAlike, Each, IsLawful}
-use Rattle.resolver_machine.specs.Steps as steps
 use Rattle.resolver_machine.specs.Steps.{stops}
 use Rattle.resolver_peer.specs.Parties.{Parties, names_of}
 use Rattle.resolver_peer.specs.Peer.{Machine, Effect, Failed, Happens, opening}
@@ -28,9 +27,9 @@ use Rattle.resolver_peer.specs.declared.inputs.Event.TheVariants as events
 use Rattle.resolver_peer.specs.declared.inputs.Input.{Input as CodeInput}
 use Rattle.resolver_peer.specs.declared.inputs.Input.TheVariants as inputs
 use Rattle.resolver_engine.specs.EngineLaws.{RunsWell}
-use Rattle.resolver_parts.specs.EngineSteps.{Runs, Takes, all_fed, later, step_written, written_of}
+use Rattle.resolver_parts.specs.EngineSteps.{Runs, Takes, all_fed, step_written, written_of}
 use Rattle.resolver_engine.specs.Matching.{Engine, Matches}
-use Rattle.resolver_parts.specs.Said.{Codec, event_of, fed_of, item_of}
+use Rattle.resolver_parts.specs.Said.{Codec, event_of, item_of}
 
 abbrev Answer : Type 0 → Type 0
 Answer E = Result (List E) Fault
