@@ -22,6 +22,6 @@ pub returns-in_ok-clone-in-Sending-2-clause-ok : goal.returns-in_ok-clone-in-Sen
 returns-in_ok-clone-in-Sending-2-clause-ok g c =
     let peer = c.requires.peers_clone c.in-Sending.peer c.in_ok-clone-in-Sending.field-0 c.in_ok-clone-in-Sending.ensures.cases in
     let key =
-        c.requires.keys_clone c.trying.inside.pair.1 c.in_ok-clone-in-Sending-2.field-0 c.in_ok-clone-in-Sending-2.ensures.cases
-        ∙ ap (λ (t : Trying g.row.K.Denot g.row.P.Denot). t.key) c.trying.view_is in
+    c.requires.keys_clone c.trying.inside.pair.1 c.in_ok-clone-in-Sending-2.field-0 c.in_ok-clone-in-Sending-2.ensures.cases
+    ∙ ap (λ (t : Trying g.row.K.Denot g.row.P.Denot). t.key) c.trying.view_is in
     rw (c.in-Sending.is, peer, key) refl
