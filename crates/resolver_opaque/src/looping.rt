@@ -21,7 +21,6 @@ use std::sync::Wait;
 /// In each turn it looks for one input, in this order: the end, where memory was wanting outside the
 /// actor; a value that was fetched; a verdict; a key that waits no longer; a message of the mailbox.
 /// A closed mailbox is the end.
-#[derive(Drop)]
 pub struct Loop<K, V, S, Q, R, W, F, C>
 where
     K: Ord + Hash,
@@ -29,6 +28,7 @@ where
     Q: Predicate<K, S>,
     F: Fetcher,
     C: Consumer,
+    C::Outcome: Drop,
 {
     pub(crate) actor: Actor<K, V, S, Q>,
     pub(crate) mail: Receiver<K, S, (), Q, Unrecorded, R>,
@@ -38,6 +38,28 @@ where
     pub(crate) judging: Judging<C>,
     /// Whether memory was wanting outside the actor.
     pub(crate) is_starved: bool,
+}
+
+impl<K, V: Drop, S, Q, R: Drop, W: Drop, F, C> Drop for Loop<K, V, S, Q, R, W, F, C>
+where
+    K: Ord + Hash + Drop,
+    S: Ord + Drop,
+    Q: Predicate<K, S> + Drop,
+    F: Fetcher + Drop,
+    C: Consumer + Drop,
+    C::Outcome: Drop,
+{
+    fn drop(self) {
+        let Self {
+            actor: _,
+            mail: _,
+            clock: _,
+            fetcher: _,
+            attempts: _,
+            judging: _,
+            is_starved: _,
+        } = self;
+    }
 }
 
 impl<K, V, S, Q, R, W, F, C> Loop<K, V, S, Q, R, W, F, C>

@@ -36,13 +36,13 @@ fn is_due(clock: &impl Clock, deadline: Option<u128>) -> bool {
 /// where memory was wanting outside the core; a set of peers; a blocked set; a request whose time is
 /// over; a verdict; a message of the mailbox; a key whose time has come; bytes of the producer;
 /// a message of a peer. A closed source of sets, mailbox or network is the end.
-#[derive(Drop)]
 pub struct Loop<P, D, B, K, S, C, O, Q, R, X, Y, W, G>
 where
     P: Ord + Faithful + Drop,
     K: Ord + Hash,
     S: Ord,
     C: Consumer,
+    C::Outcome: Drop,
     Q: Predicate<K, S>,
 {
     pub(crate) alloc: Global,
@@ -58,6 +58,33 @@ where
     pub(crate) answer: Option<Answer>,
     /// Whether memory was wanting outside the core.
     pub(crate) is_starved: bool,
+}
+
+impl<P, D: Drop, B: Drop, K, S, C, O: Drop, Q, R: Drop, X: Drop, Y: Drop, W: Drop, G: Drop> Drop
+    for Loop<P, D, B, K, S, C, O, Q, R, X, Y, W, G>
+where
+    P: Ord + Faithful + Drop,
+    K: Ord + Hash + Drop,
+    S: Ord + Drop,
+    C: Consumer + Drop,
+    C::Outcome: Drop,
+    Q: Predicate<K, S> + Drop,
+{
+    fn drop(self) {
+        let Self {
+            alloc: _,
+            core: _,
+            mail: _,
+            peers: _,
+            judging: _,
+            serving: _,
+            asking: _,
+            receiver: _,
+            clock: _,
+            answer: _,
+            is_starved: _,
+        } = self;
+    }
 }
 
 impl<P, D, B, K, S, C, O, Q, R, X, Y, W, G> Loop<P, D, B, K, S, C, O, Q, R, X, Y, W, G>
