@@ -62,13 +62,31 @@ impl<K: Ord + Clone + Drop, P: Ord + Clone + Drop, S: Ord + Clone + Drop> Parts<
             metadata,
             ..
         } = item;
-        let wanted = key.clone()?;
-        if !self.demand.insert(wanted, subscribers)? {
+        let Ok(wanted) = key.clone() else {
+            drop((key, subscribers, metadata));
+            return Err(Fault::OutOfMemory);
+        };
+        let is_new = match self.demand.insert(wanted, subscribers) {
+            Ok(is_new) => is_new,
+            Err(fault) => {
+                drop((key, metadata));
+                return Err(fault);
+            }
+        };
+        if !is_new {
             return aim(&mut self.fetcher, key, metadata);
         }
-        let tracked = key.clone()?;
-        self.entries.insert_state(tracked, Start::at(now))?;
-        ready(&mut self.fetcher, now, key, metadata)
+        let Ok(tracked) = key.clone() else {
+            drop((key, metadata));
+            return Err(Fault::OutOfMemory);
+        };
+        match self.entries.insert_state(tracked, Start::at(now)) {
+            Ok(_) => ready(&mut self.fetcher, now, key, metadata),
+            Err(fault) => {
+                drop((key, metadata));
+                Err(fault)
+            }
+        }
     }
 }
 

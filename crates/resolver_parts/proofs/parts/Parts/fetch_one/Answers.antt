@@ -2,16 +2,15 @@ use Rattle.std.proofs.Common.{refl, ap, sym, ◌∙◌}
 use Rattle.std.proofs.lemmas.Result.{on_ok_weaker}
 use Rattle.resolver_peer.specs.Parties.{parties}
 use Rattle.resolver_parts.proofs.Fails.{over}
-use Rattle.resolver_parts.proofs.Refusals.{refused, refused-as}
 use Rattle.resolver_parts.proofs.Wanted.{new-agrees, new-not_asked, new-not_waiting, present-agrees}
 use Rattle.resolver_parts.proofs.parts.Parts.fetch_one.Goals as goal
 
-pub returns-then-not-branch-clause-ok : goal.returns-then-not-branch-clause-ok
-returns-then-not-branch-clause-ok g c = λ m is.
+pub returns-then-not-is_new-clause-ok : goal.returns-then-not-is_new-clause-ok
+returns-then-not-is_new-clause-ok g c = λ m is.
     let a = parties g.K.Ord.cmp g.S.Ord.cmp g.P.Ord.cmp in
-    let is_new = sym c.if-not-branch.true ∙ c.in_ok-insert.ensures.is_new in
-    let old = rw (c.requires.keys_clone _ _ c.in_ok-wanted.ensures.cases) at is_new in
-    let wanted = rw (c.requires.keys_clone _ _ c.in_ok-wanted.ensures.cases) at c.in_ok-insert.ensures.ok in
+    let is_new = sym c.if-not-is_new.true ∙ c.in-Ok-insert.ensures.is_new in
+    let old = rw (c.requires.keys_clone _ _ c.in-Ok.ensures.cases) at is_new in
+    let wanted = rw (c.requires.keys_clone _ _ c.in-Ok.ensures.cases) at c.in-Ok-insert.ensures.ok in
     on_ok_weaker c.aim.result
     (λ aims. present-agrees a g.met.K.Ord.total m is.sound c.args.item.key c.args.self.now _ is (over a c.args.self.now m is c.requires.closed) c.args.now c.args.item.subscribers c.args.item.metadata
     (sym old) wanted aims refl)
@@ -20,54 +19,30 @@ returns-then-not-branch-clause-ok g c = λ m is.
 pub ready-requires-clause-not_waiting : goal.ready-requires-clause-not_waiting
 ready-requires-clause-not_waiting g c =
     let a = parties g.K.Ord.cmp g.S.Ord.cmp g.P.Ord.cmp in
-    let is_new = sym c.if-not-branch.false ∙ c.in_ok-insert.ensures.is_new in
-    let new = rw (c.requires.keys_clone _ _ c.in_ok-wanted.ensures.cases) at is_new in
+    let is_new = sym c.if-not-is_new.false ∙ c.in-Ok-insert.ensures.is_new in
+    let new = rw (c.requires.keys_clone _ _ c.in-Ok.ensures.cases) at is_new in
     let is = c.requires.tied.1 in
     new-not_waiting a g.met.K.Ord.total c.requires.tied.0 is.sound c.args.item.key c.args.self.now c.args.self.now is (over a c.args.self.now c.requires.tied.0 is c.requires.closed) c.args.now c.args.item.subscribers c.args.item.metadata (sym new)
 
 pub ready-requires-clause-not_asked : goal.ready-requires-clause-not_asked
 ready-requires-clause-not_asked g c =
     let a = parties g.K.Ord.cmp g.S.Ord.cmp g.P.Ord.cmp in
-    let is_new = sym c.if-not-branch.false ∙ c.in_ok-insert.ensures.is_new in
-    let new = rw (c.requires.keys_clone _ _ c.in_ok-wanted.ensures.cases) at is_new in
+    let is_new = sym c.if-not-is_new.false ∙ c.in-Ok-insert.ensures.is_new in
+    let new = rw (c.requires.keys_clone _ _ c.in-Ok.ensures.cases) at is_new in
     let is = c.requires.tied.1 in
     new-not_asked a g.met.K.Ord.total c.requires.tied.0 is.sound c.args.item.key c.args.self.now c.args.self.now is (over a c.args.self.now c.requires.tied.0 is c.requires.closed) c.args.now c.args.item.subscribers c.args.item.metadata (sym new)
 
-pub returns-clause-ok : goal.returns-clause-ok
-returns-clause-ok g c = λ m is.
+pub returns-in-Ok-insert_state-clause-ok : goal.returns-in-Ok-insert_state-clause-ok
+returns-in-Ok-insert_state-clause-ok g c = λ m is.
     let a = parties g.K.Ord.cmp g.S.Ord.cmp g.P.Ord.cmp in
-    let is_new = sym c.if-not-branch.false ∙ c.in_ok-insert.ensures.is_new in
-    let new = rw (c.requires.keys_clone _ _ c.in_ok-wanted.ensures.cases) at is_new in
-    let wanted = rw (c.requires.keys_clone _ _ c.in_ok-wanted.ensures.cases) at c.in_ok-insert.ensures.ok in
-    let tracked = rw (c.requires.keys_clone _ _ c.in_ok-tracked.ensures.cases, c.at.ensures) at c.in_ok-insert_state.ensures.ok in
+    let is_new = sym c.if-not-is_new.false ∙ c.in-Ok-insert.ensures.is_new in
+    let new = rw (c.requires.keys_clone _ _ c.in-Ok.ensures.cases) at is_new in
+    let wanted = rw (c.requires.keys_clone _ _ c.in-Ok.ensures.cases) at c.in-Ok-insert.ensures.ok in
+    let tracked = rw (c.requires.keys_clone _ _ c.in-Ok-clone.ensures.cases, c.at.ensures) at c.in-Ok-insert_state.ensures.ok in
     on_ok_weaker c.ready.result
     (λ readies. new-agrees a g.met.K.Ord.total m is.sound c.args.item.key c.args.self.now _ is (over a c.args.self.now m is c.requires.closed) c.args.now c.args.item.subscribers c.args.item.metadata
     (sym new) wanted tracked readies refl)
     c.ready.ensures.ok
-
-pub returns-in_err-wanted-clause-ok : goal.returns-in_err-wanted-clause-ok
-returns-in_err-wanted-clause-ok g c = λ m is. refused c.from_residual.result _ _ c.from_residual.ensures.1
-
-pub returns-in_err-wanted-clause-only : goal.returns-in_err-wanted-clause-only
-returns-in_err-wanted-clause-only g c = refused-as c.from_residual.result _ _ c.from_residual.ensures.1 (λ fault same. same)
-
-pub returns-in_err-insert-clause-ok : goal.returns-in_err-insert-clause-ok
-returns-in_err-insert-clause-ok g c = λ m is. refused c.from_residual-in_err-insert.result _ _ c.from_residual-in_err-insert.ensures.1
-
-pub returns-in_err-insert-clause-only : goal.returns-in_err-insert-clause-only
-returns-in_err-insert-clause-only g c = refused-as c.from_residual-in_err-insert.result _ _ c.from_residual-in_err-insert.ensures.1 (λ fault same. same ∙ c.in_err-insert.ensures.only)
-
-pub returns-in_err-tracked-clause-ok : goal.returns-in_err-tracked-clause-ok
-returns-in_err-tracked-clause-ok g c = λ m is. refused c.from_residual-in_err-tracked.result _ _ c.from_residual-in_err-tracked.ensures.1
-
-pub returns-in_err-tracked-clause-only : goal.returns-in_err-tracked-clause-only
-returns-in_err-tracked-clause-only g c = refused-as c.from_residual-in_err-tracked.result _ _ c.from_residual-in_err-tracked.ensures.1 (λ fault same. same)
-
-pub returns-in_err-insert_state-clause-ok : goal.returns-in_err-insert_state-clause-ok
-returns-in_err-insert_state-clause-ok g c = λ m is. refused c.from_residual-in_err-insert_state.result _ _ c.from_residual-in_err-insert_state.ensures.1
-
-pub returns-in_err-insert_state-clause-only : goal.returns-in_err-insert_state-clause-only
-returns-in_err-insert_state-clause-only g c = refused-as c.from_residual-in_err-insert_state.result _ _ c.from_residual-in_err-insert_state.ensures.1 (λ fault same. same ∙ c.in_err-insert_state.ensures.only)
 
 pub aim-requires-clause-peers_clone : goal.aim-requires-clause-peers_clone
 aim-requires-clause-peers_clone g c = c.requires.peers_clone
