@@ -7,6 +7,7 @@
 
 mod attempts;
 mod fetcher;
+mod hands;
 mod looping;
 mod opening;
 

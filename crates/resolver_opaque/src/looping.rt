@@ -3,18 +3,39 @@
 ghost use Rattle.futures.specs.Poll.{OnPending};
 ghost use Rattle.futures.specs.Task.{IsArmed, Keeps};
 
-use crate::attempts::Attempts;
 use crate::fetcher::Fetcher;
+use crate::hands::Hands;
 use futures::task::{Context, Poll};
 use futures::{Future, Stream};
-use resolver_actor::opaque::{Actor, Effect, Event, Input};
+use resolver_actor::opaque::{Actor, Event, Input};
 use resolver_base::base::{Faithful, Span};
 use resolver_ingress::ingress::Message;
-use resolver_loop::{Clock, Consumer, Ending, Judging, TURNS, Turn, poll_moment};
+use resolver_loop::{Clock, Consumer, Ending, TURNS, Turn, poll_moment};
 use resolver_mailbox::mailbox::{Receiver, Unrecorded};
-use resolver_root::{Delivery, Predicate};
+use resolver_root::Predicate;
 use std::hash::Hash;
 use std::sync::Wait;
+
+/// The next message as an event: the end, once the mailbox is closed and nothing waits.
+fn poll_mail<
+    K: Ord + Hash + Faithful + Drop,
+    V: Drop,
+    S: Ord + Faithful + Drop,
+    Q: Predicate<K, S> + Faithful + Drop,
+    R: Wait + Drop,
+>(mail: &mut Receiver<K, S, (), Q, Unrecorded, R>, cx: &mut Context<'_>) -> Poll<Event<K, V, S, Q>>
+    ensures armed { OnPending result (IsArmed cx.new) }
+    ensures kept { Keeps cx.old cx.new }
+{
+    match mail.poll_next(cx) {
+        Poll::Ready(Some(Ok(Message::Fetch(items)))) => Poll::Ready(Event::Fetch(items)),
+        Poll::Ready(Some(Ok(Message::Retain(keep)))) => Poll::Ready(Event::Retain(keep)),
+        // A mailbox that isn't recorded takes no memory for a take.
+        Poll::Ready(Some(Err(_))) => Poll::Ready(Event::RetriesDue),
+        Poll::Ready(None) => Poll::Ready(Event::End),
+        Poll::Pending => Poll::Pending,
+    }
+}
 
 /// An actor with all that it is fed from and that its effects go to.
 ///
@@ -33,11 +54,7 @@ where
     pub(crate) actor: Actor<K, V, S, Q>,
     pub(crate) mail: Receiver<K, S, (), Q, Unrecorded, R>,
     pub(crate) clock: W,
-    pub(crate) fetcher: F,
-    pub(crate) attempts: Attempts<F::Future>,
-    pub(crate) judging: Judging<C>,
-    /// Whether memory was wanting outside the actor.
-    pub(crate) is_starved: bool,
+    pub(crate) hands: Hands<F, C>,
 }
 
 impl<K, V: Drop, S, Q, R: Drop, W: Drop, F, C> Drop for Loop<K, V, S, Q, R, W, F, C>
@@ -54,10 +71,7 @@ where
             actor: _,
             mail: _,
             clock: _,
-            fetcher: _,
-            attempts: _,
-            judging: _,
-            is_starved: _,
+            hands: _,
         } = self;
     }
 }
@@ -74,77 +88,25 @@ where
     C: Consumer<Key = K, Value = V, Subscriber = S> + Drop,
     C::Outcome: Drop,
 {
-    /// Whether a key waits no longer.
-    fn is_due(&self) -> bool {
-        match self.actor.next_retry() {
-            Some(at) => at <= self.clock.now(),
-            None => false,
-        }
-    }
-
-    /// The next message as an event.
-    fn poll_mail(&mut self, cx: &mut Context<'_>) -> Poll<Event<K, V, S, Q>>
-        ensures armed { OnPending result (IsArmed cx.new) }
-        ensures kept { Keeps cx.old cx.new }
-    {
-        match self.mail.poll_next(cx) {
-            Poll::Ready(Some(Ok(Message::Fetch(items)))) => Poll::Ready(Event::Fetch(items)),
-            Poll::Ready(Some(Ok(Message::Retain(keep)))) => Poll::Ready(Event::Retain(keep)),
-            // A mailbox that isn't recorded takes no memory for a take.
-            Poll::Ready(Some(Err(_))) => Poll::Ready(Event::RetriesDue),
-            Poll::Ready(None) => Poll::Ready(Event::End),
-            Poll::Pending => Poll::Pending,
-        }
-    }
-
     /// The first event that has come.
     fn poll_event(&mut self, cx: &mut Context<'_>) -> Poll<Event<K, V, S, Q>>
         ensures armed { OnPending result (IsArmed cx.new) }
         ensures kept { Keeps cx.old cx.new }
     {
-        if self.is_starved {
+        if self.hands.is_starved {
             return Poll::Ready(Event::End);
         }
-        if let Poll::Ready((attempt, value)) = self.attempts.poll_any(cx) {
+        if let Poll::Ready((attempt, value)) = self.hands.attempts.poll_any(cx) {
             return Poll::Ready(Event::Fetched { attempt, value });
         }
-        if let Poll::Ready((number, outcome)) = self.judging.poll_verdict(cx) {
+        if let Poll::Ready((number, outcome)) = self.hands.judging.poll_verdict(cx) {
             return Poll::Ready(Event::Verdict { number, outcome });
         }
-        if self.is_due() {
-            return Poll::Ready(Event::RetriesDue);
+        match self.actor.next_retry() {
+            Some(at) if at <= self.clock.now() => return Poll::Ready(Event::RetriesDue),
+            _ => {}
         }
-        self.poll_mail(cx)
-    }
-
-    /// Looks for a value.
-    fn start(&mut self, attempt: u64, key: K) {
-        let look = self.fetcher.fetch(key);
-        if self.attempts.add(attempt, look).is_err() {
-            self.is_starved = true;
-        }
-    }
-
-    /// Asks the consumer to judge a value.
-    fn deliver(&mut self, number: u64, delivery: Delivery<K, S>, value: V) {
-        if self.judging.deliver(number, delivery, value).is_err() {
-            self.is_starved = true;
-        }
-    }
-
-    /// Carries an effect out.
-    fn carry_out(&mut self, effect: Effect<K, V, S>) {
-        match effect {
-            Effect::Start { attempt, key } => self.start(attempt, key),
-            Effect::Abort { attempt } => self.attempts.abort(attempt),
-            Effect::Deliver {
-                number,
-                response: _,
-                delivery,
-                value,
-            } => self.deliver(number, delivery, value),
-            Effect::Cancel { number } => self.judging.cancel(number),
-        }
+        poll_mail(&mut self.mail, cx)
     }
 
     /// Feeds an input to the actor, and carries out what it answers.
@@ -152,7 +114,7 @@ where
         match self.actor.step(input) {
             Ok(effects) => {
                 for effect in effects {
-                    self.carry_out(effect);
+                    self.hands.carry_out(effect);
                 }
                 None
             }
@@ -167,7 +129,7 @@ where
         match self.feed(Input { now, event }) {
             Some(ending) => Turn::Over(ending),
             None if !ends => Turn::Again,
-            None if self.is_starved => Turn::Over(Ending::OutOfMemory),
+            None if self.hands.is_starved => Turn::Over(Ending::OutOfMemory),
             None => Turn::Over(Ending::Complete),
         }
     }

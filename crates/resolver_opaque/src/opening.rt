@@ -3,14 +3,13 @@
 ghost use Rattle.std.specs.Prelude.{◌≡◌, ◌<◌, ◌^◌, IfErr};
 ghost use Rattle.resolver_base.specs.declared.base.fault.Fault.TheVariants.{OutOfMemory};
 
-use crate::attempts::Attempts;
 use crate::fetcher::Fetcher;
+use crate::hands::Hands;
 use crate::looping::Loop;
-use futures::Future;
 use resolver_actor::opaque::Actor;
 use resolver_asking::resolver::Resolver;
 use resolver_base::base::{Faithful, Fault, Span};
-use resolver_loop::{Clock, Consumer, Handle, Judging, start};
+use resolver_loop::{Clock, Consumer, Handle, start};
 use resolver_mailbox::mailbox;
 use resolver_mailbox::mailbox::Unrecorded;
 use resolver_root::Predicate;
@@ -51,10 +50,10 @@ where
     requires { fetch_retry_delay < 2 ^ 94 }
     ensures only { IfErr result (λ fault. fault ≡ OutOfMemory) }
 {
-    let (attempts, judging) = match attempts_and_judging(alloc, consumer) {
-        Ok(made) => made,
+    let hands = match Hands::new(alloc, fetcher, consumer) {
+        Ok(hands) => hands,
         Err(fault) => {
-            drop((clock, fetcher));
+            drop(clock);
             return Err(fault);
         }
     };
@@ -64,39 +63,12 @@ where
                 actor: Actor::new(alloc, fetch_retry_delay),
                 mail,
                 clock,
-                fetcher,
-                attempts,
-                judging,
-                is_starved: false,
+                hands,
             };
             Ok((Resolver::over(alloc, sender), looped))
         }
         Err(fault) => {
-            drop((clock, fetcher, attempts, judging));
-            Err(fault)
-        }
-    }
-}
-
-/// With no look under way, and nothing judged.
-fn attempts_and_judging<V, A: Future<Output = Option<V>> + Drop, C: Consumer + Drop>(
-    alloc: Global,
-    consumer: C,
-) -> Result<(Attempts<A>, Judging<C>), Fault>
-where
-    C::Outcome: Drop,
-    ensures only { IfErr result (λ fault. fault ≡ OutOfMemory) }
-{
-    match Attempts::new(alloc) {
-        Ok(attempts) => match Judging::new(alloc, consumer) {
-            Ok(judging) => Ok((attempts, judging)),
-            Err(fault) => {
-                drop(attempts);
-                Err(fault)
-            }
-        },
-        Err(fault) => {
-            drop(consumer);
+            drop((clock, hands));
             Err(fault)
         }
     }

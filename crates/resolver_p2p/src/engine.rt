@@ -19,6 +19,7 @@ ghost use Rattle.resolver_p2p.specs.Configured.{fetching};
 
 use crate::asking::Asking;
 use crate::config::Config;
+use crate::hands::Hands;
 use crate::looping::Loop;
 use crate::mail::Mail;
 use bytes::Bytes;
@@ -29,9 +30,7 @@ use resolver_engine::engine::Core;
 use resolver_engine::inputs::Input;
 use resolver_engine::rows::Row;
 use resolver_fetch::fetcher;
-use resolver_loop::{
-    Blocker, Clock, Consumer, Judging, Peers, Producer, Provider, Receiver, Serving,
-};
+use resolver_loop::{Blocker, Clock, Consumer, Peers, Producer, Provider, Receiver};
 use resolver_mailbox::mailbox;
 use resolver_mailbox::mailbox::Unrecorded;
 use resolver_metrics::metrics::Metrics;
@@ -173,49 +172,18 @@ impl<
         let (sender, receiver) = network;
         let peers = Peers::new(peer_provider, blocker);
         let asking = Asking { sender, draws };
-        match judging_and_serving(alloc, consumer, producer) {
-            Ok((judging, serving)) => Ok(Loop {
-                alloc,
+        match Hands::new(alloc, peers, consumer, producer, asking) {
+            Ok(hands) => Ok(Loop {
                 core,
                 mail,
-                peers,
-                judging,
-                serving,
-                asking,
+                hands,
                 receiver,
                 clock,
-                answer: None,
-                is_starved: false,
             }),
             Err(fault) => {
-                drop((core, mail, peers, asking, receiver, clock));
+                drop((core, mail, receiver, clock));
                 Err(fault)
             }
-        }
-    }
-}
-
-/// With nothing judged and nothing looked for.
-fn judging_and_serving<C: Consumer + Drop, O: Producer + Drop>(
-    alloc: Global,
-    consumer: C,
-    producer: O,
-) -> Result<(Judging<C>, Serving<O>), Fault>
-where
-    C::Outcome: Drop,
-    ensures only { IfErr result (λ fault. fault ≡ OutOfMemory) }
-{
-    match Serving::new(alloc, producer) {
-        Ok(serving) => match Judging::new(alloc, consumer) {
-            Ok(judging) => Ok((judging, serving)),
-            Err(fault) => {
-                drop(serving);
-                Err(fault)
-            }
-        },
-        Err(fault) => {
-            drop(consumer);
-            Err(fault)
         }
     }
 }

@@ -8,6 +8,7 @@
 mod asking;
 mod config;
 mod engine;
+mod hands;
 mod looping;
 mod mail;
 pub mod mocks;

@@ -3,22 +3,19 @@
 ghost use Rattle.futures.specs.Poll.{OnPending};
 ghost use Rattle.futures.specs.Task.{IsArmed, Keeps};
 
-use crate::asking::Asking;
+use crate::hands::Hands;
 use crate::mail::{Mail, poll_mail};
 use bytes::Bytes;
 use futures::Future;
 use futures::task::{Context, Poll};
 use resolver_base::base::{Draws, Faithful, PublicKey, Sender, Span};
-use resolver_engine::effects::Effect;
 use resolver_engine::engine::Core;
 use resolver_engine::inputs::{Event, Happening, Input};
-use resolver_fetch::fetcher::{Answer, Ask};
 use resolver_loop::{
-    Blocker, Clock, Consumer, Ending, Judging, Peers, Producer, Provider, Receiver, Serving, TURNS,
-    Turn, earlier, poll_moment,
+    Blocker, Clock, Consumer, Ending, Producer, Provider, Receiver, TURNS, Turn, earlier,
+    poll_moment,
 };
-use resolver_root::{Delivery, Predicate};
-use std::alloc::Global;
+use resolver_root::Predicate;
 use std::hash::Hash;
 use std::sync::Wait;
 
@@ -45,19 +42,11 @@ where
     C::Outcome: Drop,
     Q: Predicate<K, S>,
 {
-    pub(crate) alloc: Global,
     pub(crate) core: Core<K, P, S, Q>,
     pub(crate) mail: Mail<K, P, S, Q, R>,
-    pub(crate) peers: Peers<D, B>,
-    pub(crate) judging: Judging<C>,
-    pub(crate) serving: Serving<O>,
-    pub(crate) asking: Asking<X, G>,
+    pub(crate) hands: Hands<D, B, C, O, X, G>,
     pub(crate) receiver: Y,
     pub(crate) clock: W,
-    /// What the open scan is to be told.
-    pub(crate) answer: Option<Answer>,
-    /// Whether memory was wanting outside the core.
-    pub(crate) is_starved: bool,
 }
 
 impl<P, D: Drop, B: Drop, K, S, C, O: Drop, Q, R: Drop, X: Drop, Y: Drop, W: Drop, G: Drop> Drop
@@ -72,17 +61,11 @@ where
 {
     fn drop(self) {
         let Self {
-            alloc: _,
             core: _,
             mail: _,
-            peers: _,
-            judging: _,
-            serving: _,
-            asking: _,
+            hands: _,
             receiver: _,
             clock: _,
-            answer: _,
-            is_starved: _,
         } = self;
     }
 }
@@ -104,44 +87,27 @@ where
     W: Clock + Drop,
     G: Draws + Drop,
 {
-    /// What comes before the mailbox.
-    fn poll_first(&mut self, cx: &mut Context<'_>) -> Poll<Event<K, P, S, Q>>
+    /// The first event that has come.
+    fn poll_event(&mut self, cx: &mut Context<'_>) -> Poll<Event<K, P, S, Q>>
+        ensures armed { OnPending result (IsArmed cx.new) }
         ensures kept { Keeps cx.old cx.new }
     {
-        if self.is_starved {
-            return Poll::Ready(Event::End);
-        }
-        match self.peers.poll_set(cx) {
-            Poll::Ready(Some((index, peers))) => {
-                return Poll::Ready(Event::PeerSet { index, peers });
-            }
-            Poll::Ready(None) => return Poll::Ready(Event::End),
-            Poll::Pending => {}
-        }
-        if let Poll::Ready(peers) = self.peers.poll_blocked(cx) {
-            return Poll::Ready(Event::Blocked(peers));
+        if let Poll::Ready(event) = self.hands.poll_peers(cx) {
+            return Poll::Ready(event);
         }
         if is_due(&self.clock, self.core.get_active_deadline()) {
             return Poll::Ready(Event::ActiveDue);
         }
-        match self.judging.poll_verdict(cx) {
-            Poll::Ready((number, outcome)) => Poll::Ready(Event::Verdict { number, outcome }),
-            Poll::Pending => Poll::Pending,
+        if let Poll::Ready((number, outcome)) = self.hands.judging.poll_verdict(cx) {
+            return Poll::Ready(Event::Verdict { number, outcome });
         }
-    }
-
-    /// What comes from the mailbox on.
-    fn poll_last(&mut self, cx: &mut Context<'_>) -> Poll<Event<K, P, S, Q>>
-        ensures armed { OnPending result (IsArmed cx.new) }
-        ensures kept { Keeps cx.old cx.new }
-    {
         if let Poll::Ready(event) = poll_mail(&mut self.mail, cx) {
             return Poll::Ready(event);
         }
         if is_due(&self.clock, self.core.get_pending_deadline()) {
             return Poll::Ready(Event::PendingDue);
         }
-        if let Poll::Ready((serve, value)) = self.serving.poll_served(cx) {
+        if let Poll::Ready((serve, value)) = self.hands.serving.poll_served(cx) {
             return Poll::Ready(Event::Served { serve, value });
         }
         match self.receiver.poll_recv(cx) {
@@ -149,17 +115,6 @@ where
             Poll::Ready(None) => Poll::Ready(Event::End),
             Poll::Pending => Poll::Pending,
         }
-    }
-
-    /// The first event that has come.
-    fn poll_event(&mut self, cx: &mut Context<'_>) -> Poll<Event<K, P, S, Q>>
-        ensures armed { OnPending result (IsArmed cx.new) }
-        ensures kept { Keeps cx.old cx.new }
-    {
-        if let Poll::Ready(event) = self.poll_first(cx) {
-            return Poll::Ready(event);
-        }
-        self.poll_last(cx)
     }
 
     /// Ready once the earlier of the two deadlines has come.
@@ -171,45 +126,12 @@ where
         poll_moment(&mut self.clock, cx, earlier(active, pending))
     }
 
-    /// Carries an effect out. A request that there is no memory for is refused.
-    fn carry_out(&mut self, effect: Effect<K, P, S>) {
-        match effect {
-            Effect::Ask(ask) => {
-                let answer = self.asking.answer(self.alloc, ask);
-                self.is_starved |= answer.is_err();
-                self.answer = Some(answer.unwrap_or(Answer::Sent(false)));
-            }
-            Effect::Deliver {
-                number,
-                response: _,
-                delivery,
-                value,
-            } => self.is_starved |= self.judging.deliver(number, delivery, value).is_err(),
-            Effect::Cancel { number } => self.judging.cancel(number),
-            Effect::Produce { serve, key } => {
-                self.is_starved |= self.serving.produce(serve, key).is_err();
-            }
-            Effect::Reply {
-                peer,
-                bytes,
-                priority,
-            } => {
-                self.asking.send(&peer, bytes, priority);
-            }
-            Effect::Credit {
-                response: _,
-                source: _,
-            } => {}
-            Effect::Block { response: _, peer } => self.peers.block(&peer),
-        }
-    }
-
     /// Feeds an input to the core, and carries out what it answers.
     fn feed(&mut self, input: Input<K, P, S, Q>) -> Option<Ending> {
         match self.core.step(input) {
             Ok(effects) => {
                 for effect in effects {
-                    self.carry_out(effect);
+                    self.hands.carry_out(effect);
                 }
                 None
             }
@@ -225,7 +147,7 @@ where
         match ending {
             Some(ending) => Turn::Over(ending),
             None if !ends => Turn::Again,
-            None if self.is_starved => Turn::Over(Ending::OutOfMemory),
+            None if self.hands.is_starved => Turn::Over(Ending::OutOfMemory),
             None => Turn::Over(Ending::Complete),
         }
     }
@@ -235,7 +157,7 @@ where
         ensures armed { OnPending result (IsArmed cx.new) }
         ensures kept { Keeps cx.old cx.new }
     {
-        if let Some(answer) = self.answer.take() {
+        if let Some(answer) = self.hands.answer.take() {
             return Poll::Ready(match self.feed(Input::Answers(answer)) {
                 Some(ending) => Turn::Over(ending),
                 None => Turn::Again,
