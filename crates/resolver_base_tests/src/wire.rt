@@ -3,7 +3,7 @@
 ghost use Rattle.std.specs.Prelude.{◌<◌, ◌^◌, length};
 ghost use Rattle.resolver_request.specs.Spelling.{IsShort};
 
-use crate::asserts::{equal, equal_at, equal_lists, holds};
+use crate::asserts::{equal, equal_at, equal_lists};
 use crate::keys::{Key, Zeros};
 use bytes::{Bytes, BytesMut};
 use resolver_base::base::Fault;
@@ -13,28 +13,28 @@ use std::fmt::Debug;
 use std::panic::Expect;
 use std::process::Abort;
 
-const REQUEST_BYTES: [u8; 10] = [0, 0, 0, 0, 0, 0, 0x04, 0xd2, 0, 0x7b];
+const REQUEST_BYTES: &[u8] = &[0, 0, 0, 0, 0, 0, 0x04, 0xd2, 0, 0x7b];
 
-const ERROR_BYTES: [u8; 9] = [0, 0, 0, 0, 0, 0, 0, 0xff, 2];
+const ERROR_BYTES: &[u8] = &[0, 0, 0, 0, 0, 0, 0, 0xff, 2];
 
-const RESPONSE_BYTES: [u8; 23] = *b"\0\0\0\0\0\0\x10\xe1\x01\x0dHello, world!";
+const RESPONSE_BYTES: &[u8] = b"\0\0\0\0\0\0\x10\xe1\x01\x0dHello, world!";
 
 #[test]
 fn wire_vectors(rt: HostRuntime) {
     let alloc = rt.alloc();
     let payload = Payload::Request(Key { value: 123 });
-    spelled(&rt, alloc, &Message { id: 1234, payload }, &REQUEST_BYTES);
+    spelled(&rt, alloc, Message { id: 1234, payload }, REQUEST_BYTES);
     let payload = Payload::Error;
-    spelled(&rt, alloc, &Message { id: 255, payload }, &ERROR_BYTES);
+    spelled(&rt, alloc, Message { id: 255, payload }, ERROR_BYTES);
     let payload = Payload::Response(Bytes::from_static(b"Hello, world!"));
-    spelled(&rt, alloc, &Message { id: 4321, payload }, &RESPONSE_BYTES);
+    spelled(&rt, alloc, Message { id: 4321, payload }, RESPONSE_BYTES);
 }
 
 #[test]
 fn greatest_sizes(rt: HostRuntime) {
-    equal(&rt, &max_message_size::<Key>(0), &14);
-    equal(&rt, &max_message_size::<Key>(100), &114);
-    equal(&rt, &max_message_size::<Zeros>(0), &73);
+    let of_keys = (max_message_size::<Key>(0), max_message_size::<Key>(100));
+    let of_zeros = max_message_size::<Zeros>(0);
+    equal(&rt, &(of_keys, of_zeros), &((14, 114), 73));
 }
 
 #[test]
@@ -66,19 +66,26 @@ fn bytes_refused(rt: HostRuntime) {
 }
 
 /// The message is written as these bytes and read from them, alone and with a byte behind them.
-fn spelled(rt: &impl Abort, alloc: Global, message: &Message<Key>, bytes: &[u8])
-    requires { IsShort message.now.payload }
+fn spelled(rt: &impl Abort, alloc: Global, message: Message<Key>, bytes: &[u8])
+    requires { IsShort message.payload }
 {
     equal(rt, &message.encode_size(), &bytes.len());
-    let mut out = BytesMut::new(alloc);
-    message.write(&mut out).expect(rt, "memory");
-    equal_lists(rt, out.as_slice(), bytes);
-    out.extend_from_slice(&[7]).expect(rt, "memory");
-    let mut buffer = out.freeze().expect(rt, "memory");
-    gives(rt, Message::read(&mut buffer), message);
+    is_spelled(rt, alloc, &message, bytes);
+    let mut buffer = followed(rt, alloc, bytes, 7);
+    gives(rt, Message::read(&mut buffer), &message);
     equal_lists(rt, buffer.as_slice(), &[7]);
+    drop(buffer);
     let alone = Bytes::copy_from_slice(alloc, bytes).expect(rt, "memory");
-    gives(rt, Message::decode(alone), message);
+    gives(rt, Message::decode(alone), &message);
+    drop(message);
+}
+
+/// These bytes, and one behind them.
+fn followed(rt: &impl Abort, alloc: Global, bytes: &[u8], last: u8) -> Bytes {
+    let mut out = BytesMut::new(alloc);
+    out.extend_from_slice(bytes).expect(rt, "memory");
+    out.extend_from_slice(&[last]).expect(rt, "memory");
+    out.freeze().expect(rt, "memory")
 }
 
 /// What was read is this.
@@ -105,13 +112,32 @@ fn decodes(rt: &impl Abort, alloc: Global, bytes: &[u8], fault: Option<Fault>) {
 fn is_spelled(rt: &impl Abort, alloc: Global, message: &Message<Key>, bytes: &[u8])
     requires { IsShort message.now.payload }
 {
+    let written = written(rt, alloc, message);
+    equal_lists(rt, written.as_slice(), bytes);
+    drop(written);
+}
+
+/// What the message is written as.
+fn written(rt: &impl Abort, alloc: Global, message: &Message<Key>) -> Bytes
+    requires { IsShort message.now.payload }
+{
     let mut out = BytesMut::new(alloc);
     message.write(&mut out).expect(rt, "memory");
-    equal_lists(rt, out.as_slice(), bytes);
+    out.freeze().expect(rt, "memory")
 }
 
 /// At this place, a byte from the first to the last of these is refused so.
 type Change = (usize, u8, u8, Fault);
+
+/// How the first of these that names a byte at a place says that it is refused.
+fn refusal(changes: &[Change], place: usize, byte: u8) -> Option<Fault> {
+    for (at, first, last, fault) in changes {
+        if *at == place && *first <= byte && byte <= *last {
+            return Some(*fault);
+        }
+    }
+    None
+}
 
 /// Each beginning has too few bytes. Each change of one byte is refused as the first of these that
 /// names it says, or is read, where none does.
@@ -121,10 +147,8 @@ fn altered(rt: &impl Abort, alloc: Global, bytes: &[u8], changes: &[Change]) {
         for value in 0..=u8::MAX {
             let mut changed = Vec::from_slice(alloc, bytes).expect(rt, "memory");
             changed[place] = value;
-            let change = changes.iter().find(|change| change.0 == place
-                && change.1 <= value
-                && value <= change.2);
-            decodes(rt, alloc, &changed, change.map(|change| change.3));
+            decodes(rt, alloc, &changed, refusal(changes, place, value));
+            drop(changed);
         }
     }
 }
@@ -132,26 +156,26 @@ fn altered(rt: &impl Abort, alloc: Global, bytes: &[u8], changes: &[Change]) {
 #[test]
 fn messages_cut_short_or_changed(rt: HostRuntime) {
     // A byte of a key is read as the length of a value that isn't there.
-    let request = [
+    const REQUEST: &[Change] = &[
         (8, 1, 1, Fault::EndOfBuffer),
         (8, 2, 2, Fault::ExtraData),
         (8, 3, 255, Fault::InvalidTag),
     ];
-    let error = [
+    const ERROR: &[Change] = &[
         (8, 0, 1, Fault::EndOfBuffer),
         (8, 3, 255, Fault::InvalidTag),
     ];
     // From 128 on the length goes on with an H, and is far more than there is.
-    let response = [
+    const RESPONSE: &[Change] = &[
         (8, 0, 0, Fault::ExtraData),
         (8, 2, 2, Fault::ExtraData),
         (8, 3, 255, Fault::InvalidTag),
         (9, 0, 12, Fault::ExtraData),
         (9, 14, 255, Fault::EndOfBuffer),
     ];
-    altered(&rt, rt.alloc(), &REQUEST_BYTES, &request);
-    altered(&rt, rt.alloc(), &ERROR_BYTES, &error);
-    altered(&rt, rt.alloc(), &RESPONSE_BYTES, &response);
+    altered(&rt, rt.alloc(), REQUEST_BYTES, REQUEST);
+    altered(&rt, rt.alloc(), ERROR_BYTES, ERROR);
+    altered(&rt, rt.alloc(), RESPONSE_BYTES, RESPONSE);
 }
 
 /// So many bytes that are 0.
@@ -164,64 +188,65 @@ fn zeros(rt: &impl Abort, alloc: Global, count: u16) -> Bytes
 
 #[test]
 fn responses_of_zeros(rt: HostRuntime) {
-    const CASES: &[(u16, usize, usize, usize, &[u8])] = &[
-        (0, 10, 10, 1, b"\0"),
-        (127, 137, 10, 2, b"\x7f"),
-        (128, 139, 11, 2, b"\x80\x01"),
-        (16383, 16394, 11, 2, b"\xff\x7f"),
-        (16384, 16396, 12, 2, b"\x80\x80\x01"),
+    const CASES: &[(u16, (usize, usize, usize), &[u8])] = &[
+        (0, (10, 10, 1), b"\0\0\0\0\0\0\0\0\x01\0"),
+        (127, (137, 10, 2), b"\0\0\0\0\0\0\0\0\x01\x7f"),
+        (128, (139, 11, 2), b"\0\0\0\0\0\0\0\0\x01\x80\x01"),
+        (16383, (16394, 11, 2), b"\0\0\0\0\0\0\0\0\x01\xff\x7f"),
+        (16384, (16396, 12, 2), b"\0\0\0\0\0\0\0\0\x01\x80\x80\x01"),
     ];
-    for (len, size, inline_size, count, length) in CASES {
+    for (len, wanted, head) in CASES {
         let value = zeros(&rt, rt.alloc(), *len);
-        let payload = Payload::<Key>::Response(value);
+        let payload = Payload::Response(value);
         let message = Message { id: 0, payload };
-        equal(&rt, &message.encode_size(), size);
-        equal(&rt, &message.encode_inline_size(), inline_size);
-        is_written(&rt, rt.alloc(), &message, *count, length);
+        equal(&rt, &sizes(&rt, rt.alloc(), &message), wanted);
+        begins_with(&rt, rt.alloc(), &message, head);
         drop(message);
     }
 }
 
-/// The message is a response under the id 0. It is written in so many pieces, and its value's length in these
-/// bytes; and it is read again.
-fn is_written(rt: &impl Abort, alloc: Global, message: &Message<Key>, count: usize, length: &[u8])
+/// How many bytes the message is written as, how many of them aren't its value's, and in how many pieces.
+fn sizes(rt: &impl Abort, alloc: Global, message: &Message<Key>) -> (usize, usize, usize)
     requires { IsShort message.now.payload }
 {
     let pieces = message.write_bufs(alloc).expect(rt, "memory");
-    equal(rt, &pieces.len(), &count);
+    let count = pieces.len();
     drop(pieces);
+    (message.encode_size(), message.encode_inline_size(), count)
+}
 
-    let mut out = BytesMut::new(alloc);
-    message.write(&mut out).expect(rt, "memory");
-    equal(rt, &out.len(), &message.encode_size());
-    holds(rt, out.as_slice().starts_with(b"\0\0\0\0\0\0\0\0\x01"));
-    holds(
-        rt,
-        out.as_slice().get(9..message.encode_inline_size()) == Some(length),
-    );
-    let written = out.freeze().expect(rt, "memory");
+/// The message is written as so many bytes as it says, and as these before its value. It is read again.
+fn begins_with(rt: &impl Abort, alloc: Global, message: &Message<Key>, head: &[u8])
+    requires { IsShort message.now.payload }
+{
+    let written = written(rt, alloc, message);
+    let found = written.as_slice().get(..message.encode_inline_size());
+    let wanted = (message.encode_size(), Some(head));
+    equal(rt, &(written.len(), found), &wanted);
     gives(rt, Message::decode(written), message);
 }
 
 #[test]
 fn keys_refused(rt: HostRuntime) {
-    let request = Message {
-        id: 0,
-        payload: Payload::Request(Zeros),
-    };
-    gives(&rt, Message::decode(zeros(&rt, rt.alloc(), 73)), &request);
+    let rt = &rt;
+    let payload = Payload::Request(Zeros);
+    let request = Message { id: 0, payload };
+    gives(rt, Message::decode(zeros(rt, rt.alloc(), 73)), &request);
     drop(request);
-    let short = Message::<Zeros>::decode(zeros(&rt, rt.alloc(), 72)).err();
-    equal(&rt, &short, &Some(Fault::EndOfBuffer));
-    other_key(&rt, rt.alloc());
+    let short = Message::decode(zeros(rt, rt.alloc(), 72));
+    is_refused(rt, short, Fault::EndOfBuffer);
+    other_key(rt, rt.alloc());
+}
+
+/// What was read is refused so.
+fn is_refused(rt: &impl Abort, found: Result<Message<Zeros>, Fault>, fault: Fault) {
+    equal(rt, &found.err(), &Some(fault));
 }
 
 /// A key whose last byte isn't 0 is refused, and its message stays whole.
 fn other_key(rt: &impl Abort, alloc: Global) {
-    let mut bytes = BytesMut::zeroed(alloc, 72).expect(rt, "memory");
-    bytes.extend_from_slice(&[1]).expect(rt, "memory");
-    let mut bytes = bytes.freeze().expect(rt, "memory");
-    let refused = Message::<Zeros>::read(&mut bytes).err();
-    equal(rt, &refused, &Some(Fault::Key));
+    let mut bytes = followed(rt, alloc, &[0; 72], 1);
+    is_refused(rt, Message::read(&mut bytes), Fault::Key);
     equal(rt, &bytes.len(), &73);
+    drop(bytes);
 }
