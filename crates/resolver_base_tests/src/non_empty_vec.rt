@@ -9,46 +9,52 @@ use std::process::Abort;
 
 #[test]
 fn grows_in_order(rt: HostRuntime) {
-    let mut list = NonEmptyVec::new(rt.alloc(), 5u8).expect(&rt, "memory");
-    equal(&rt, list.first(), &5);
-    list.push(7).expect(&rt, "memory");
-    list.insert(1, 6).expect(&rt, "memory");
-    equal(&rt, &list.len(), &3);
-    equal_lists(&rt, list.as_slice(), &[5, 6, 7]);
-    holds(&rt, list.contains(&6));
-    holds(&rt, !list.contains(&8));
+    let rt = &rt;
+    let mut list = NonEmptyVec::new(rt.alloc(), 5u8).expect(rt, "memory");
+    holds(rt, *list.first() == 5);
+    list.push(7).expect(rt, "memory");
+    list.insert(1, 6).expect(rt, "memory");
+    holds(rt, list.len() == 3);
+    equal_lists(rt, list.as_slice(), &[5, 6, 7]);
+    holds(rt, list.contains(&6));
+    holds(rt, !list.contains(&8));
+    drop(list);
 }
 
 #[test]
 fn takes_a_list_that_has_items(rt: HostRuntime) {
-    let items = [5u8, 6].to_vec(rt.alloc()).expect(&rt, "memory");
-    let list = NonEmptyVec::try_from(items).ok().expect(&rt, "two items");
-    equal_lists(&rt, list.into_vec().as_slice(), &[5, 6]);
-    let back = NonEmptyVec::<u8>::try_from(Vec::new(rt.alloc()))
-        .err()
-        .expect(&rt, "the empty list");
+    let items = list_of(&rt, rt.alloc(), &[5u8, 6]).into_vec();
+    equal_lists(&rt, items.as_slice(), &[5, 6]);
+    drop(items);
+    let back = NonEmptyVec::<u8>::try_from(Vec::new(rt.alloc()));
+    let back = back.err().expect(&rt, "the empty list");
     holds(&rt, back.is_empty());
+    drop(back);
 }
 
 #[test]
 fn gives_its_items(rt: HostRuntime) {
     let list = list_of(&rt, rt.alloc(), &[5u8, 6]);
-    let mut given = Vec::new(rt.alloc());
-    for item in list.iter() {
-        given.push(*item).expect(&rt, "memory");
-    }
-    equal_lists(&rt, given.as_slice(), &[5, 6]);
+    let mut items = list.iter();
+    let given = [items.next(), items.next(), items.next()];
+    equal(&rt, &given, &[Some(&5), Some(&6), None]);
+    drop(list);
+}
+
+fn half(item: u8) -> u16 {
+    u16::from(item) / 2
 }
 
 #[test]
 fn is_cloned_and_mapped(rt: HostRuntime) {
-    let list = list_of(&rt, rt.alloc(), &[5u8, 6]);
-    let same = list.clone().expect(&rt, "memory");
-    let halves = list
-        .map_into(rt.alloc(), |item| u16::from(item) / 2)
-        .expect(&rt, "memory");
-    equal_lists(&rt, halves.as_slice(), &[2, 3]);
-    equal_lists(&rt, same.as_slice(), &[5, 6]);
+    let rt = &rt;
+    let list = list_of(rt, rt.alloc(), &[5u8, 6]);
+    let same = list.clone().expect(rt, "memory");
+    let halves = list.map_into(rt.alloc(), half).expect(rt, "memory");
+    equal_lists(rt, halves.as_slice(), &[2, 3]);
+    drop(halves);
+    equal_lists(rt, same.as_slice(), &[5, 6]);
+    drop(same);
 }
 
 /// Keeps the subscribers up to a bound.
@@ -64,16 +70,20 @@ impl Predicate<u8, u16> for UpTo {
     ghost alike = { λ q k l s t same_key same_subscriber. Prim.search rules };
 }
 
+/// Whether any subscriber is kept, whether those that are kept were left alone, and how many are left.
+fn kept(list: &mut NonEmptyVec<(u16, u64)>, keep: &UpTo) -> (bool, bool, usize) {
+    let keeps_any = list.keeps_any(&1, keep);
+    let is_kept = list.retain_kept(&1, keep);
+    (keeps_any, is_kept, list.len())
+}
+
 #[test]
 fn keeps_subscribers_or_all(rt: HostRuntime) {
-    let mut list = NonEmptyVec::new(rt.alloc(), (10u16, 7)).expect(&rt, "memory");
-    list.push((11, 8)).expect(&rt, "memory");
-    holds(&rt, !list.keeps_any(&1, &UpTo(9)));
-    holds(&rt, !list.retain_kept(&1, &UpTo(9)));
-    equal(&rt, &list.len(), &2);
-    holds(&rt, list.keeps_any(&1, &UpTo(10)));
-    holds(&rt, list.retain_kept(&1, &UpTo(10)));
+    let mut list = list_of(&rt, rt.alloc(), &[(10, 7), (11, 8)]);
+    equal(&rt, &kept(&mut list, &UpTo(9)), &(false, false, 2));
+    equal(&rt, &kept(&mut list, &UpTo(10)), &(true, true, 1));
     equal_lists(&rt, list.as_slice(), &[(10, 7)]);
+    drop(list);
 }
 
 /// A list of these items, of which there is one at least.
@@ -88,6 +98,7 @@ fn joins(rt: &impl Abort, alloc: Global, more: &[u8], all: &[u8]) {
     let more = list_of(rt, alloc, more);
     peers.join(alloc, more).expect(rt, "memory");
     equal_lists(rt, peers.as_slice(), all);
+    drop(peers);
 }
 
 #[test]
@@ -105,6 +116,7 @@ fn joins_subscribers(rt: &impl Abort, alloc: Global, more: &[(u8, u64)], all: &[
         .join_subscribers(alloc, more)
         .expect(rt, "memory");
     equal_lists(rt, subscribers.as_slice(), all);
+    drop(subscribers);
 }
 
 #[test]
