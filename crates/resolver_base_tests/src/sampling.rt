@@ -65,46 +65,57 @@ fn index_choices(rt: HostRuntime) {
 
 #[test]
 fn takes_one_place(rt: HostRuntime) {
-    let mut selection = begun(&rt, index_of(&rt, rt.alloc(), &[3, 0, 2]));
-    holds(&rt, selection.left_total() > 0);
-    equal(&rt, &selection.take_weighted(0), &0);
-    equal(&rt, &selection.left_total(), &2);
-    equal(&rt, &selection.left_count(), &1);
-    ends_with(&rt, selection, &[3, 0, 2]);
+    let rt = &rt;
+    let mut selection = begun(rt, index_of(rt, rt.alloc(), &[3, 0, 2]));
+    holds(rt, selection.left_total() > 0);
+    equal(rt, &selection.take_weighted(0), &0);
+    equal(
+        rt,
+        &(selection.left_total(), selection.left_count()),
+        &(2, 1),
+    );
+    ends_with(rt, selection, &[3, 0, 2]);
 }
 
 #[test]
 fn takes_all_places(rt: HostRuntime) {
-    let mut index = index_of(&rt, rt.alloc(), &[1, 1, 1, 1]);
-    equal(&rt, &index.count(), &4);
+    let rt = &rt;
+    let mut index = index_of(rt, rt.alloc(), &[1, 1, 1, 1]);
+    equal(rt, &index.count(), &4);
     index.set(1, 0);
     index.update(&[(0, 7), (2, 2), (0, 3), (3, 5)]);
-    has_weights(&rt, &index, &[3, 0, 2, 5]);
-    let mut selection = begun(&rt, index);
-    holds(&rt, selection.left_count() > 1);
-    equal(&rt, &selection.take_uniform(1), &2);
-    equal(&rt, &selection.left_total(), &8);
-    holds(&rt, selection.left_total() > 3);
-    equal(&rt, &selection.take_weighted(3), &3);
-    holds(&rt, !selection.is_empty());
-    holds(&rt, selection.left_count() > 0);
-    equal(&rt, &selection.take_uniform(0), &0);
-    holds(&rt, selection.is_empty());
-    equal(&rt, &selection.left_total(), &0);
-    ends_with(&rt, selection, &[3, 0, 2, 5]);
+    has_weights(rt, &index, &[3, 0, 2, 5]);
+    let mut selection = begun(rt, index);
+    takes_each(rt, &mut selection);
+    ends_with(rt, selection, &[3, 0, 2, 5]);
+}
+
+/// Takes the places 2, 3 and 0, after which there is none left.
+fn takes_each(rt: &impl Abort, selection: &mut Selection) {
+    holds(rt, selection.left_count() > 1);
+    equal(rt, &selection.take_uniform(1), &2);
+    equal(rt, &selection.left_total(), &8);
+    holds(rt, selection.left_total() > 3);
+    equal(rt, &selection.take_weighted(3), &3);
+    holds(rt, !selection.is_empty());
+    holds(rt, selection.left_count() > 0);
+    equal(rt, &selection.take_uniform(0), &0);
+    holds(rt, selection.is_empty());
+    equal(rt, &selection.left_total(), &0);
 }
 
 #[test]
 fn nothing_to_choose(rt: HostRuntime) {
+    let rt = &rt;
     const ZEROS: &[&[u64]] = &[&[], &[0, 0, 0]];
     for weights in ZEROS {
-        let index = index_of(&rt, rt.alloc(), weights);
-        equal(&rt, &index.total(), &0);
-        let selection = begun(&rt, index);
-        holds(&rt, selection.is_empty());
-        equal(&rt, &selection.left_count(), &0);
-        equal(&rt, &selection.left_total(), &0);
-        ends_with(&rt, selection, weights);
+        let index = index_of(rt, rt.alloc(), weights);
+        equal(rt, &index.total(), &0);
+        let selection = begun(rt, index);
+        holds(rt, selection.is_empty());
+        let left = (selection.left_total(), selection.left_count());
+        equal(rt, &left, &(0, 0));
+        ends_with(rt, selection, weights);
     }
 }
 
@@ -120,14 +131,15 @@ fn weights_of_each_length(rt: HostRuntime) {
 
 #[test]
 fn updates_of_each_length(rt: HostRuntime) {
-    let mut index = index_of(&rt, rt.alloc(), &[1, 1, 1]);
+    let rt = &rt;
+    let mut index = index_of(rt, rt.alloc(), &[1, 1, 1]);
     index.update(&[]);
-    has_weights(&rt, &index, &[1, 1, 1]);
-    holds(&rt, index.count() == 3);
+    has_weights(rt, &index, &[1, 1, 1]);
+    holds(rt, index.count() == 3);
     index.update(&[(1, 4)]);
-    has_weights(&rt, &index, &[1, 4, 1]);
+    has_weights(rt, &index, &[1, 4, 1]);
     index.update(&[(2, 5), (0, 6), (2, 7)]);
-    has_weights(&rt, &index, &[6, 4, 7]);
+    has_weights(rt, &index, &[6, 4, 7]);
     drop(index);
 }
 
@@ -144,11 +156,13 @@ fn widest_weights(rt: HostRuntime) {
 
 /// An index of a thousand places, each of which weighs its number.
 fn thousand_places(rt: &impl Abort, alloc: Global) -> WeightedIndex {
-    let mut weights = Vec::with_capacity(alloc, 1_000).expect(rt, "memory");
+    let mut weights = Vec::new(alloc);
     for weight in 0..1_000_u64 {
         weights.push(weight).expect(rt, "memory");
     }
-    WeightedIndex::new(alloc, &weights).expect(rt, "memory")
+    let index = index_of(rt, alloc, &weights);
+    drop(weights);
+    index
 }
 
 #[test]
@@ -161,28 +175,30 @@ fn index_thousand_places(rt: HostRuntime) {
 
 #[test]
 fn index_sets_one_of_a_thousand_places(rt: HostRuntime) {
-    let mut index = thousand_places(&rt, rt.alloc());
+    let rt = &rt;
+    let mut index = thousand_places(rt, rt.alloc());
     let mut visits = Visits::new();
-    equal(&rt, &visits.count(), &0);
-    holds(&rt, index.count() > 998);
+    equal(rt, &visits.count(), &0);
+    holds(rt, index.count() > 998);
     index.set_counted(998, 0, &mut visits);
-    equal(&rt, &index.weight(998), &0);
-    holds(&rt, visits.count() <= 22);
+    equal(rt, &index.weight(998), &0);
+    holds(rt, visits.count() <= 22);
     drop(index);
 }
 
 #[test]
 fn draws_are_counted(rt: HostRuntime) {
-    let mut selection = begun(&rt, index_of(&rt, rt.alloc(), &[3, 0, 2, 5]));
+    let rt = &rt;
+    let mut selection = begun(rt, index_of(rt, rt.alloc(), &[3, 0, 2, 5]));
     let mut visits = Visits::new();
-    holds(&rt, selection.left_count() > 1);
-    equal(&rt, &selection.take_uniform_counted(1, &mut visits), &2);
-    holds(&rt, visits.count() <= 12);
+    holds(rt, selection.left_count() > 1);
+    equal(rt, &selection.take_uniform_counted(1, &mut visits), &2);
+    holds(rt, visits.count() <= 12);
     let mut visits = Visits::new();
-    holds(&rt, selection.left_total() > 3);
-    equal(&rt, &selection.take_weighted_counted(3, &mut visits), &3);
-    holds(&rt, visits.count() <= 12);
-    ends_with(&rt, selection, &[3, 0, 2, 5]);
+    holds(rt, selection.left_total() > 3);
+    equal(rt, &selection.take_weighted_counted(3, &mut visits), &3);
+    holds(rt, visits.count() <= 12);
+    ends_with(rt, selection, &[3, 0, 2, 5]);
 }
 
 #[test]
