@@ -17,11 +17,12 @@ fn weighs(rt: &impl Abort, observations: &[(u128, u64, u64)]) {
     }
 }
 
-/// Takes in some observations without bytes that took no time.
-fn idle(score: &mut Score, count: u32) {
+/// Takes in some observations without bytes that took no time, and compares the weight then.
+fn idles(rt: &impl Abort, score: &mut Score, count: u32, weight: u64) {
     for _ in 0..count {
         score.record(0, 0);
     }
+    equal(rt, &score.weight(), &weight);
 }
 
 #[test]
@@ -58,23 +59,18 @@ fn score_recovery(rt: HostRuntime) {
 fn score_extremes(rt: HostRuntime) {
     let mut score = Score::default();
     score.record(0, u64::MAX);
-    equal(&rt, &score.weight(), &u64::MAX);
-    idle(&mut score, 64);
-    equal(&rt, &score.weight(), &1_000_000_000);
-    idle(&mut score, 32);
-    equal(&rt, &score.weight(), &1);
+    idles(&rt, &mut score, 0, u64::MAX);
+    idles(&rt, &mut score, 64, 1_000_000_000);
+    idles(&rt, &mut score, 32, 1);
 }
 
 #[test]
 fn thirty_two_observations(rt: HostRuntime) {
     let mut score = Score::default();
     score.record(1, u64::MAX);
-    idle(&mut score, 31);
-    equal(&rt, &score.weight(), &8_589_934_592_000_000_000);
-    idle(&mut score, 1);
-    equal(&rt, &score.weight(), &4_294_967_296_000_000_000);
-    idle(&mut score, 1);
-    equal(&rt, &score.weight(), &2_147_483_648_000_000_000);
+    idles(&rt, &mut score, 31, 8_589_934_592_000_000_000);
+    idles(&rt, &mut score, 1, 4_294_967_296_000_000_000);
+    idles(&rt, &mut score, 1, 2_147_483_648_000_000_000);
 }
 
 #[test]
@@ -83,8 +79,11 @@ fn a_clone_is_its_source(rt: HostRuntime) {
     score.record(MILLISECOND, 1000);
     let cloned = score.clone().expect(&rt, "memory");
     score.record(MILLISECOND, 0);
-    equal(&rt, &cloned.weight(), &1_000_001);
-    equal(&rt, &score.weight(), &500_001);
+    equal(
+        &rt,
+        &(cloned.weight(), score.weight()),
+        &(1_000_001, 500_001),
+    );
 }
 
 #[test]
