@@ -44,34 +44,22 @@ impl Clock for Watch {
     }
 }
 
-/// What comes next.
-fn next<I: Receiver<PublicKey = Letter>>(
-    task: &MockTask,
-    network: &mut I,
-) -> Poll<Option<(Letter, Bytes)>> {
-    task.enter(|cx| network.poll_recv(cx))
-}
-
 /// How long it is from the clock's moment to a later one, and whether the later one has come.
 fn left<C: Clock>(task: &MockTask, clock: &mut C, moment: u128) -> (u128, bool) {
-    let ready = matches!(
-        task.enter(|cx| clock.poll_until(cx, moment)),
-        Poll::Ready(())
-    );
-    (moment.saturating_sub(clock.now()), ready)
+    let polled = task.enter(|cx| clock.poll_until(cx, moment));
+    (moment.saturating_sub(clock.now()), polled.is_ready())
 }
 
 /// Ends the test where something else comes next.
-fn comes(
+fn comes<I: Receiver<PublicKey = Letter>>(
     rt: &impl Abort,
     task: &MockTask,
-    network: &mut Wire,
-    wanted: Poll<Option<(Letter, Bytes)>>,
+    network: &mut I,
+    wanted: &Poll<Option<(Letter, Bytes)>>,
 ) {
-    let found = next(task, network);
-    equal(rt, &found, &wanted);
+    let found = task.enter(|cx| network.poll_recv(cx));
+    equal(rt, &found, wanted);
     drop(found);
-    drop(wanted);
 }
 
 /// A message comes, and then the end.
@@ -81,13 +69,14 @@ fn gives_hi(
     sender: mpsc::UnboundedSender<(Letter, Bytes)>,
     network: &mut Wire,
 ) {
-    comes(rt, task, network, Poll::Pending);
+    comes(rt, task, network, &Poll::Pending);
     let hi = (Letter(4), Bytes::from_static(b"hi"));
     sender.unbounded_send(hi).expect(rt, "memory");
     drop(sender);
-    let hi = (Letter(4), Bytes::from_static(b"hi"));
-    comes(rt, task, network, Poll::Ready(Some(hi)));
-    comes(rt, task, network, Poll::Ready(None));
+    let hi = Poll::Ready(Some((Letter(4), Bytes::from_static(b"hi"))));
+    comes(rt, task, network, &hi);
+    drop(hi);
+    comes(rt, task, network, &Poll::Ready(None));
 }
 
 #[test]
@@ -97,6 +86,7 @@ fn a_network_gives_what_was_sent(rt: HostRuntime) {
     let mut network = Wire { messages };
     gives_hi(&rt, &task, sender, &mut network);
     drop(network);
+    drop(task);
 }
 
 #[test]
@@ -110,4 +100,5 @@ fn a_moment_comes_at_its_time(rt: HostRuntime) {
     equal(&rt, &left(&task, &mut clock, 5), &(0, true));
     equal(&rt, &left(&task, &mut clock, 8), &(3, false));
     drop(clock);
+    drop(task);
 }
