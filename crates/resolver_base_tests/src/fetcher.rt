@@ -1,10 +1,11 @@
 //! Keys that wait, scans, and what becomes of requests.
 
-use crate::asserts::{equal, equal_at};
+use crate::asserts::{equal, equal_at, holds};
 use crate::calls::{
     Call, Seen, begins, clear, delayed, drawn, goes, goes_by, requests, sent, until, waits,
     waits_again, wakes, weighs,
 };
+use crate::names::Letter;
 use resolver_base::base::{Check, Fault};
 use resolver_fetch::fetcher::Answer::{self, Checked, Drawn, Sent};
 use resolver_fetch::fetcher::{Ask, Config, Fetcher};
@@ -227,7 +228,8 @@ fn fetcher_two_queues(rt: HostRuntime) {
         until!(8, Seen::Over),
         wakes!(8),
     ];
-    goes_by(&rt, rt.alloc(), delayed(2), &[CALLS]);
+    const TABLES: &[&[(Call, Seen)]] = &[CALLS];
+    goes_by(&rt, rt.alloc(), delayed(2), TABLES);
 }
 
 #[test]
@@ -301,6 +303,7 @@ fn charged_the_longest_time(rt: HostRuntime) {
         (Call::Overdue(DURATION_MAX), Seen::Popped(Some(1))),
         weighs!(4, Some(1)),
     ];
+    const TABLES: &[&[(Call, Seen)]] = &[CALLS];
     // A request takes the longest time, and so does a wait before a retry.
     let config = Config {
         me: None,
@@ -308,52 +311,32 @@ fn charged_the_longest_time(rt: HostRuntime) {
         retry_delay: DURATION_MAX,
         priority_requests: false,
     };
-    goes_by(&rt, rt.alloc(), config, &[CALLS]);
+    goes_by(&rt, rt.alloc(), config, TABLES);
 }
 
 // Fetchers of many keys.
 
-type Many = Fetcher<u16, u8>;
-
-/// A new fetcher of many keys.
-fn many(alloc: Global) -> Many {
-    let config = Config {
-        me: None,
-        fetch_timeout: 50,
-        retry_delay: 10,
-        priority_requests: false,
-    };
-    Fetcher::new(alloc, config)
-}
-
-/// A key of many waits from 10 on.
-fn waits(rt: &impl Abort, fetcher: &mut Many, key: u16) {
-    assert!(rt; !fetcher.is_scanning() && !fetcher.is_waiting(&key) && !fetcher.is_asked(&key));
-    fetcher.add_ready(key, 10).expect(rt, "memory");
-}
+type Many = Fetcher<u16, Letter>;
 
 /// Key after key waits from 10 on.
 fn waits_each(rt: &impl Abort, fetcher: &mut Many, count: u16) {
     for key in 0..count {
-        waits(rt, fetcher, key);
+        holds(rt, !fetcher.is_scanning());
+        holds(rt, !fetcher.is_waiting(&key));
+        holds(rt, !fetcher.is_asked(&key));
+        fetcher.add_ready(key, 10).expect(rt, "memory");
     }
 }
 
-/// Begins a scan of many keys.
-fn begins_many(rt: &impl Abort, fetcher: &mut Many) -> Option<Ask<u16, u8>> {
-    assert!(rt; !fetcher.is_scanning());
-    fetcher.scan_begin(10).expect(rt, "memory")
-}
-
 /// Gives an answer to a scan of many keys.
-fn answered_many(rt: &impl Abort, fetcher: &mut Many, answer: Answer) -> Option<Ask<u16, u8>> {
+fn answered_many(rt: &impl Abort, fetcher: &mut Many, answer: Answer) -> Option<Ask<u16, Letter>> {
     fetcher
         .scan_answer(answer)
         .expect(rt, "an answer that is taken")
 }
 
 /// The only peer of a key is drawn, and may not be sent to before 100.
-fn limits(rt: &impl Abort, fetcher: &mut Many) -> Option<Ask<u16, u8>> {
+fn limits(rt: &impl Abort, fetcher: &mut Many) -> Option<Ask<u16, Letter>> {
     answered_many(rt, fetcher, Drawn(0));
     answered_many(rt, fetcher, Drawn(0));
     answered_many(rt, fetcher, Checked(Check::Until(100)))
@@ -361,7 +344,8 @@ fn limits(rt: &impl Abort, fetcher: &mut Many) -> Option<Ask<u16, u8>> {
 
 /// Begins a scan, which tries so many keys, each once.
 fn limits_each(rt: &impl Abort, fetcher: &mut Many, count: u16) {
-    let mut asked = begins_many(rt, fetcher);
+    holds(rt, !fetcher.is_scanning());
+    let mut asked = fetcher.scan_begin(10).expect(rt, "memory");
     for key in 0..count {
         equal_at(rt, &key, &asked, &Some(Ask::Draw(4)));
         asked = limits(rt, fetcher);
@@ -369,31 +353,20 @@ fn limits_each(rt: &impl Abort, fetcher: &mut Many, count: u16) {
     equal(rt, &asked, &None);
 }
 
-/// When a scan of many keys may do something.
-fn wake_up_many(fetcher: &Many) -> Option<u128> {
-    fetcher.get_pending_deadline()
-}
-
 /// Peer 4 comes.
 fn has_peer(rt: &impl Abort, alloc: Global, fetcher: &mut Many) {
-    let peers = [4].to_vec(alloc).expect(rt, "memory");
-    assert!(rt; !fetcher.is_scanning());
+    let peers = Vec::from_slice(alloc, &[Letter(4)]).expect(rt, "memory");
+    holds(rt, !fetcher.is_scanning());
     fetcher.reconcile(peers).expect(rt, "memory");
-}
-
-/// So many keys of one peer wait in a new fetcher, and each is tried once.
-fn tries_each(rt: &impl Abort, alloc: Global, count: u16) -> Option<u128> {
-    let mut fetcher = many(alloc);
-    has_peer(rt, alloc, &mut fetcher);
-    waits_each(rt, &mut fetcher, count);
-    limits_each(rt, &mut fetcher, count);
-    let due = wake_up_many(&fetcher);
-    drop(fetcher);
-    due
 }
 
 // A scan that looked from the first key on after each one would not end in time.
 #[test]
 fn a_scan_goes_over_each_due_key_once(rt: HostRuntime) {
-    equal(&rt, &tries_each(&rt, rt.alloc(), 20_000), &Some(100));
+    let mut fetcher = Fetcher::new(rt.alloc(), delayed(10));
+    has_peer(&rt, rt.alloc(), &mut fetcher);
+    waits_each(&rt, &mut fetcher, 20_000);
+    limits_each(&rt, &mut fetcher, 20_000);
+    equal(&rt, &fetcher.get_pending_deadline(), &Some(100));
+    drop(fetcher);
 }

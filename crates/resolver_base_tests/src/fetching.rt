@@ -137,6 +137,7 @@ fn timeout_and_limits(rt: HostRuntime) {
         wakes!(60),
         (Call::Deadline, Seen::At(None)),
     ];
+    const TABLES: &[&[(Call, Seen)]] = &[CALLS];
     // Peer 9 is the local one, requests go before other messages, and nothing is waited for before a
     // retry.
     let config = Config {
@@ -145,7 +146,7 @@ fn timeout_and_limits(rt: HostRuntime) {
         retry_delay: 0,
         priority_requests: true,
     };
-    goes_by(&rt, rt.alloc(), config, &[CALLS]);
+    goes_by(&rt, rt.alloc(), config, TABLES);
 }
 
 #[test]

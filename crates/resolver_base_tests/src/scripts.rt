@@ -44,11 +44,13 @@ impl Sender for Network<'_> {
 
     fn send(&mut self, peer: &Letter, message: Bytes, priority: bool) -> Unreliable {
         let Some((name, bytes, first, word)) = self.script.sends.get(self.sent) else {
+            drop(message);
             self.is_right = false;
             return Unreliable::Rejected;
         };
         self.sent += 1;
         self.is_right &= *name == peer.0 && message.as_slice() == *bytes && priority == *first;
+        drop(message);
         *word
     }
 }
@@ -74,21 +76,6 @@ impl Draws for Numbers<'_> {
     }
 }
 
-/// Fetches.
-fn fetch(
-    rt: &impl Abort,
-    fetcher: &mut Node,
-    network: &mut Network,
-    numbers: &mut Numbers,
-    at: u64,
-) {
-    assert!(rt; !fetcher.is_scanning());
-    fetcher
-        .fetch(network, numbers, u128::from(at))
-        .expect(rt, "memory");
-    assert!(rt; !fetcher.is_scanning());
-}
-
 /// Fetches, and compares the calls that the fetch makes.
 pub fn fetches(rt: &impl Abort, fetcher: &mut Node, at: u64, script: &Script) -> Seen {
     let mut network = Network {
@@ -102,7 +89,11 @@ pub fn fetches(rt: &impl Abort, fetcher: &mut Node, at: u64, script: &Script) ->
         drawn: 0,
         is_right: true,
     };
-    fetch(rt, fetcher, &mut network, &mut numbers, at);
+    holds(rt, !fetcher.is_scanning());
+    fetcher
+        .fetch(&mut network, &mut numbers, u128::from(at))
+        .expect(rt, "memory");
+    holds(rt, !fetcher.is_scanning());
     holds(rt, network.is_right && numbers.is_right);
     let counts = (network.checked, network.sent, numbers.drawn);
     let wanted = (script.checks.len(), script.sends.len(), script.draws.len());
