@@ -89,6 +89,7 @@ fn is_read_as_it_was_written(rt: HostRuntime) {
     Letter(123).write(&mut out).expect(&rt, "memory");
     Letter(5).write(&mut out).expect(&rt, "memory");
     equal_lists(&rt, out.as_slice(), &[123, 5]);
+    drop(out);
     equal(&rt, &Letter::read(&[123]), &Some(Letter(123)));
 }
 
