@@ -35,14 +35,15 @@ fn gives_by_priority_and_then_by_item(rt: HostRuntime) {
 #[test]
 fn replaces_a_priority(rt: HostRuntime) {
     const ENTRIES: &[(u8, u16)] = &[(1, 10), (2, 20), (1, 30), (2, 20), (3, 5), (3, 25)];
-    const PAIRS: &[(u16, u8)] = &[(20, 2), (25, 3), (30, 1)];
     let set = set_of(&rt, rt.alloc(), ENTRIES);
     equal(&rt, &set.len(), &3);
     let mut pairs = set.iter();
-    for pair in PAIRS {
-        equal(&rt, &pairs.next(), &Some(pair));
-    }
-    equal(&rt, &pairs.next(), &None);
+    let given = [pairs.next(), pairs.next(), pairs.next(), pairs.next()];
+    equal(
+        &rt,
+        &given,
+        &[Some(&(20, 2)), Some(&(25, 3)), Some(&(30, 1)), None],
+    );
     drop(set);
 }
 

@@ -48,11 +48,14 @@ fn over(requests: &mut Asked) -> Option<u128> {
 
 #[test]
 fn the_soonest_is_over_first(rt: HostRuntime) {
-    const DEADLINES: &[Option<u128>] = &[Some(10), Some(20), Some(30), None];
     let mut requests = held(&rt, rt.alloc(), &[(1, 30), (2, 10), (3, 40), (4, 20)]);
-    for deadline in DEADLINES {
-        equal(&rt, &over(&mut requests), deadline);
-    }
+    let deadlines = [
+        over(&mut requests),
+        over(&mut requests),
+        over(&mut requests),
+        over(&mut requests),
+    ];
+    equal(&rt, &deadlines, &[Some(10), Some(20), Some(30), None]);
     equal(&rt, &requests.len(), &1);
     drop(requests);
 }

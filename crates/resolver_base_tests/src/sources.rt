@@ -55,11 +55,12 @@ fn comes<I: Receiver<PublicKey = Letter>>(
     rt: &impl Abort,
     task: &MockTask,
     network: &mut I,
-    wanted: &Poll<Option<(Letter, Bytes)>>,
+    wanted: Poll<Option<(Letter, Bytes)>>,
 ) {
     let found = task.enter(|cx| network.poll_recv(cx));
-    equal(rt, &found, wanted);
+    equal(rt, &found, &wanted);
     drop(found);
+    drop(wanted);
 }
 
 /// A message comes, and then the end.
@@ -69,14 +70,13 @@ fn gives_hi(
     sender: mpsc::UnboundedSender<(Letter, Bytes)>,
     network: &mut Wire,
 ) {
-    comes(rt, task, network, &Poll::Pending);
+    comes(rt, task, network, Poll::Pending);
     let hi = (Letter(4), Bytes::from_static(b"hi"));
     sender.unbounded_send(hi).expect(rt, "memory");
     drop(sender);
-    let hi = Poll::Ready(Some((Letter(4), Bytes::from_static(b"hi"))));
-    comes(rt, task, network, &hi);
-    drop(hi);
-    comes(rt, task, network, &Poll::Ready(None));
+    let hi = (Letter(4), Bytes::from_static(b"hi"));
+    comes(rt, task, network, Poll::Ready(Some(hi)));
+    comes(rt, task, network, Poll::Ready(None));
 }
 
 #[test]
