@@ -3,7 +3,7 @@
 
 ghost use Rattle.std.specs.Prelude.{IsTrue};
 
-use std::fmt::Debug;
+use std::fmt::{Debug, Write};
 use std::process::Abort;
 
 /// Ends the test where a value isn't the one that is wanted.
@@ -38,4 +38,14 @@ pub fn equal_at<T: PartialEq + Debug>(rt: &impl Abort, at: &impl Debug, found: &
 /// A clone. The test ends where memory is wanting.
 pub fn copied<T: Clone>(rt: &impl Abort, value: &T) -> T {
     value.clone().expect(rt, "memory")
+}
+
+/// Writes a value behind a space.
+pub fn spell(rt: &impl Abort, text: &mut String, value: &impl Debug) {
+    write!(text, " {value:?}").expect(rt, "memory");
+}
+
+/// Writes a name and a value, each behind a space.
+pub fn spell_named(rt: &impl Abort, text: &mut String, name: &str, value: &impl Debug) {
+    write!(text, " {name} {value:?}").expect(rt, "memory");
 }
