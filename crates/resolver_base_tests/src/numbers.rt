@@ -1,19 +1,24 @@
-use crate::asserts::equal;
+use crate::asserts::equal_lists;
 use resolver_base::base::Numbers;
 
 #[test]
 fn counts_up(rt: HostRuntime) {
     let mut numbers = Numbers::new();
-    for wanted in [0, 1, 2] {
-        equal(&rt, &numbers.peek(), &Some(wanted));
-        equal(&rt, &numbers.take(), &Some(wanted));
-    }
+    let seen = [
+        numbers.peek(),
+        numbers.take(),
+        numbers.peek(),
+        numbers.take(),
+        numbers.peek(),
+        numbers.take(),
+    ];
+    let wanted = [Some(0), Some(0), Some(1), Some(1), Some(2), Some(2)];
+    equal_lists(&rt, &seen, &wanted);
 }
 
 #[test]
 fn ends_after_the_last(rt: HostRuntime) {
     let mut numbers = Numbers::starting_at(u64::MAX);
-    equal(&rt, &numbers.take(), &Some(u64::MAX));
-    equal(&rt, &numbers.take(), &None);
-    equal(&rt, &numbers.take(), &None);
+    let seen = [numbers.take(), numbers.take(), numbers.take()];
+    equal_lists(&rt, &seen, &[Some(u64::MAX), None, None]);
 }

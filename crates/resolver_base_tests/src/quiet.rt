@@ -6,15 +6,16 @@ use resolver_loop::mocks::Quiet;
 use resolver_loop::{Blocker, Provider};
 use std::panic::Expect;
 
-/// Whether a provider has no set so far.
-fn has_no_set<D: Provider<PublicKey = Letter>>(task: &MockTask, provider: &mut D) -> bool {
-    matches!(task.enter(|cx| provider.poll_update(cx)), Poll::Pending)
-}
-
-/// Whether a blocker has nothing to say so far, also once it was asked to block a peer.
-fn blocks_nobody<B: Blocker<PublicKey = Letter>>(task: &MockTask, blocker: &mut B) -> bool {
-    blocker.block(&Letter(4));
-    matches!(task.enter(|cx| blocker.poll_blocked(cx)), Poll::Pending)
+/// Whether a provider has no set so far, and a blocker nothing to say, also once it was asked to block a peer.
+fn gives_nothing<S: Provider<PublicKey = Letter> + Blocker<PublicKey = Letter>>(
+    task: &MockTask,
+    source: &mut S,
+) -> bool {
+    task.enter(|cx| {
+        let has_no_set = matches!(source.poll_update(cx), Poll::Pending);
+        source.block(&Letter(4));
+        has_no_set && matches!(source.poll_blocked(cx), Poll::Pending)
+    })
 }
 
 #[test]
@@ -22,8 +23,8 @@ fn quiet_sources_give_nothing(rt: HostRuntime) {
     let task = MockTask::new(&rt).expect(&rt, "a task");
     let mut quiet = Quiet::new();
     for _ in 0..3 {
-        holds(&rt, has_no_set(&task, &mut quiet));
-        holds(&rt, blocks_nobody(&task, &mut quiet));
+        holds(&rt, gives_nothing(&task, &mut quiet));
         holds(&rt, !task.is_woken());
     }
+    drop(task);
 }

@@ -50,32 +50,43 @@ fn deliveries_compare_by_key_and_subscribers(rt: HostRuntime) {
 fn compares<T: Ord>(rt: &impl Abort, one: &T, other: &T, order: Ordering) {
     equal(rt, &one.cmp(other), &order);
     equal(rt, &one.partial_cmp(other), &Some(order));
-    equal(rt, &(one == other), &order.is_eq());
+    equal_lists(
+        rt,
+        &[one == other, one < other, one > other],
+        &[order.is_eq(), order.is_lt(), order.is_gt()],
+    );
+}
+
+/// The laws say of them what their comparison does.
+fn obeys_laws(rt: &impl Abort, one: &Fetch<u8, u16>, other: &Fetch<u8, u16>, order: Ordering) {
+    holds(rt, laws::are_equal_fetches(one, other) == order.is_eq());
+    holds(rt, laws::is_fetch_below(one, other) == order.is_lt());
+    equal(rt, &laws::order_of_fetches(one, other), &order);
+}
+
+fn fetch((key, subscriber, mark): (u8, u16, u64)) -> Fetch<u8, u16> {
+    Fetch {
+        key,
+        subscriber,
+        mark,
+    }
 }
 
 #[test]
 fn fetches_compare_by_key_and_subscriber(rt: HostRuntime) {
-    let fetch = |key: u8, subscriber: u16, mark: u64| Fetch {
-        key,
-        subscriber,
-        mark,
-    };
-    holds(&rt, fetch(1, 10, 7) == fetch(1, 10, 8));
-    holds(&rt, fetch(1, 10, 7) < fetch(1, 11, 0));
-    holds(&rt, fetch(2, 0, 0) > fetch(1, 11, 9));
-    holds(
-        &rt,
-        laws::are_equal_fetches(&fetch(1, 10, 7), &fetch(1, 10, 8)),
-    );
-    holds(
-        &rt,
-        laws::is_fetch_below(&fetch(1, 10, 7), &fetch(1, 11, 0)),
-    );
-    equal(
-        &rt,
-        &laws::order_of_fetches(&fetch(2, 0, 0), &fetch(1, 11, 9)),
-        &Ordering::Greater,
-    );
+    const CASES: &[((u8, u16, u64), (u8, u16, u64), Ordering)] = &[
+        ((1, 10, 7), (1, 10, 8), Ordering::Equal),
+        ((1, 10, 7), (1, 11, 0), Ordering::Less),
+        ((2, 0, 0), (1, 11, 9), Ordering::Greater),
+    ];
+    for &(fields, other_fields, order) in CASES {
+        let one = fetch(fields);
+        let other = fetch(other_fields);
+        compares(&rt, &one, &other, order);
+        obeys_laws(&rt, &one, &other, order);
+        drop(one);
+        drop(other);
+    }
 }
 
 #[test]
@@ -88,18 +99,22 @@ fn deliveries_compare_whatever_their_marks(rt: HostRuntime) {
         &laws::order_of_deliveries(&one, &other),
         &Ordering::Equal,
     );
+    drop(one);
+    drop(other);
 }
 
 #[test]
 fn clones_of_a_fetch_keep_the_mark(rt: HostRuntime) {
-    let fetch = Fetch {
-        key: 1u8,
-        subscriber: 10u16,
-        mark: 7,
-    };
-    for same in [fetch.clone().expect(&rt, "memory"), copied(&rt, &fetch)] {
-        equal(&rt, &(same.key, same.subscriber, same.mark), &(1, 10, 7));
-    }
+    let fetch = fetch((1, 10, 7));
+    has_its_mark(&rt, fetch.clone().expect(&rt, "memory"));
+    has_its_mark(&rt, copied(&rt, &fetch));
+    drop(fetch);
+}
+
+/// It is the fetch of key 1 for subscriber 10, with the mark 7.
+fn has_its_mark(rt: &impl Abort, same: Fetch<u8, u16>) {
+    equal(rt, &(same.key, same.subscriber, same.mark), &(1, 10, 7));
+    drop(same);
 }
 
 #[test]

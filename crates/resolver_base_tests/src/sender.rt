@@ -2,7 +2,9 @@ use crate::asserts::{equal, holds};
 use crate::names::Letter;
 use bytes::Bytes;
 use resolver_base::base::{Check, Feedback, Sender, Unreliable};
+use std::alloc::Global;
 use std::panic::Expect;
+use std::process::Abort;
 
 /// Knows one peer, and takes messages for it up to a length.
 #[derive(Drop)]
@@ -43,20 +45,29 @@ fn tried<S: Sender>(
     (check, sender.send(peer, message, priority))
 }
 
+/// Tries a message of these bytes, and compares what is said of it.
+fn answers(
+    rt: &impl Abort,
+    alloc: Global,
+    wire: &mut Wire,
+    (peer, bytes, priority): (u8, &[u8], bool),
+    wanted: &(Check, Unreliable),
+) {
+    let message = Bytes::copy_from_slice(alloc, bytes).expect(rt, "memory");
+    equal(rt, &tried(wire, &Letter(peer), message, priority), wanted);
+}
+
 #[test]
 fn sends_to_a_peer(rt: HostRuntime) {
+    const TAKEN: &(Check, Unreliable) = &(Check::Clear, Unreliable::Outcome(Feedback::Ok));
+    const TOO_LONG: &(Check, Unreliable) = &(Check::Until(7), Unreliable::Rejected);
     let mut wire = Wire {
         known: Letter(1),
         room: 2,
     };
-    let short = Bytes::copy_from_slice(rt.alloc(), &[5, 6]).expect(&rt, "memory");
-    let (check, sent) = tried(&mut wire, &Letter(1), short, true);
-    equal(&rt, &check, &Check::Clear);
-    equal(&rt, &sent, &Unreliable::Outcome(Feedback::Ok));
-    let long = Bytes::copy_from_slice(rt.alloc(), &[5, 6, 7]).expect(&rt, "memory");
-    let (check, sent) = tried(&mut wire, &Letter(2), long, false);
-    equal(&rt, &check, &Check::Until(7));
-    equal(&rt, &sent, &Unreliable::Rejected);
+    answers(&rt, rt.alloc(), &mut wire, (1, &[5, 6], true), TAKEN);
+    answers(&rt, rt.alloc(), &mut wire, (2, &[5, 6, 7], false), TOO_LONG);
+    drop(wire);
 }
 
 #[test]
