@@ -28,7 +28,9 @@ where
 {
     let delivery = delivery(rt, alloc, key);
     let mut verdict = consumer.deliver(delivery, value).expect(rt, "memory");
-    match task.poll(&mut verdict) {
+    let polled = task.poll(&mut verdict);
+    drop(verdict);
+    match polled {
         Poll::Ready(Ok(outcome)) => Some(outcome.into()),
         _ => None,
     }
@@ -45,37 +47,38 @@ fn next(
 /// A key, a value, and what a consumer says of them.
 type Judged = (u8, u16, Option<Outcome>);
 
-/// Ends the test where a consumer says something else of a value under a key.
-fn says<C: Consumer<Key = Letter, Value = u16, Subscriber = u8>>(
-    rt: &impl Abort,
-    alloc: Global,
-    task: &MockTask,
-    consumer: &mut C,
-    &(key, value, wanted): &Judged,
-)
-where
-    C::Outcome: Drop,
-{
-    let outcome = outcome_of(rt, alloc, task, consumer, key, value);
-    equal(rt, &outcome, &wanted);
-}
-
-/// The last value that is expected of a key is right alone, and any value where none is.
+/// Expects values under their keys, and judges others then.
 fn judges(
     rt: &impl Abort,
     alloc: Global,
     task: &MockTask,
     consumer: &mut mocks::Consumer<Letter, u16, u8>,
+    expected: &[(u8, u16)],
+    judged: &[Judged],
 ) {
-    const EXPECTED: &[Judged] = &[(1, 7, RIGHT), (1, 6, WRONG), (2, 9, RIGHT)];
-    consumer.add_expected(Letter(1), 6).expect(rt, "memory");
-    consumer.add_expected(Letter(1), 7).expect(rt, "memory");
-    for judged in EXPECTED {
-        says(rt, alloc, task, consumer, judged);
+    for &(key, value) in expected {
+        consumer
+            .add_expected(Letter(key), value)
+            .expect(rt, "memory");
     }
+    for &(key, value, wanted) in judged {
+        let outcome = outcome_of(rt, alloc, task, consumer, key, value);
+        equal(rt, &outcome, &wanted);
+    }
+}
+
+/// The last value that is expected of a key is right alone, and any value where none is.
+fn judges_what_is_expected(
+    rt: &impl Abort,
+    alloc: Global,
+    task: &MockTask,
+    consumer: &mut mocks::Consumer<Letter, u16, u8>,
+) {
+    const JUDGED: &[Judged] = &[(1, 7, RIGHT), (1, 6, WRONG), (2, 9, RIGHT)];
+    judges(rt, alloc, task, consumer, &[(1, 6), (1, 7)], JUDGED);
     equal(rt, &consumer.pop_expected(&Letter(1)), &Some(7));
     equal(rt, &consumer.pop_expected(&Letter(1)), &None);
-    says(rt, alloc, task, consumer, &(1, 6, RIGHT));
+    judges(rt, alloc, task, consumer, &[], &[(1, 6, RIGHT)]);
 }
 
 /// The test is told of these pairs, and then of no more.
@@ -93,32 +96,21 @@ fn what_is_expected_or_not_is_right(rt: HostRuntime) {
     let alloc = rt.alloc();
     let task = MockTask::new(&rt).expect(&rt, "a task");
     let (mut consumer, mut taken) = mocks::Consumer::new(alloc).expect(&rt, "memory");
-    judges(&rt, alloc, &task, &mut consumer);
+    judges_what_is_expected(&rt, alloc, &task, &mut consumer);
     drop(consumer);
     told(&rt, &task, &mut taken);
     drop(taken);
+    drop(task);
 }
 
 /// What a dummy expects is right, and nothing else.
-fn judges_two(
-    rt: &impl Abort,
-    alloc: Global,
-    task: &MockTask,
-    consumer: &mut mocks::Consumer<Letter, u16, u8>,
-) {
-    const TWO: &[Judged] = &[(1, 7, RIGHT), (1, 8, WRONG), (2, 8, RIGHT)];
-    consumer.add_expected(Letter(1), 7).expect(rt, "memory");
-    consumer.add_expected(Letter(2), 8).expect(rt, "memory");
-    for judged in TWO {
-        says(rt, alloc, task, consumer, judged);
-    }
-}
-
 #[test]
 fn a_dummy_judges_too(rt: HostRuntime) {
+    const JUDGED: &[Judged] = &[(1, 7, RIGHT), (1, 8, WRONG), (2, 8, RIGHT)];
     let alloc = rt.alloc();
     let task = MockTask::new(&rt).expect(&rt, "a task");
     let mut consumer = mocks::Consumer::dummy(alloc).expect(&rt, "memory");
-    judges_two(&rt, alloc, &task, &mut consumer);
+    judges(&rt, alloc, &task, &mut consumer, &[(1, 7), (2, 8)], JUDGED);
     drop(consumer);
+    drop(task);
 }

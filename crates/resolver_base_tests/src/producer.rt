@@ -1,22 +1,17 @@
 use crate::asserts::equal;
 use crate::names::Letter;
 use bytes::Bytes;
+use futures::channel::oneshot::Canceled;
 use futures::task::Poll;
 use futures::test::MockTask;
 use resolver_loop::{Producer, mocks};
 use std::panic::Expect;
 use std::process::Abort;
 
-/// What a producer has at once under this key, or none where it dropped the sender.
-fn bytes_of<O: Producer<Key = Letter>>(
-    rt: &impl Abort,
-    task: &MockTask,
-    producer: &mut O,
-    key: u8,
-) -> Poll<Option<Bytes>> {
-    let mut served = producer.produce(Letter(key)).expect(rt, "memory");
-    match task.poll(&mut served) {
-        Poll::Ready(Ok(bytes)) => Poll::Ready(Some(bytes)),
+/// The bytes that are there at once, or none where the sender was dropped.
+fn seen(found: &Poll<Result<Bytes, Canceled>>) -> Poll<Option<&[u8]>> {
+    match found {
+        Poll::Ready(Ok(bytes)) => Poll::Ready(Some(bytes.as_slice())),
         Poll::Ready(Err(_)) => Poll::Ready(None),
         Poll::Pending => Poll::Pending,
     }
@@ -28,14 +23,23 @@ fn has<O: Producer<Key = Letter>>(
     task: &MockTask,
     producer: &mut O,
     key: u8,
-    bytes: Option<&'static [u8]>,
+    wanted: Option<&[u8]>,
 ) {
-    let found = bytes_of(rt, task, producer, key);
-    let wanted = Poll::Ready(bytes.map(Bytes::from_static));
-    equal(rt, &found, &wanted);
+    let mut served = producer.produce(Letter(key)).expect(rt, "memory");
+    let found = task.poll(&mut served);
+    drop(served);
+    equal(rt, &seen(&found), &Poll::Ready(wanted));
     drop(found);
-    drop(wanted);
 }
+
+const INSERTED: &[(u8, &str)] = &[(1, "one"), (2, "zwei"), (2, "two")];
+
+const GIVEN: &[(u8, Option<&[u8]>)] = &[
+    (1, Some(b"one")),
+    (2, Some(b"two")),
+    (2, Some(b"two")),
+    (3, None),
+];
 
 fn gives_what_was_inserted(
     rt: &impl Abort,
@@ -43,15 +47,9 @@ fn gives_what_was_inserted(
     producer: &mut mocks::Producer<Letter, &'static str>,
 ) {
     has(rt, task, producer, 1, None);
-    producer.insert(Letter(1), "one").expect(rt, "memory");
-    producer.insert(Letter(2), "zwei").expect(rt, "memory");
-    producer.insert(Letter(2), "two").expect(rt, "memory");
-    const GIVEN: &[(u8, Option<&[u8]>)] = &[
-        (1, Some(b"one")),
-        (2, Some(b"two")),
-        (2, Some(b"two")),
-        (3, None),
-    ];
+    for &(key, text) in INSERTED {
+        producer.insert(Letter(key), text).expect(rt, "memory");
+    }
     for &(key, bytes) in GIVEN {
         has(rt, task, producer, key, bytes);
     }
@@ -63,4 +61,5 @@ fn an_absent_key_drops_its_sender(rt: HostRuntime) {
     let mut producer = mocks::Producer::new(rt.alloc());
     gives_what_was_inserted(&rt, &task, &mut producer);
     drop(producer);
+    drop(task);
 }
