@@ -21,6 +21,7 @@ fn completed(rt: &impl Abort, alloc: Global) -> Over {
     }
 }
 
+/// It is the same, marks included, which an equality of deliveries doesn't look at.
 fn is_same(rt: &impl Abort, same: Over, completion: &Over) {
     holds(rt, same == *completion);
     equal(rt, same.delivery.subscribers.first(), &(10, 7));
@@ -30,28 +31,16 @@ fn is_same(rt: &impl Abort, same: Over, completion: &Over) {
 fn compares_clones(rt: &impl Abort, completion: &Over) {
     is_same(rt, completion.clone().expect(rt, "memory"), completion);
     is_same(rt, copied(rt, completion), completion);
-    let other = Completion {
-        canceled: false,
-        ..completion.clone().expect(rt, "memory")
-    };
+    let mut other = copied(rt, completion);
+    other.canceled = false;
     holds(rt, other != *completion);
     drop(other);
 }
 
-fn has_same_clones(rt: &impl Abort, alloc: Global) {
-    let completion = completed(rt, alloc);
-    compares_clones(rt, &completion);
-    drop(completion);
-}
-
-// A clone keeps the marks, which an equality of deliveries doesn't look at.
 #[test]
 fn a_clone_is_the_same(rt: HostRuntime) {
-    has_same_clones(&rt, rt.alloc());
-    is_copied(&rt, &Aborted {});
-}
-
-fn is_copied(rt: &impl Abort, aborted: &Aborted) {
-    let same = copied(rt, aborted);
-    holds(rt, same == *aborted);
+    let completion = completed(&rt, rt.alloc());
+    compares_clones(&rt, &completion);
+    drop(completion);
+    holds(&rt, copied(&rt, &Aborted {}) == Aborted {});
 }
