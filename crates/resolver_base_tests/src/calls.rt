@@ -5,6 +5,7 @@
 
 ghost use Rattle.resolver_fetch.specs.Fetcher.{IsTimely};
 
+use crate::asserts::holds;
 use crate::names::Letter;
 use crate::scripts::{Script, fetches};
 use resolver_base::base::{Check, Fault};
@@ -124,19 +125,22 @@ pub enum Seen {
     Counts(bool, usize, bool, u32),
 }
 
-/// What a scan asks.
-fn asked(ask: Option<Ask<Letter, Letter>>) -> Seen {
-    match ask {
-        None => Seen::Over,
-        Some(Ask::Draw(bound)) => Seen::Draw(bound),
-        Some(Ask::Check(peer)) => Seen::Check(peer.0),
-        Some(
-            Ask::Request {
-                peer,
-                id,
-                key,
-                priority,
-            },
+/// What is seen of a step of a scan.
+fn stepped(step: Result<Option<Ask<Letter, Letter>>, Fault>) -> Seen {
+    match step {
+        Err(fault) => Seen::Refused(fault),
+        Ok(None) => Seen::Over,
+        Ok(Some(Ask::Draw(bound))) => Seen::Draw(bound),
+        Ok(Some(Ask::Check(peer))) => Seen::Check(peer.0),
+        Ok(
+            Some(
+                Ask::Request {
+                    peer,
+                    id,
+                    key,
+                    priority,
+                },
+            ),
         ) => Seen::Request {
             peer: peer.0,
             id,
@@ -183,45 +187,38 @@ pub type Node = Fetcher<Letter, Letter>;
 
 /// Takes these peers in place of the latest set.
 fn set_peers(rt: &impl Abort, fetcher: &mut Node, peers: Vec<Letter>) -> Seen {
-    assert!(rt; !fetcher.is_scanning());
+    holds(rt, !fetcher.is_scanning());
     fetcher.reconcile(peers).expect(rt, "memory");
     Seen::Done
 }
 
 /// Takes these peers as the ones that are blocked.
-fn set_blocked(rt: &impl Abort, alloc: Global, fetcher: &mut Node, names: &[u8]) -> Seen {
-    let peers = peers_of(rt, alloc, names);
-    assert!(rt; !fetcher.is_scanning());
+fn set_blocked(rt: &impl Abort, fetcher: &mut Node, peers: Vec<Letter>) -> Seen {
+    holds(rt, !fetcher.is_scanning());
     fetcher.set_blocked(peers).expect(rt, "memory");
     Seen::Done
 }
 
-/// A key waits from now on.
-fn add_ready(rt: &impl Abort, fetcher: &mut Node, key: Letter, at: u64) -> Seen {
-    assert!(rt; !fetcher.is_scanning() && !fetcher.is_waiting(&key) && !fetcher.is_asked(&key));
-    fetcher.add_ready(key, u128::from(at)).expect(rt, "memory");
-    Seen::Done
-}
-
-/// A key waits to be tried again.
-fn add_retry(rt: &impl Abort, fetcher: &mut Node, key: Letter, at: u64) -> Seen {
-    assert!(rt; !fetcher.is_scanning() && !fetcher.is_waiting(&key) && !fetcher.is_asked(&key));
-    fetcher.add_retry(key, u128::from(at)).expect(rt, "memory");
+/// A key waits from now on, or waits to be tried again.
+fn wait(rt: &impl Abort, fetcher: &mut Node, key: Letter, at: u64, is_retry: bool) -> Seen {
+    holds(rt, !fetcher.is_scanning());
+    holds(rt, !fetcher.is_waiting(&key));
+    holds(rt, !fetcher.is_asked(&key));
+    let now = u128::from(at);
+    let added = if is_retry {
+        fetcher.add_retry(key, now)
+    } else {
+        fetcher.add_ready(key, now)
+    };
+    added.expect(rt, "memory");
     Seen::Done
 }
 
 /// A key may be asked of these peers too, and of no others.
-fn add_targets(
-    rt: &impl Abort,
-    alloc: Global,
-    fetcher: &mut Node,
-    key: Letter,
-    names: &[u8],
-) -> Seen {
-    if let Ok(targets) = NonEmptyVec::try_from(peers_of(rt, alloc, names)) {
-        assert!(rt; !fetcher.is_scanning());
-        fetcher.add_targets(key, targets).expect(rt, "memory");
-    }
+fn add_targets(rt: &impl Abort, fetcher: &mut Node, key: Letter, peers: Vec<Letter>) -> Seen {
+    let targets = NonEmptyVec::try_from(peers).ok().expect(rt, "targets");
+    holds(rt, !fetcher.is_scanning());
+    fetcher.add_targets(key, targets).expect(rt, "memory");
     Seen::Done
 }
 
@@ -250,7 +247,7 @@ fn begun(
     fetcher: &mut Node,
     at: u64,
 ) -> Result<Option<Ask<Letter, Letter>>, Fault> {
-    assert!(rt; !fetcher.is_scanning());
+    holds(rt, !fetcher.is_scanning());
     fetcher.scan_begin(u128::from(at))
 }
 
@@ -306,17 +303,23 @@ fn has_targets(fetcher: &Node, key: u8) -> bool {
 
 /// Where a key waits, and under which id it is asked for.
 fn phase(fetcher: &Node, key: Letter) -> Seen {
-    let waits = fetcher.place(&key).map(|place| (place.due, place.is_retry));
-    let asks = fetcher
-        .request(&key)
-        .map(|(id, request)| (id, request.peer.0));
+    let waits = match fetcher.place(&key) {
+        Some(place) => Some((place.due, place.is_retry)),
+        None => None,
+    };
+    let asks = match fetcher.request(&key) {
+        Some((id, request)) => Some((id, request.peer.0)),
+        None => None,
+    };
     Seen::Phase(waits, asks)
 }
 
 /// How many keys a queue has, and when the first is due.
 fn first_of(queue: &PrioritySet<Letter, u128>) -> (usize, Option<(u128, u8)>) {
-    let first = queue.peek().map(|(key, due)| (*due, key.0));
-    (queue.len(), first)
+    let Some((key, due)) = queue.peek() else {
+        return (queue.len(), None);
+    };
+    (queue.len(), Some((*due, key.0)))
 }
 
 /// What the two queues have.
@@ -345,23 +348,20 @@ fn counts(fetcher: &Node) -> Seen {
     )
 }
 
-/// What is seen of a step of a scan.
-fn stepped(step: Result<Option<Ask<Letter, Letter>>, Fault>) -> Seen {
-    match step {
-        Ok(ask) => asked(ask),
-        Err(fault) => Seen::Refused(fault),
-    }
-}
-
 /// Makes a call, and tells what is seen.
 fn made(rt: &impl Abort, alloc: Global, fetcher: &mut Node, call: Call) -> Seen {
     match call {
         Call::Peers(names) => set_peers(rt, fetcher, peers_of(rt, alloc, names)),
         Call::Crowd(count) => set_peers(rt, fetcher, crowd(rt, alloc, count)),
-        Call::Blocked(names) => set_blocked(rt, alloc, fetcher, names),
-        Call::Ready { key, at } => add_ready(rt, fetcher, Letter(key), at),
-        Call::Retry { key, at } => add_retry(rt, fetcher, Letter(key), at),
-        Call::Targets(key, names) => add_targets(rt, alloc, fetcher, Letter(key), names),
+        Call::Blocked(names) => set_blocked(rt, fetcher, peers_of(rt, alloc, names)),
+        Call::Ready { key, at } => wait(rt, fetcher, Letter(key), at, false),
+        Call::Retry { key, at } => wait(rt, fetcher, Letter(key), at, true),
+        Call::Targets(key, names) => add_targets(
+            rt,
+            fetcher,
+            Letter(key),
+            peers_of(rt, alloc, names),
+        ),
         Call::Record {
             peer,
             count,
