@@ -390,7 +390,9 @@ const TEN_THOUSAND: &[Row] = &[(
 /// The calls of each row, of new entries, answer what stands there.
 fn answer(rt: &impl Abort, alloc: Global, rows: &[Row]) {
     for (calls, wanted) in rows {
-        equal_texts(rt, told(rt, alloc, calls).as_str(), wanted);
+        let text = told(rt, alloc, calls);
+        equal_texts(rt, text.as_str(), wanted);
+        drop(text);
     }
 }
 
@@ -431,4 +433,5 @@ fn keeps_a_state(rt: HostRuntime) {
     stages(&rt, &mut text, &mut entries);
     drop(entries);
     equal_texts(&rt, text.as_str(), " true false Some(20) Some(40) None");
+    drop(text);
 }

@@ -54,10 +54,8 @@ fn says_why(rt: HostRuntime) {
         (Fault::Uneven, "the book says otherwise"),
     ];
     for (fault, text) in SAID {
-        equal_texts(
-            &rt,
-            fault.to_string(rt.alloc()).expect(&rt, "memory").as_str(),
-            text,
-        );
+        let said = fault.to_string(rt.alloc()).expect(&rt, "memory");
+        equal_texts(&rt, said.as_str(), text);
+        drop(said);
     }
 }

@@ -215,7 +215,9 @@ const ROWS: &[Row] = &[
 #[test]
 fn tracker(rt: HostRuntime) {
     for (calls, wanted) in ROWS {
-        equal_texts(&rt, told(&rt, rt.alloc(), calls).as_str(), wanted);
+        let text = told(&rt, rt.alloc(), calls);
+        equal_texts(&rt, text.as_str(), wanted);
+        drop(text);
     }
 }
 
