@@ -85,12 +85,9 @@ type Handle<K, S, N, R> = Sender<K, S, (), Kept<Everyone>, N, R>;
 
 type Mail<K, S, N, R> = Receiver<K, S, (), Kept<Everyone>, N, R>;
 
-/// Whether a call of a book put a fetch of this key for this subscriber.
-fn is_fetch<K: Exact, S: Exact + Drop>(call: &Call<K, S>, key: &K, subscriber: &S) -> bool {
-    let Entry::Put(posted) = call else {
-        return false;
-    };
-    let Message::Fetch(items) = &posted.message else {
+/// Whether a message fetches this key for this subscriber.
+fn is_fetch<K: Exact, S: Exact + Drop>(message: &Told<K, S>, key: &K, subscriber: &S) -> bool {
+    let Message::Fetch(items) = message else {
         return false;
     };
     let Some(item) = items.first() else {
@@ -99,14 +96,21 @@ fn is_fetch<K: Exact, S: Exact + Drop>(call: &Call<K, S>, key: &K, subscriber: &
     item.key.is_same(key) && item.subscribers.first().0.is_same(subscriber)
 }
 
-/// Whether a call of a book put the test 9.
-fn is_test<K, S>(call: &Call<K, S>) -> bool {
-    let Entry::Put(posted) = call else {
-        return false;
-    };
-    match &posted.message {
+/// Whether a message is the test 9.
+fn is_test<K, S>(message: &Told<K, S>) -> bool {
+    match message {
         Message::Retain(kept) => kept.test().0 == 9,
         Message::Fetch(_) => false,
+    }
+}
+
+/// Whether a book puts a fetch of this key for this subscriber, then the test 9, and no more.
+fn puts_both<K: Exact, S: Exact + Drop>(book: &[Call<K, S>], key: &K, subscriber: &S) -> bool {
+    match book {
+        [Entry::Put(one), Entry::Put(other)] => {
+            is_fetch(&one.message, key, subscriber) && is_test(&other.message)
+        }
+        _ => false,
     }
 }
 
@@ -151,31 +155,12 @@ where
         return false;
     };
     let book = receiver.book(alloc, &[share]).expect(rt, "a book");
-    let has_both = book.len() == 2 && is_fetch(&book[0], key, subscriber) && is_test(&book[1]);
+    let has_both = puts_both(book.as_slice(), key, subscriber);
     drop(book);
     has_both
 }
 
-/// Puts both. Whether the book has them then.
-fn put_and_look<K, S, N, R>(
-    rt: &impl Abort,
-    alloc: Global,
-    handle: &mut Handle<K, S, N, R>,
-    receiver: &Mail<K, S, N, R>,
-    key: &K,
-    subscriber: &S,
-) -> bool
-where
-    K: Ord + Hash + Faithful + Exact + Drop,
-    S: Ord + Faithful + Exact + Drop,
-    N: Naming,
-    R: Wait,
-{
-    put_both(rt, alloc, handle, key, subscriber);
-    has_both(rt, alloc, handle, receiver, key, subscriber)
-}
-
-/// The same in a recorded mailbox of capacity 1.
+/// Puts both in a recorded mailbox of capacity 1. Whether the book has them then.
 fn are_booked<K, S, N, R>(rt: R, alloc: Global, pages: Pages, key: &K, subscriber: &S) -> bool
 where
     K: Ord + Hash + Faithful + Exact + Drop,
@@ -188,7 +173,8 @@ where
 {
     let made = recorded::<K, S, (), Kept<Everyone>, N, R>(rt, alloc, pages, 1);
     let (mut handle, receiver) = made.expect(&rt, "a mailbox");
-    let are_booked = put_and_look(&rt, alloc, &mut handle, &receiver, key, subscriber);
+    put_both(&rt, alloc, &mut handle, key, subscriber);
+    let are_booked = has_both(&rt, alloc, &handle, &receiver, key, subscriber);
     drop(handle);
     drop(receiver);
     are_booked
@@ -199,6 +185,7 @@ fn byte_arrays_and_bytes_are_booked(rt: HostRuntime) {
     let key = [1u8, 2, 3];
     let bytes = Bytes::from_static(b"ab");
     let booked = are_booked::<_, _, Brand, _>(rt, rt.alloc(), Pages::new(), &key, &bytes);
+    drop(bytes);
     holds(&rt, booked);
 }
 
@@ -207,5 +194,6 @@ fn tuples_are_booked(rt: HostRuntime) {
     let pair = (1u8, Bytes::from_static(b"cd"));
     let triple = (1u8, 2u16, [3u32, 4]);
     let booked = are_booked::<_, _, Brand, _>(rt, rt.alloc(), Pages::new(), &pair, &triple);
+    drop(pair);
     holds(&rt, booked);
 }
