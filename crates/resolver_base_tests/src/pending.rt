@@ -9,7 +9,7 @@ ghost use Rattle.std.proofs.Common.{rules};
 use crate::asserts::{equal, equal_texts};
 use resolver_backlog::Pending;
 use resolver_ingress::ingress::{FetchKey, Kept, Message, Metadata, Test};
-use resolver_root::{Fetch, NonEmptyVec};
+use resolver_root::{Fetch, NonEmptyVec, Predicate};
 use std::alloc::Global;
 use std::fmt::Write;
 use std::panic::Expect;
@@ -110,12 +110,16 @@ fn retain(rt: &impl Abort, pending: &mut Waiting, first: u16) {
     pending.handle(Message::Retain(kept)).expect(rt, "memory");
 }
 
-fn reject(pending: &mut Waiting) {
+fn reject<M: Metadata + Drop, Q: Predicate<u16, u16> + Drop>(
+    pending: &mut Pending<u16, u16, M, Q>,
+) {
     pending.drain(|message| Some(message));
 }
 
 /// Takes the tests, and counts them.
-fn take_tests(pending: &mut Waiting) -> usize {
+fn take_tests<M: Metadata + Drop, Q: Predicate<u16, u16> + Drop>(
+    pending: &mut Pending<u16, u16, M, Q>,
+) -> usize {
     let mut taken = 0usize;
     pending.drain(|message| match message {
         Message::Retain(_) => {
@@ -128,7 +132,9 @@ fn take_tests(pending: &mut Waiting) -> usize {
 }
 
 /// Takes all that waits: how many tests, and then the batch.
-fn take_all(pending: &mut Waiting) -> (usize, Option<Told>) {
+fn take_all<M: Metadata + Drop, Q: Predicate<u16, u16> + Drop>(
+    pending: &mut Pending<u16, u16, M, Q>,
+) -> (usize, Option<Message<u16, u16, M, Q>>) {
     let mut tests = 0usize;
     let mut batch = None;
     pending.drain(|message| {
@@ -145,18 +151,22 @@ fn take_all(pending: &mut Waiting) -> (usize, Option<Told>) {
     (tests, batch)
 }
 
-fn pop(pending: &mut Waiting) -> Option<Told> {
+fn pop<M: Metadata + Drop, Q: Predicate<u16, u16> + Drop>(
+    pending: &mut Pending<u16, u16, M, Q>,
+) -> Option<Message<u16, u16, M, Q>> {
     pending.pop()
 }
 
-fn is_empty(pending: &Waiting) -> bool {
+fn is_empty<M: Metadata + Drop, Q: Predicate<u16, u16> + Drop>(
+    pending: &Pending<u16, u16, M, Q>,
+) -> bool {
     pending.is_empty()
 }
 
 /// Writes the peers that may be asked.
 fn spell_targets(rt: &impl Abort, text: &mut String, targets: &Targets) {
     let Some(targets) = targets else {
-        return write!(text, " any").expect(rt, "memory");
+        return text.push_str(" any").expect(rt, "memory");
     };
     for peer in targets.as_slice() {
         write!(text, " {peer}").expect(rt, "memory");
@@ -186,7 +196,7 @@ fn spell(rt: &impl Abort, text: &mut String, told: &Option<Told>) {
         Some(Message::Retain(kept)) => {
             write!(text, " from {}", kept.test().0).expect(rt, "memory");
         }
-        None => write!(text, " none").expect(rt, "memory"),
+        None => text.push_str(" none").expect(rt, "memory"),
     }
 }
 
