@@ -3,6 +3,6 @@
 mod calls;
 mod desk;
 mod handle;
-mod mailbox;
+pub mod mailbox;
 mod names;
 mod threads;

@@ -1,5 +1,6 @@
 //! Messages of the tests, and calls on desks and mailboxes as lines.
 
+use crate::asserts::equal_texts;
 use crate::names::All;
 use resolver_base::base::Fault;
 use resolver_ingress::ingress::{FetchKey, Message};
@@ -40,7 +41,7 @@ pub fn spell(rt: &impl Abort, text: &mut String, message: &Told) {
                 spell_item(rt, text, item);
             }
         }
-        Message::Retain(_) => write!(text, " retain").expect(rt, "memory"),
+        Message::Retain(_) => text.push_str(" retain").expect(rt, "memory"),
     }
 }
 
@@ -48,7 +49,7 @@ pub fn spell(rt: &impl Abort, text: &mut String, message: &Told) {
 pub fn spell_all(rt: &impl Abort, text: &mut String, messages: &[Told]) {
     for message in messages {
         spell(rt, text, message);
-        writeln!(text).expect(rt, "memory");
+        text.push('\n').expect(rt, "memory");
     }
 }
 
@@ -65,12 +66,12 @@ fn spell_entry(rt: &impl Abort, text: &mut String, entry: &Entry<u16, u16, (), A
             spell(rt, text, &posted.message);
         }
         Entry::Take(message) => {
-            write!(text, "take").expect(rt, "memory");
+            text.push_str("take").expect(rt, "memory");
             spell(rt, text, message);
         }
-        Entry::Close => write!(text, "close").expect(rt, "memory"),
+        Entry::Close => text.push_str("close").expect(rt, "memory"),
     }
-    writeln!(text).expect(rt, "memory");
+    text.push('\n').expect(rt, "memory");
 }
 
 /// Writes a book, each call on its line.
@@ -78,4 +79,11 @@ pub fn spell_book(rt: &impl Abort, text: &mut String, book: &[Entry<u16, u16, ()
     for entry in book {
         spell_entry(rt, text, entry);
     }
+}
+
+/// Ends the test where a text isn't these pieces, one behind the other.
+pub fn equal_pieces(rt: &impl Abort, found: &String, pieces: &[&str]) {
+    let wanted = pieces.join(*found.allocator(), "").expect(rt, "memory");
+    equal_texts(rt, found.as_str(), wanted.as_str());
+    drop(wanted);
 }

@@ -26,9 +26,9 @@ fn put(
 fn take(rt: &impl Abort, text: &mut String, desk: &mut Desk<u16, u16, (), All>) {
     match desk.take().expect(rt, "memory") {
         Some(message) => spell(rt, text, &message),
-        None => write!(text, " none").expect(rt, "memory"),
+        None => text.push_str(" none").expect(rt, "memory"),
     }
-    writeln!(text).expect(rt, "memory");
+    text.push('\n').expect(rt, "memory");
 }
 
 /// Three puts of two handles, three takes, a close and a put: writes their answers, and then the

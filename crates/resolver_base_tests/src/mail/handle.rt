@@ -1,8 +1,8 @@
 ghost use Rattle.std.specs.Prelude.{◌≡◌, true};
 
-use crate::asserts::equal_texts;
+use crate::mail::calls::equal_pieces;
+use crate::mail::mailbox::next;
 use crate::names::{All, Letter};
-use futures::Stream;
 use futures::task::Poll;
 use futures::test::MockTask;
 use resolver_asking::mailbox::Mailbox;
@@ -135,7 +135,8 @@ fn ask_lists<H>(rt: &impl Abort, text: &mut String, handle: &mut H)
 where
     H: Asks<Key = Letter, Subscriber = u16, Predicate = All>,
 {
-    for keys in [[].as_slice(), [2].as_slice(), [3, 4, 5].as_slice()] {
+    const LISTS: &[&[u8]] = &[&[], &[2], &[3, 4, 5]];
+    for keys in LISTS {
         let fetches = fetches(rt, *text.allocator(), keys);
         let feedback = handle.fetch_all(fetches).expect(rt, "an answer");
         write!(text, " {feedback:?}").expect(rt, "memory");
@@ -147,7 +148,8 @@ fn ask_targeted_lists<H>(rt: &impl Abort, text: &mut String, handle: &mut H)
 where
     H: TargetedResolver<PublicKey = Letter> + Asks<Key = Letter, Subscriber = u16, Predicate = All>,
 {
-    for keys in [[].as_slice(), [7].as_slice(), [8, 9, 10].as_slice()] {
+    const LISTS: &[&[u8]] = &[&[], &[7], &[8, 9, 10]];
+    for keys in LISTS {
         let fetches = fetches_from(rt, *text.allocator(), keys);
         let feedback = handle.fetch_all_targeted(fetches).expect(rt, "an answer");
         write!(text, " {feedback:?}").expect(rt, "memory");
@@ -182,9 +184,9 @@ fn spell<M: Said>(rt: &impl Abort, text: &mut String, message: &Message<Letter, 
                 item.metadata.spell(rt, text);
             }
         }
-        Message::Retain(_) => write!(text, " retain").expect(rt, "memory"),
+        Message::Retain(_) => text.push_str(" retain").expect(rt, "memory"),
     }
-    writeln!(text).expect(rt, "memory");
+    text.push('\n').expect(rt, "memory");
 }
 
 /// Writes what a handle has put.
@@ -194,13 +196,33 @@ fn spell_each<M: Said, N: Naming>(
     share: Option<&Share<Letter, u16, M, All, N>>,
 ) {
     let Some(share) = share else {
-        writeln!(text, "none").expect(rt, "memory");
+        text.push_str("none\n").expect(rt, "memory");
         return;
     };
     writeln!(text, "share {} {}", share.handle(), share.is_closed()).expect(rt, "memory");
     for message in share.puts() {
         spell(rt, text, message);
     }
+}
+
+/// What a poll of a receiver gives.
+type Polled<M> = Poll<Option<Result<Message<Letter, u16, M, All>, Fault>>>;
+
+/// Writes what a poll gives. Whether the receiver may have more.
+fn spell_polled<M: Said>(rt: &impl Abort, text: &mut String, polled: &Polled<M>) -> bool {
+    match polled {
+        Poll::Ready(Some(Ok(message))) => {
+            spell(rt, text, message);
+            return true;
+        }
+        Poll::Ready(Some(Err(fault))) => {
+            writeln!(text, "{}", fault.name()).expect(rt, "memory");
+            return true;
+        }
+        Poll::Ready(None) => text.push_str("end\n").expect(rt, "memory"),
+        Poll::Pending => text.push_str("pending\n").expect(rt, "memory"),
+    }
+    false
 }
 
 /// Writes what the receiver gives, up to the end or where it waits.
@@ -211,19 +233,11 @@ fn spell_taken<M: Metadata + Said + Drop, N: Naming, R: Wait + Drop>(
     receiver: &mut Mail<M, N, R>,
 ) {
     for _ in 0..11_u64 {
-        match task.enter(|cx| receiver.poll_next(cx)) {
-            Poll::Ready(Some(Ok(message))) => spell(rt, text, &message),
-            Poll::Ready(Some(Err(fault))) => {
-                writeln!(text, "{}", fault.name()).expect(rt, "memory");
-            }
-            Poll::Ready(None) => {
-                writeln!(text, "end").expect(rt, "memory");
-                break;
-            }
-            Poll::Pending => {
-                writeln!(text, "pending").expect(rt, "memory");
-                break;
-            }
+        let polled = next(task, receiver);
+        let goes_on = spell_polled(rt, text, &polled);
+        drop(polled);
+        if !goes_on {
+            break;
         }
     }
 }
@@ -236,25 +250,27 @@ fn close_by_clone<H: Handle + Clone + Drop>(rt: &impl Abort, text: &mut String, 
     drop(other);
 }
 
-/// Asks, takes what was put, closes the mailbox, and asks and takes once more.
+/// Asks, takes what was put, closes the mailbox, and asks and takes once more. Both are let go then.
 fn use_both<H, M: Metadata + Said + Drop, N: Naming, R: Wait + Drop>(
     rt: &impl Abort,
     text: &mut String,
     task: &MockTask,
-    handle: &mut H,
-    receiver: &mut Mail<M, N, R>,
+    mut handle: H,
+    mut receiver: Mail<M, N, R>,
 )
 where
     H: Asks<Key = Letter, Subscriber = u16, Predicate = All>,
     H: TargetedResolver<PublicKey = Letter> + Handle + Clone + Drop,
 {
-    ask_each(rt, text, handle);
+    ask_each(rt, text, &mut handle);
     handle.spell_share(rt, text);
-    spell_taken(rt, text, task, receiver);
-    close_by_clone(rt, text, handle);
-    ask_each(rt, text, handle);
+    spell_taken(rt, text, task, &mut receiver);
+    close_by_clone(rt, text, &handle);
+    ask_each(rt, text, &mut handle);
     handle.spell_share(rt, text);
-    spell_taken(rt, text, task, receiver);
+    spell_taken(rt, text, task, &mut receiver);
+    drop(handle);
+    drop(receiver);
 }
 
 /// Puts by a sender of which no handle is made yet, and writes the answer.
@@ -278,15 +294,13 @@ where
     N: Naming + Send + Sync + 'static,
     R: Wait + Copy + Drop + Send + 'static,
 {
-    let (mut sender, mut receiver) = made.expect(rt, "a mailbox");
+    let (mut sender, receiver) = made.expect(rt, "a mailbox");
     put(rt, text, &mut sender);
-    let mut handle: Resolver<Letter, u16, Letter, All, N, R> = Resolver::over(
+    let handle: Resolver<Letter, u16, Letter, All, N, R> = Resolver::over(
         *text.allocator(),
         sender,
     );
-    use_both(rt, text, task, &mut handle, &mut receiver);
-    drop(handle);
-    drop(receiver);
+    use_both(rt, text, task, handle, receiver);
 }
 
 /// The mailbox of an engine that was made is used by a handle of its sender.
@@ -300,15 +314,10 @@ where
     N: Naming + Send + Sync + 'static,
     R: Wait + Copy + Drop + Send + 'static,
 {
-    let (mut sender, mut receiver) = made.expect(rt, "a mailbox");
+    let (mut sender, receiver) = made.expect(rt, "a mailbox");
     put(rt, text, &mut sender);
-    let mut handle: Mailbox<Letter, Letter, u16, All, N, R> = Mailbox::over(
-        *text.allocator(),
-        sender,
-    );
-    use_both(rt, text, task, &mut handle, &mut receiver);
-    drop(handle);
-    drop(receiver);
+    let handle: Mailbox<Letter, Letter, u16, All, N, R> = Mailbox::over(*text.allocator(), sender);
+    use_both(rt, text, task, handle, receiver);
 }
 
 fn recorded_source<N, R>(rt: R, text: &mut String, pages: Pages, task: &MockTask)
@@ -337,22 +346,26 @@ where
     use_engine(&rt, text, task, made);
 }
 
-/// What is seen of a handle whose share lists what was put.
-fn recorded_sight(rt: &impl Abort, alloc: Global, put: &str) -> String {
-    let mut text = String::new(alloc);
-    write!(
-        text,
-        "{OK}share 0 false\n{put}{put}pending\nnone\n{CLOSED}share 0 true\n{put}end\n"
-    )
-    .expect(rt, "memory");
-    text
+/// Ends the test where something else is seen of a handle whose share lists what was put.
+fn is_recorded_sight(rt: &impl Abort, text: &String, put: &str) {
+    let pieces = [
+        OK,
+        "share 0 false\n",
+        put,
+        put,
+        "pending\nnone\n",
+        CLOSED,
+        "share 0 true\n",
+        put,
+        "end\n",
+    ];
+    equal_pieces(rt, text, &pieces);
 }
 
-/// What is seen of a handle that has no share.
-fn sight(rt: &impl Abort, alloc: Global, put: &str) -> String {
-    let mut text = String::new(alloc);
-    write!(text, "{OK}none\n{put}pending\nnone\n{CLOSED}none\nend\n").expect(rt, "memory");
-    text
+/// Ends the test where something else is seen of a handle that has no share.
+fn is_sight(rt: &impl Abort, text: &String, put: &str) {
+    let pieces = [OK, "none\n", put, "pending\nnone\n", CLOSED, "none\nend\n"];
+    equal_pieces(rt, text, &pieces);
 }
 
 #[test]
@@ -360,8 +373,8 @@ fn what_a_source_is_asked_stands_in_the_share(rt: HostRuntime) {
     let task = MockTask::new(&rt).expect(&rt, "a task");
     let mut text = String::new(rt.alloc());
     recorded_source::<Brand, _>(rt, &mut text, Pages::new(), &task);
-    let seen = recorded_sight(&rt, rt.alloc(), PUT);
-    equal_texts(&rt, text.as_str(), seen.as_str());
+    drop(task);
+    is_recorded_sight(&rt, &text, PUT);
 }
 
 #[test]
@@ -369,8 +382,8 @@ fn what_an_engine_is_asked_stands_in_the_share(rt: HostRuntime) {
     let task = MockTask::new(&rt).expect(&rt, "a task");
     let mut text = String::new(rt.alloc());
     recorded_engine::<Brand, _>(rt, &mut text, Pages::new(), &task);
-    let seen = recorded_sight(&rt, rt.alloc(), PUT_TARGETED);
-    equal_texts(&rt, text.as_str(), seen.as_str());
+    drop(task);
+    is_recorded_sight(&rt, &text, PUT_TARGETED);
 }
 
 #[test]
@@ -378,8 +391,9 @@ fn what_is_asked_is_taken(rt: HostRuntime) {
     let (alloc, task) = (rt.alloc(), MockTask::new(&rt).expect(&rt, "a task"));
     let mut text = String::new(alloc);
     use_source(&rt, &mut text, &task, new(rt, alloc, 10));
-    equal_texts(&rt, text.as_str(), sight(&rt, alloc, PUT).as_str());
-    let mut text = String::new(alloc);
+    is_sight(&rt, &text, PUT);
+    text.clear();
     use_engine(&rt, &mut text, &task, new(rt, alloc, 10));
-    equal_texts(&rt, text.as_str(), sight(&rt, alloc, PUT_TARGETED).as_str());
+    is_sight(&rt, &text, PUT_TARGETED);
+    drop(task);
 }

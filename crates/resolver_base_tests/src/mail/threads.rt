@@ -4,7 +4,7 @@ ghost use Rattle.std.specs.Prelude.{◌≡◌, ◌<◌, true};
 
 use crate::asserts::{equal, equal_texts, holds};
 use crate::mail::calls::{Told, fetch};
-use crate::mail::mailbox::{next, puts_in, shares_of};
+use crate::mail::mailbox::{next, shares_of};
 use crate::names::All;
 use futures::task::Poll;
 use futures::test::MockTask;
@@ -101,74 +101,74 @@ fn put_all<N: Naming, R: Wait>(handle: &mut Handle<N, R>, alloc: Global, puts: P
     tally
 }
 
-fn work<N: Naming, R: Wait>(handle: &mut Handle<N, R>, alloc: Global, job: Job) -> Tally {
-    match job {
-        Job::Put(puts) => put_all(handle, alloc, puts),
-        Job::Close => {
-            handle.close();
-            Tally::new()
+/// What a thread works with: a handle, of which it knows no more than this.
+trait Worker {
+    /// A worker at the same mailbox.
+    fn twin(&self, rt: &impl Abort) -> Self;
+
+    fn work(&mut self, alloc: Global, job: Job) -> Tally;
+}
+
+impl<N: Naming, R: Wait + Copy> Worker for Handle<N, R> {
+    fn twin(&self, rt: &impl Abort) -> Self {
+        self.clone().expect(rt, "memory")
+    }
+
+    fn work(&mut self, alloc: Global, job: Job) -> Tally {
+        match job {
+            Job::Put(puts) => put_all(self, alloc, puts),
+            Job::Close => {
+                self.close();
+                Tally::new()
+            }
         }
     }
 }
 
-/// A thread that gives its handle back with what it was answered.
-fn start<N, R>(
-    rt: R,
+/// A thread that gives its worker back with what it was answered.
+fn start<W: Worker + Send + Drop + 'static, R: Abort + Threads>(
+    rt: &R,
     alloc: Global,
-    handle: Handle<N, R>,
+    worker: W,
     job: Job,
-) -> JoinHandle<(Handle<N, R>, Tally)>
-where
-    N: Naming + Send + Sync + 'static,
-    R: Abort + Threads + Wait + Copy + Drop + Send + 'static,
-{
-    let mut handle = handle;
+) -> JoinHandle<(W, Tally)> {
+    let mut worker = worker;
     let work = move || {
-        let tally = work(&mut handle, alloc, job);
-        (handle, tally)
+        let tally = worker.work(alloc, job);
+        (worker, tally)
     };
-    thread::spawn(&rt, work).expect(&rt, "a thread")
+    thread::spawn(rt, work).expect(rt, "a thread")
 }
 
-/// A thread for each job, with a handle of its own.
-fn start_all<N, R>(
-    rt: R,
+/// A thread for each job, with a worker of its own.
+fn start_all<W: Worker + Send + Drop + 'static, R: Abort + Threads>(
+    rt: &R,
     alloc: Global,
-    handle: &Handle<N, R>,
+    worker: &W,
     jobs: &[Job],
-) -> Vec<JoinHandle<(Handle<N, R>, Tally)>>
-where
-    N: Naming + Send + Sync + 'static,
-    R: Abort + Threads + Wait + Copy + Drop + Send + 'static,
-{
+) -> Vec<JoinHandle<(W, Tally)>> {
     let mut running = Vec::new(alloc);
     for job in jobs {
-        let handle = handle.clone().expect(&rt, "memory");
-        running
-            .push(start(rt, alloc, handle, *job))
-            .expect(&rt, "memory");
+        let thread = start(rt, alloc, worker.twin(rt), *job);
+        running.push(thread).expect(rt, "memory");
     }
     running
 }
 
-/// Waits for the threads, and gives their handles, and what they were answered together.
-fn join_all<N, R>(
-    rt: R,
+/// Waits for the threads, and gives their workers, and what they were answered together.
+fn join_all<W: Send + Drop + 'static, R: Abort + Threads>(
+    rt: &R,
     alloc: Global,
-    running: Vec<JoinHandle<(Handle<N, R>, Tally)>>,
-) -> (Vec<Handle<N, R>>, Tally)
-where
-    N: Naming + Send + Sync + 'static,
-    R: Abort + Threads + Wait + Copy + Drop + Send + 'static,
-{
-    let mut handles = Vec::new(alloc);
+    running: Vec<JoinHandle<(W, Tally)>>,
+) -> (Vec<W>, Tally) {
+    let mut workers = Vec::new(alloc);
     let mut all = Tally::new();
     for thread in running {
-        let (handle, tally) = thread.join(&rt);
+        let (worker, tally) = thread.join(rt);
         all = all.plus(tally);
-        handles.push(handle).expect(&rt, "memory");
+        workers.push(worker).expect(rt, "memory");
     }
-    (handles, all)
+    (workers, all)
 }
 
 /// Writes how many fetches a message has, and of the first one the key and how many want it.
@@ -182,9 +182,27 @@ fn spell_size(rt: &impl Abort, text: &mut String, message: &Told) {
                 );
             }
         }
-        Message::Retain(_) => write!(text, "retain").expect(rt, "memory"),
+        Message::Retain(_) => text.push_str("retain").expect(rt, "memory"),
     }
-    writeln!(text).expect(rt, "memory");
+    text.push('\n').expect(rt, "memory");
+}
+
+/// Writes what a poll gives. Whether that was a message.
+fn spell_polled(
+    rt: &impl Abort,
+    text: &mut String,
+    polled: &Poll<Option<Result<Told, Fault>>>,
+) -> bool {
+    match polled {
+        Poll::Ready(Some(Ok(message))) => {
+            spell_size(rt, text, message);
+            return true;
+        }
+        Poll::Ready(Some(Err(_))) => panic!(rt; "the receiver refuses"),
+        Poll::Ready(None) => text.push_str("end\n").expect(rt, "memory"),
+        Poll::Pending => text.push_str("pending\n").expect(rt, "memory"),
+    }
+    false
 }
 
 /// Polls up to the end, and writes what the receiver gives.
@@ -195,26 +213,33 @@ fn take_all<N: Naming, R: Wait + Drop>(
     receiver: &mut Receiver<u16, u16, (), All, N, R>,
 ) {
     for _ in 0..1000_u64 {
-        match next(task, receiver) {
-            Poll::Ready(Some(message)) => spell_size(rt, text, &message.expect(rt, "a message")),
-            Poll::Ready(None) => return writeln!(text, "end").expect(rt, "memory"),
-            Poll::Pending => return writeln!(text, "pending").expect(rt, "memory"),
+        let polled = next(task, receiver);
+        let is_message = spell_polled(rt, text, &polled);
+        drop(polled);
+        if !is_message {
+            return;
         }
     }
 }
 
-/// How many puts stand after the first close of a book, and how many closes it has.
-fn after_the_close(book: &[Entry<u16, u16, (), All>]) -> (u64, u64) {
+/// How many puts a book has, how many of them stand after its first close, and how many closes it has.
+fn counts_of(book: &[Entry<u16, u16, (), All>]) -> (u64, u64, u64) {
     let mut puts = 0u64;
+    let mut after = 0u64;
     let mut closes = 0u64;
     for entry in book {
         match entry {
-            Entry::Put(_) if closes > 0 => puts = puts.saturating_add(1),
+            Entry::Put(_) => {
+                puts = puts.saturating_add(1);
+                if closes > 0 {
+                    after = after.saturating_add(1);
+                }
+            }
+            Entry::Take(_) => {}
             Entry::Close => closes = closes.saturating_add(1),
-            _ => {}
         }
     }
-    (puts, closes)
+    (puts, after, closes)
 }
 
 /// How many puts the shares of some handles hold.
@@ -250,8 +275,7 @@ fn find<N: Naming, R: Wait>(
 ) -> Found {
     let shares = shares_of(rt, alloc, handles);
     let book = receiver.book(alloc, shares.as_slice()).expect(rt, "a book");
-    let (after, closes) = after_the_close(book.as_slice());
-    let booked = puts_in(book.as_slice());
+    let (booked, after, closes) = counts_of(book.as_slice());
     drop(book);
     Found {
         tally,
@@ -301,16 +325,17 @@ where
 {
     let alloc = *text.allocator();
     let task = MockTask::new(&rt).expect(&rt, "a task");
-    let running = start_all(rt, alloc, handle, jobs);
+    let running = start_all(&rt, alloc, handle, jobs);
     for _ in 0..how.polls {
-        let _ = next(&task, receiver);
+        drop(next(&task, receiver));
     }
-    let (handles, tally) = join_all(rt, alloc, running);
+    let (handles, tally) = join_all(&rt, alloc, running);
     if how.closes {
         receiver.close();
     }
     let found = end(&rt, text, &task, handles.as_slice(), receiver, tally);
     drop(handles);
+    drop(task);
     found
 }
 
