@@ -337,26 +337,26 @@ fn copies_wait(rt: HostRuntime) {
     }
 }
 
-/// The copy of what an earlier and a later fetch say together.
-fn merged(rt: &impl Abort, alloc: Global, earlier: &[u16], later: &[u16]) -> String {
+/// Ends the test where the copy of what an earlier and a later fetch say together is something else.
+fn joins(rt: &impl Abort, alloc: Global, earlier: &[u16], later: &[u16], wanted: &str) {
     let mut text = String::new(alloc);
     let mut all = targets(rt, alloc, earlier);
     all.merge(alloc, targets(rt, alloc, later))
         .expect(rt, "memory");
-    spell_targets(rt, &mut text, &all.copy().expect(rt, "memory"));
-    text
+    let copy = all.copy().expect(rt, "memory");
+    spell_targets(rt, &mut text, &copy);
+    drop(copy);
+    drop(all);
+    equal_texts(rt, text.as_str(), wanted);
 }
 
 #[test]
 fn targets_are_joined_and_copied(rt: HostRuntime) {
-    const JOINED: &[(&[u16], &[u16], &str)] = &[
-        (&[2, 3], &[2, 3], " 2 3"),
-        (&[], &[], " any"),
-        (&[5], &[9, 8, 7, 6, 5, 4, 3, 4, 5, 6], " 5 9 8 7 6 4 3"),
-    ];
-    for (earlier, later, seen) in JOINED {
-        equal_texts(&rt, merged(&rt, rt.alloc(), earlier, later).as_str(), seen);
-    }
+    const EARLIER: &[u16] = &[2, 3];
+    const LATER: &[u16] = &[9, 8, 7, 6, 5, 4, 3, 4, 5, 6];
+    joins(&rt, rt.alloc(), EARLIER, EARLIER, " 2 3");
+    joins(&rt, rt.alloc(), &[], &[], " any");
+    joins(&rt, rt.alloc(), &[5], LATER, " 5 9 8 7 6 4 3");
 }
 
 #[test]
