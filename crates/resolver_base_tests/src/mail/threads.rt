@@ -365,10 +365,12 @@ where
     run::<Brand, _>(rt, text, Pages::new(), jobs, how)
 }
 
-/// The wrong answers, the puts that the shares hold and those that the book does, its closes, and the puts
-/// behind them.
-fn numbers_of(found: &Found) -> [u64; 5] {
+/// The answers, those that are wrong, the puts that the shares hold and those that the book does, its closes,
+/// and the puts behind them.
+fn numbers_of(found: &Found) -> [u64; 6] {
+    let taken = found.tally.ok.saturating_add(found.tally.backoff);
     [
+        taken.saturating_add(found.tally.closed),
         found.tally.wrong,
         found.held,
         found.booked,
@@ -402,7 +404,7 @@ fn the_book_holds_what_four_threads_put(rt: HostRuntime) {
         closes: false,
     };
     let found = run_by_itself(rt, &mut text, &jobs, how);
-    equal(&rt, &numbers_of(&found), &[0, 1000, 1000, 0, 0]);
+    equal(&rt, &numbers_of(&found), &[1000, 0, 1000, 1000, 0, 0]);
 }
 
 /// Three threads put while a fourth closes, which is started after this many of them.
@@ -431,8 +433,7 @@ fn closing(rt: HostRuntime) {
         let jobs = closing_after(place);
         let found = run_by_itself(rt, &mut text, &jobs, how);
         let put = found.tally.ok.saturating_add(found.tally.backoff);
-        equal(&rt, &put.saturating_add(found.tally.closed), &300);
-        equal(&rt, &numbers_of(&found), &[0, put, put, 1, 0]);
+        equal(&rt, &numbers_of(&found), &[300, 0, put, put, 1, 0]);
         holds(&rt, text.as_str().ends_with("end\n"));
     }
 }
@@ -458,6 +459,6 @@ fn full_desk(rt: HostRuntime) {
     };
     let found = run_by_itself(rt, &mut text, &jobs, how);
     equal_texts(&rt, text.as_str(), "1 of 7 for 1\n1 of 7 for 999\nend\n");
-    equal(&rt, &(found.tally.ok, found.tally.backoff), &(1, 999));
-    equal(&rt, &numbers_of(&found), &[0, 1000, 1000, 1, 0]);
+    equal(&rt, &[found.tally.ok, found.tally.backoff], &[1, 999]);
+    equal(&rt, &numbers_of(&found), &[1000, 0, 1000, 1000, 1, 0]);
 }
