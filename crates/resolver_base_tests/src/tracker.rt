@@ -3,11 +3,11 @@
 //! A test is a table of calls, and the text of what they answer. A tracker is made, used and dropped in few
 //! places, so that the tests are proved without what a tracker is.
 
-use crate::asserts::equal_texts;
+use crate::asserts::{equal_texts, holds};
+use crate::mail::mailbox::next;
 use crate::names::{Letter, delivery};
 use crate::slow::Slow;
 use bytes::Bytes;
-use futures::Stream;
 use futures::channel::{mpsc, oneshot};
 use futures::task::Poll;
 use futures::test::MockTask;
@@ -15,7 +15,7 @@ use resolver_demand::delivery::{Aborted, Completion};
 use resolver_loop::{Consumer, Tracker, mocks};
 use resolver_root::{Outcome, Resolution};
 use std::alloc::Global;
-use std::fmt::Write;
+use std::fmt::{Debug, Write};
 use std::panic::Expect;
 use std::process::Abort;
 
@@ -30,9 +30,6 @@ type Over = Result<Completion<Letter, u8, Source>, Aborted>;
 type Polled = Poll<Over>;
 
 type Mocked = mocks::Consumer<Letter, Bytes, u8>;
-
-/// A tracker over a consumer that finds every value right at once.
-type Prompt<S> = Tracker<Mocked, Source, S>;
 
 const COMPLETE: Outcome = Outcome::Resolved(Resolution::Complete);
 
@@ -53,7 +50,26 @@ enum Call {
     Look(u8),
 }
 
-// The calls promise nothing, so that their callers are proved without what a tracker is.
+/// A consumer whose trackers are polled.
+trait Judge: Consumer + Sized {
+    /// What the next poll of its tracker gives.
+    fn polled(task: &MockTask, tracker: &mut Tracker<Self, Source, ()>) -> Polled;
+}
+
+impl Judge for Mocked {
+    fn polled(task: &MockTask, tracker: &mut Tracker<Mocked, Source, ()>) -> Polled {
+        task.enter(|cx| tracker.poll_completion(cx))
+    }
+}
+
+impl Judge for Slow {
+    fn polled(task: &MockTask, tracker: &mut Tracker<Slow, Source, ()>) -> Polled {
+        task.enter(|cx| tracker.poll_completion(cx))
+    }
+}
+
+// The calls promise nothing, so that their callers are proved without what a tracker is. They are over any
+// consumer, so that they are proved without what a consumer is.
 
 fn insert<C>(rt: &impl Abort, tracker: &mut Tracker<C, Source, ()>, key: u8) -> bool
 where
@@ -77,56 +93,81 @@ where
     C::Outcome: Drop,
 {
     let delivery = delivery(rt, alloc, key);
-    assert!(rt; tracker.contains(&delivery.key));
-    assert!(rt; tracker.entries().number(&delivery.key).is_none());
+    holds(rt, tracker.contains(&delivery.key));
+    holds(rt, tracker.entries().number(&delivery.key).is_none());
     tracker
         .deliver(delivery, SOURCE, Bytes::from_static(b"v"))
         .expect(rt, "a delivery")
 }
 
-fn redeliver(rt: &impl Abort, alloc: Global, tracker: &mut Prompt<()>, key: u8) -> u64 {
+fn redeliver<C>(
+    rt: &impl Abort,
+    alloc: Global,
+    tracker: &mut Tracker<C, Source, ()>,
+    key: u8,
+) -> u64
+where
+    C: Consumer<Key = Letter, Value = Bytes, Subscriber = u8> + Drop,
+    C::Outcome: Drop,
+{
     let delivery = delivery(rt, alloc, key);
     let entries = tracker.entries();
-    assert!(rt; entries.response(&delivery.key).is_some());
-    assert!(rt; entries.number(&delivery.key).is_none());
+    holds(rt, entries.response(&delivery.key).is_some());
+    holds(rt, entries.number(&delivery.key).is_none());
     tracker.redeliver(delivery).expect(rt, "a delivery")
 }
 
-fn accept(rt: &impl Abort, tracker: &mut Prompt<()>, key: u8) {
-    assert!(rt; tracker.entries().response(&Letter(key)).is_some());
-    tracker.accept_response(&Letter(key));
+fn accept<C>(rt: &impl Abort, tracker: &mut Tracker<C, Source, ()>, key: u8)
+where
+    C: Consumer<Key = Letter, Value = Bytes, Subscriber = u8> + Drop,
+    C::Outcome: Drop,
+{
+    let key = Letter(key);
+    holds(rt, tracker.entries().response(&key).is_some());
+    tracker.accept_response(&key);
 }
 
-fn discard(tracker: &mut Prompt<()>, key: u8) {
+fn discard<C>(tracker: &mut Tracker<C, Source, ()>, key: u8)
+where
+    C: Consumer<Key = Letter, Value = Bytes, Subscriber = u8> + Drop,
+    C::Outcome: Drop,
+{
     tracker.discard_response(&Letter(key));
 }
 
-fn complete(tracker: &mut Prompt<()>, number: u64, verdict: Option<Outcome>) -> Over {
+fn complete<C>(tracker: &mut Tracker<C, Source, ()>, number: u64, verdict: Option<Outcome>) -> Over
+where
+    C: Consumer<Key = Letter, Value = Bytes, Subscriber = u8> + Drop,
+    C::Outcome: Drop,
+{
     tracker.completed(number, verdict)
 }
 
-/// What the next poll gives.
-fn polled_prompt(task: &MockTask, tracker: &mut Prompt<()>) -> Polled {
-    task.enter(|cx| tracker.poll_completion(cx))
-}
-
-fn seen(tracker: &Prompt<()>, key: u8) -> [bool; 3] {
+fn seen<C>(tracker: &Tracker<C, Source, ()>, key: u8) -> [bool; 3]
+where
+    C: Consumer<Key = Letter, Value = Bytes, Subscriber = u8> + Drop,
+    C::Outcome: Drop,
+{
+    let key = Letter(key);
+    let has_response = tracker.entries().response(&key).is_some();
     [
-        tracker.contains(&Letter(key)),
-        tracker.entries().response(&Letter(key)).is_some(),
-        tracker.response_accepted(&Letter(key)),
+        tracker.contains(&key),
+        has_response,
+        tracker.response_accepted(&key),
     ]
 }
 
-/// Writes what a poll gives.
+/// Writes what a poll gives, and lets it go.
 fn spell(rt: &impl Abort, text: &mut String, polled: Polled) {
+    spell_polled(rt, text, &polled);
+    drop(polled);
+}
+
+fn spell_polled(rt: &impl Abort, text: &mut String, polled: &Polled) {
     match polled {
-        Poll::Ready(Ok(completion)) => {
-            spell_completion(rt, text, &completion);
-            drop(completion);
-        }
-        Poll::Ready(Err(Aborted {})) => writeln!(text, "aborted").expect(rt, "memory"),
-        Poll::Pending => writeln!(text, "pending").expect(rt, "memory"),
+        Poll::Ready(Ok(over)) => spell_completion(rt, text, over),
+        Poll::Ready(Err(Aborted {})) => text.push_str("aborted\n").expect(rt, "memory"),
+        Poll::Pending => text.push_str("pending\n").expect(rt, "memory"),
     }
 }
 
@@ -137,52 +178,68 @@ fn spell_completion(rt: &impl Abort, text: &mut String, over: &Completion<Letter
     writeln!(text, " accepted {accepted} of {:?}", over.context).expect(rt, "memory");
 }
 
-fn spell_flag(rt: &impl Abort, text: &mut String, flag: bool) {
-    writeln!(text, "{flag}").expect(rt, "memory");
-}
-
-fn spell_number(rt: &impl Abort, text: &mut String, number: u64) {
-    writeln!(text, "delivery {number}").expect(rt, "memory");
-}
-
-fn spell_seen(rt: &impl Abort, text: &mut String, seen: [bool; 3]) {
-    writeln!(text, "{seen:?}").expect(rt, "memory");
+/// Writes an answer on its line.
+fn answer<T: Debug + Copy>(rt: &impl Abort, text: &mut String, answer: T) {
+    writeln!(text, "{answer:?}").expect(rt, "memory");
 }
 
 /// Makes a call, and writes what it answers.
-fn make(rt: &impl Abort, text: &mut String, task: &MockTask, tracker: &mut Prompt<()>, call: Call) {
+fn make<C>(
+    rt: &impl Abort,
+    text: &mut String,
+    task: &MockTask,
+    tracker: &mut Tracker<C, Source, ()>,
+    call: Call,
+)
+where
+    C: Judge + Consumer<Key = Letter, Value = Bytes, Subscriber = u8> + Drop,
+    C::Outcome: Drop,
+{
     let alloc = *text.allocator();
     match call {
-        Call::Insert(key) => spell_flag(rt, text, insert(rt, tracker, key)),
-        Call::Remove(key) => spell_flag(rt, text, remove(tracker, key)),
-        Call::Deliver(key) => spell_number(rt, text, deliver(rt, alloc, tracker, key)),
-        Call::Redeliver(key) => spell_number(rt, text, redeliver(rt, alloc, tracker, key)),
+        Call::Insert(key) => answer(rt, text, insert(rt, tracker, key)),
+        Call::Remove(key) => answer(rt, text, remove(tracker, key)),
+        Call::Deliver(key) => answer(rt, text, deliver(rt, alloc, tracker, key)),
+        Call::Redeliver(key) => answer(rt, text, redeliver(rt, alloc, tracker, key)),
         Call::Accept(key) => accept(rt, tracker, key),
         Call::Discard(key) => discard(tracker, key),
         Call::Complete(number, verdict) => {
             spell(rt, text, Poll::Ready(complete(tracker, number, verdict)));
         }
-        Call::Poll => spell(rt, text, polled_prompt(task, tracker)),
-        Call::Look(key) => spell_seen(rt, text, seen(tracker, key)),
+        Call::Poll => spell(rt, text, C::polled(task, tracker)),
+        Call::Look(key) => answer(rt, text, seen(tracker, key)),
     }
 }
 
-fn make_all(
+fn make_all<C>(
     rt: &impl Abort,
     text: &mut String,
     task: &MockTask,
-    tracker: &mut Prompt<()>,
+    tracker: &mut Tracker<C, Source, ()>,
     calls: &[Call],
-) {
+)
+where
+    C: Judge + Consumer<Key = Letter, Value = Bytes, Subscriber = u8> + Drop,
+    C::Outcome: Drop,
+{
     for call in calls {
         make(rt, text, task, tracker, *call);
     }
 }
 
+/// A consumer that finds every value right at once.
+fn mocked(rt: &impl Abort, alloc: Global) -> Mocked {
+    Mocked::dummy(alloc).expect(rt, "memory")
+}
+
 /// What the calls of a new tracker answer, each on its line.
-fn told(rt: &impl Abort, alloc: Global, task: &MockTask, calls: &[Call]) -> String {
+fn told<C>(rt: &impl Abort, alloc: Global, task: &MockTask, consumer: C, calls: &[Call]) -> String
+where
+    C: Judge + Consumer<Key = Letter, Value = Bytes, Subscriber = u8> + Drop,
+    C::Outcome: Drop,
+{
     let mut text = String::new(alloc);
-    let mut tracker = Tracker::new(alloc, Mocked::dummy(alloc).expect(rt, "memory"));
+    let mut tracker = Tracker::new(alloc, consumer);
     make_all(rt, &mut text, task, &mut tracker, calls);
     drop(tracker);
     text
@@ -198,10 +255,12 @@ fn inflight_completion(rt: HostRuntime) {
         Call::Look(1),
     ];
     let task = MockTask::new(&rt).expect(&rt, "a task");
+    let text = told(&rt, rt.alloc(), &task, mocked(&rt, rt.alloc()), CALLS);
+    drop(task);
     equal_texts(
         &rt,
-        told(&rt, rt.alloc(), &task, CALLS).as_str(),
-        "true\ndelivery 0\ntrue\n1 Some(Resolved(Complete)) canceled true accepted false of (Letter(4), 0, 1)\n[false, false, false]\n",
+        text.as_str(),
+        "true\n0\ntrue\n1 Some(Resolved(Complete)) canceled true accepted false of (Letter(4), 0, 1)\n[false, false, false]\n",
     );
 }
 
@@ -221,10 +280,12 @@ fn an_accepted_response_is_handed_out_again(rt: HostRuntime) {
         Call::Look(1),
     ];
     let task = MockTask::new(&rt).expect(&rt, "a task");
+    let text = told(&rt, rt.alloc(), &task, mocked(&rt, rt.alloc()), CALLS);
+    drop(task);
     equal_texts(
         &rt,
-        told(&rt, rt.alloc(), &task, CALLS).as_str(),
-        "true\ndelivery 0\n1 Some(Resolved(Complete)) canceled false accepted false of (Letter(4), 0, 1)\n[true, true, false]\n[true, true, true]\ndelivery 1\n1 Some(Ignored) canceled false accepted true of (Letter(4), 0, 1)\npending\n[true, false, false]\n",
+        text.as_str(),
+        "true\n0\n1 Some(Resolved(Complete)) canceled false accepted false of (Letter(4), 0, 1)\n[true, true, false]\n[true, true, true]\n1\n1 Some(Ignored) canceled false accepted true of (Letter(4), 0, 1)\npending\n[true, false, false]\n",
     );
 }
 
@@ -234,62 +295,66 @@ fn next_judge(
     task: &MockTask,
     judges: &mut mpsc::UnboundedReceiver<oneshot::Sender<Outcome>>,
 ) -> oneshot::Sender<Outcome> {
-    match task.enter(|cx| judges.poll_next(cx)) {
+    match next(task, judges) {
         Poll::Ready(Some(judge)) => judge,
         _ => panic!(rt; "the consumer was not asked"),
     }
 }
 
 /// Has three keys delivered.
-fn deliver_three(rt: &impl Abort, alloc: Global, tracker: &mut Tracker<Slow, Source, ()>) {
+fn deliver_three<C>(rt: &impl Abort, alloc: Global, tracker: &mut Tracker<C, Source, ()>)
+where
+    C: Consumer<Key = Letter, Value = Bytes, Subscriber = u8> + Drop,
+    C::Outcome: Drop,
+{
     for key in 1..4 {
         insert(rt, tracker, key);
         deliver(rt, alloc, tracker, key);
     }
 }
 
-/// What the next poll gives.
-fn polled_slow(task: &MockTask, tracker: &mut Tracker<Slow, Source, ()>) -> Polled {
-    task.enter(|cx| tracker.poll_completion(cx))
-}
-
 /// Of three deliveries the second is judged, the first dropped, and the third canceled.
-fn judge_three(
+fn judge_three<C>(
     rt: &impl Abort,
     text: &mut String,
     task: &MockTask,
     judges: &mut mpsc::UnboundedReceiver<oneshot::Sender<Outcome>>,
-    tracker: &mut Tracker<Slow, Source, ()>,
-) {
+    tracker: &mut Tracker<C, Source, ()>,
+)
+where
+    C: Judge + Consumer<Key = Letter, Value = Bytes, Subscriber = u8> + Drop,
+    C::Outcome: Drop,
+{
     deliver_three(rt, *text.allocator(), tracker);
-    spell(rt, text, polled_slow(task, tracker));
+    spell(rt, text, C::polled(task, tracker));
     let first = next_judge(rt, task, judges);
     let second = next_judge(rt, task, judges);
     let third = next_judge(rt, task, judges);
     let _ = second.send(COMPLETE);
-    spell(rt, text, polled_slow(task, tracker));
+    spell(rt, text, C::polled(task, tracker));
     drop(first);
-    spell(rt, text, polled_slow(task, tracker));
+    spell(rt, text, C::polled(task, tracker));
     remove(tracker, 3);
-    spell(rt, text, polled_slow(task, tracker));
-    spell_flag(rt, text, third.is_canceled());
-    spell(rt, text, polled_slow(task, tracker));
+    spell(rt, text, C::polled(task, tracker));
+    answer(rt, text, third.is_canceled());
+    spell(rt, text, C::polled(task, tracker));
+    drop(third);
 }
 
 /// What a tracker tells whose consumer is asked by these.
-fn told_of_three(
+fn told_of_three<C>(
     rt: &impl Abort,
     alloc: Global,
     task: &MockTask,
-    sender: mpsc::UnboundedSender<oneshot::Sender<Outcome>>,
     judges: &mut mpsc::UnboundedReceiver<oneshot::Sender<Outcome>>,
-) -> String {
+    consumer: C,
+) -> String
+where
+    C: Judge + Consumer<Key = Letter, Value = Bytes, Subscriber = u8> + Drop,
+    C::Outcome: Drop,
+{
     let mut text = String::new(alloc);
-    let slow = Slow {
-        alloc,
-        judges: sender,
-    };
-    let mut tracker = Tracker::new(alloc, slow);
+    let mut tracker = Tracker::new(alloc, consumer);
     judge_three(rt, &mut text, task, judges, &mut tracker);
     drop(tracker);
     text
@@ -299,8 +364,13 @@ fn told_of_three(
 fn verdicts_come_in_any_order(rt: HostRuntime) {
     let task = MockTask::new(&rt).expect(&rt, "a task");
     let (sender, mut judges) = mpsc::unbounded(rt.alloc()).expect(&rt, "memory");
-    let text = told_of_three(&rt, rt.alloc(), &task, sender, &mut judges);
+    let slow = Slow {
+        alloc: rt.alloc(),
+        judges: sender,
+    };
+    let text = told_of_three(&rt, rt.alloc(), &task, &mut judges, slow);
     drop(judges);
+    drop(task);
     equal_texts(
         &rt,
         text.as_str(),
@@ -309,7 +379,16 @@ fn verdicts_come_in_any_order(rt: HostRuntime) {
 }
 
 /// Puts a key with a state: whether it was new, and its state then.
-fn put_state(rt: &impl Abort, tracker: &mut Prompt<u32>, key: u8, state: u32) -> (bool, u32) {
+fn put_state<C>(
+    rt: &impl Abort,
+    tracker: &mut Tracker<C, Source, u32>,
+    key: u8,
+    state: u32,
+) -> (bool, u32)
+where
+    C: Consumer<Key = Letter, Value = Bytes, Subscriber = u8> + Drop,
+    C::Outcome: Drop,
+{
     let is_new = tracker
         .insert_state(Letter(key), state)
         .expect(rt, "memory");
@@ -318,30 +397,46 @@ fn put_state(rt: &impl Abort, tracker: &mut Prompt<u32>, key: u8, state: u32) ->
 }
 
 /// How many keys go as those but this one are kept, and whether it stays.
-fn drop_one(tracker: &mut Prompt<u32>, key: u8) -> (usize, bool) {
+fn drop_one<C>(tracker: &mut Tracker<C, Source, u32>, key: u8) -> (usize, bool)
+where
+    C: Consumer<Key = Letter, Value = Bytes, Subscriber = u8> + Drop,
+    C::Outcome: Drop,
+{
     let gone = tracker.retain(|one| one.0 != key);
     (gone, tracker.contains(&Letter(key)))
 }
 
 /// How many keys go as all do, and whether this one stays.
-fn drop_all(tracker: &mut Prompt<u32>, key: u8) -> (usize, bool) {
+fn drop_all<C>(tracker: &mut Tracker<C, Source, u32>, key: u8) -> (usize, bool)
+where
+    C: Consumer<Key = Letter, Value = Bytes, Subscriber = u8> + Drop,
+    C::Outcome: Drop,
+{
     let gone = tracker.drain();
     (gone, tracker.contains(&Letter(key)))
 }
 
 /// Gives keys states, and writes what is answered.
-fn give_states(rt: &impl Abort, text: &mut String, tracker: &mut Prompt<u32>) {
-    for (key, state) in [(1, 20), (1, 30), (2, 40), (3, 40), (4, 40)] {
-        let put = put_state(rt, tracker, key, state);
-        write!(text, "{put:?} ").expect(rt, "memory");
+fn give_states<C>(rt: &impl Abort, text: &mut String, tracker: &mut Tracker<C, Source, u32>)
+where
+    C: Consumer<Key = Letter, Value = Bytes, Subscriber = u8> + Drop,
+    C::Outcome: Drop,
+{
+    const STATES: &[(u8, u32)] = &[(1, 20), (1, 30), (2, 40), (3, 40), (4, 40)];
+    for &(key, state) in STATES {
+        answer(rt, text, put_state(rt, tracker, key, state));
     }
-    let (one, all) = (drop_one(tracker, 2), drop_all(tracker, 1));
-    write!(text, "{one:?} {all:?}").expect(rt, "memory");
+    answer(rt, text, drop_one(tracker, 2));
+    answer(rt, text, drop_all(tracker, 1));
 }
 
-fn told_of_states(rt: &impl Abort, alloc: Global) -> String {
+fn told_of_states<C>(rt: &impl Abort, alloc: Global, consumer: C) -> String
+where
+    C: Consumer<Key = Letter, Value = Bytes, Subscriber = u8> + Drop,
+    C::Outcome: Drop,
+{
     let mut text = String::new(alloc);
-    let mut tracker = Tracker::new(alloc, Mocked::dummy(alloc).expect(rt, "memory"));
+    let mut tracker = Tracker::new(alloc, consumer);
     give_states(rt, &mut text, &mut tracker);
     drop(tracker);
     text
@@ -349,9 +444,10 @@ fn told_of_states(rt: &impl Abort, alloc: Global) -> String {
 
 #[test]
 fn keys_have_a_state(rt: HostRuntime) {
+    let text = told_of_states(&rt, rt.alloc(), mocked(&rt, rt.alloc()));
     equal_texts(
         &rt,
-        told_of_states(&rt, rt.alloc()).as_str(),
-        "(true, 20) (false, 20) (true, 40) (true, 40) (true, 40) (1, false) (3, false)",
+        text.as_str(),
+        "(true, 20)\n(false, 20)\n(true, 40)\n(true, 40)\n(true, 40)\n(1, false)\n(3, false)\n",
     );
 }
