@@ -4,7 +4,7 @@ use crate::asserts::equal_texts;
 use crate::names::All;
 use resolver_base::base::Fault;
 use resolver_ingress::ingress::{FetchKey, Message};
-use resolver_mailbox::mailbox::Entry;
+use resolver_mailbox::mailbox::{Entry, Names, Share};
 use resolver_root::Fetch;
 use std::alloc::Global;
 use std::fmt::Write;
@@ -51,6 +51,20 @@ pub fn spell_all(rt: &impl Abort, text: &mut String, messages: &[Told]) {
         spell(rt, text, message);
         text.push('\n').expect(rt, "memory");
     }
+}
+
+/// Writes the number of a share and whether it is closed, or that there is none, and gives its messages.
+pub fn spell_share<'a, K, S, M, Q, N: Names>(
+    rt: &impl Abort,
+    text: &mut String,
+    share: Option<&'a Share<K, S, M, Q, N>>,
+) -> &'a [Message<K, S, M, Q>] {
+    let Some(share) = share else {
+        text.push_str("none\n").expect(rt, "memory");
+        return &[];
+    };
+    writeln!(text, "share {} {}", share.handle(), share.is_closed()).expect(rt, "memory");
+    share.puts()
 }
 
 /// Writes a call of a book.

@@ -1,6 +1,6 @@
 ghost use Rattle.std.specs.Prelude.{◌≡◌, true};
 
-use crate::mail::calls::equal_pieces;
+use crate::mail::calls::{equal_pieces, spell_share};
 use crate::mail::mailbox::next;
 use crate::names::{All, Letter};
 use futures::task::Poll;
@@ -44,14 +44,14 @@ const PUT_TARGETED: &str = " retain\n 1=10:7\n\n 2=20:7\n 3=30:7 4=40:7 5=50:7\n
 /// What both handles have besides.
 trait Handle {
     /// Writes what it has put.
-    fn spell_share(&self, rt: &impl Abort, text: &mut String);
+    fn spell_puts(&self, rt: &impl Abort, text: &mut String);
 
     /// Closes its mailbox.
     fn shut(&mut self);
 }
 
 impl<N: Naming, R: Wait> Handle for Resolver<Letter, u16, Letter, All, N, R> {
-    fn spell_share(&self, rt: &impl Abort, text: &mut String) {
+    fn spell_puts(&self, rt: &impl Abort, text: &mut String) {
         spell_each(rt, text, self.share());
     }
 
@@ -61,7 +61,7 @@ impl<N: Naming, R: Wait> Handle for Resolver<Letter, u16, Letter, All, N, R> {
 }
 
 impl<N: Naming, R: Wait> Handle for Mailbox<Letter, Letter, u16, All, N, R> {
-    fn spell_share(&self, rt: &impl Abort, text: &mut String) {
+    fn spell_puts(&self, rt: &impl Abort, text: &mut String) {
         spell_each(rt, text, self.share());
     }
 
@@ -195,12 +195,7 @@ fn spell_each<M: Said, N: Naming>(
     text: &mut String,
     share: Option<&Share<Letter, u16, M, All, N>>,
 ) {
-    let Some(share) = share else {
-        text.push_str("none\n").expect(rt, "memory");
-        return;
-    };
-    writeln!(text, "share {} {}", share.handle(), share.is_closed()).expect(rt, "memory");
-    for message in share.puts() {
+    for message in spell_share(rt, text, share) {
         spell(rt, text, message);
     }
 }
@@ -245,7 +240,7 @@ fn spell_taken<M: Metadata + Said + Drop, N: Naming, R: Wait + Drop>(
 /// Closes the mailbox by a clone of a handle, and writes what the clone has put.
 fn close_by_clone<H: Handle + Clone + Drop>(rt: &impl Abort, text: &mut String, handle: &H) {
     let mut other = handle.clone().expect(rt, "memory");
-    other.spell_share(rt, text);
+    other.spell_puts(rt, text);
     other.shut();
     drop(other);
 }
@@ -263,11 +258,11 @@ where
     H: TargetedResolver<PublicKey = Letter> + Handle + Clone + Drop,
 {
     ask_each(rt, text, &mut handle);
-    handle.spell_share(rt, text);
+    handle.spell_puts(rt, text);
     spell_taken(rt, text, task, &mut receiver);
     close_by_clone(rt, text, &handle);
     ask_each(rt, text, &mut handle);
-    handle.spell_share(rt, text);
+    handle.spell_puts(rt, text);
     spell_taken(rt, text, task, &mut receiver);
     drop(handle);
     drop(receiver);

@@ -1,7 +1,7 @@
 ghost use Rattle.std.specs.Prelude.{◌≡◌, ◌<◌, true};
 
 use crate::asserts::equal_texts;
-use crate::mail::calls::{Told, equal_pieces, fetch, spell, spell_all, spell_book};
+use crate::mail::calls::{Told, equal_pieces, fetch, spell, spell_all, spell_book, spell_share};
 use crate::names::All;
 use futures::task::Poll;
 use futures::test::MockTask;
@@ -82,16 +82,13 @@ fn poll<N: Naming, R: Wait + Drop>(
 }
 
 /// Writes the share of a handle: its number, its mark, and its messages.
-fn spell_share<N: Naming>(
+fn spell_whole<N: Naming>(
     rt: &impl Abort,
     text: &mut String,
     share: Option<&Share<u16, u16, (), All, N>>,
 ) {
-    let Some(share) = share else {
-        return text.push_str("none\n").expect(rt, "memory");
-    };
-    writeln!(text, "share {} {}", share.handle(), share.is_closed()).expect(rt, "memory");
-    spell_all(rt, text, share.puts());
+    let puts = spell_share(rt, text, share);
+    spell_all(rt, text, puts);
 }
 
 /// Two handles put, the receiver takes, the mailbox is closed, and the first handle puts again:
@@ -104,8 +101,8 @@ fn row<N: Naming, R: Wait + Drop>(
     second: &mut Sender<u16, u16, (), All, N, R>,
     receiver: &mut Receiver<u16, u16, (), All, N, R>,
 ) {
-    spell_share(rt, text, first.share());
-    spell_share(rt, text, second.share());
+    spell_whole(rt, text, first.share());
+    spell_whole(rt, text, second.share());
     put(rt, text, first, (1, 10, 7));
     put(rt, text, first, (2, 20, 8));
     put(rt, text, second, (2, 21, 9));
@@ -140,8 +137,8 @@ fn show<N: Naming, R: Wait>(
     second: Option<&Share<u16, u16, (), All, N>>,
     receiver: &Receiver<u16, u16, (), All, N, R>,
 ) {
-    spell_share(rt, text, first);
-    spell_share(rt, text, second);
+    spell_whole(rt, text, first);
+    spell_whole(rt, text, second);
     text.push_str("taken\n").expect(rt, "memory");
     spell_all(rt, text, receiver.taken());
     spell_lent(rt, text, receiver, &[]);
