@@ -45,13 +45,20 @@ where
     requires takes { pages.takes.name ≡ N.takes }
 {
     let (first, mut taker): (Putter<N, R>, Taker<N, R>) = mailbox::recorded(rt, alloc, pages, 2)?;
-    let (one, other) = put_by_two(&rt, alloc, first)?;
+    let (one, other) = match put_by_two(&rt, alloc, first) {
+        Ok(putters) => putters,
+        Err(error) => {
+            drop(taker);
+            return Err(error);
+        }
+    };
     taker.close();
-    let counted = count(&rt, alloc, (&one, &other), &mut taker);
+    let keys = take_all(&rt, &mut taker);
+    let puts = puts_booked(alloc, &one, &other, &taker);
     drop(one);
     drop(other);
     drop(taker);
-    counted
+    Ok((keys?, puts?))
 }
 
 /// Has two threads put, and hands their handles back once both are done.
@@ -68,18 +75,6 @@ where
     let one = thread::spawn(rt, move || put_all(first, alloc, 0))?;
     let other = thread::spawn(rt, move || put_all(second, alloc, 100))?;
     Ok((one.join(rt)?, other.join(rt)?))
-}
-
-/// Counts the keys that wait, and the puts of both handles that the book has.
-fn count<N: Naming, R: AllocGlobal + Wait + RandomSource + Drop>(
-    rt: &R,
-    alloc: Global,
-    handles: (&Putter<N, R>, &Putter<N, R>),
-    taker: &mut Taker<N, R>,
-) -> Result<(u64, usize)> {
-    let keys = take_all(rt, taker)?;
-    let puts = puts_booked(alloc, handles.0, handles.1, taker)?;
-    Ok((keys, puts))
 }
 
 /// Puts fetches of 50 keys from the first one on, and hands the handle back.
@@ -130,10 +125,7 @@ fn puts_booked<N: Naming, R: Wait>(
     other: &Putter<N, R>,
     taker: &Taker<N, R>,
 ) -> Result<usize> {
-    let Some(first) = one.share() else {
-        bail!("a handle without a share");
-    };
-    let Some(second) = other.share() else {
+    let (Some(first), Some(second)) = (one.share(), other.share()) else {
         bail!("a handle without a share");
     };
     let book = taker.book(alloc, &[first, second])?;
