@@ -39,26 +39,33 @@ where
 {
     let alloc = rt.alloc();
     let (told, mut seen) = mpsc::unbounded(alloc)?;
-    let taken = work(rt, alloc, &told)?;
-    print_seen(rt, &mut seen)?;
-    if let Some((key, value)) = taken {
-        println!(rt; "took {value:?} as {key}")?;
-    }
-    Ok(())
+    let shown = match work(rt, alloc, &told) {
+        Ok(taken) => {
+            let shown = print(&rt, &mut seen, &taken);
+            drop(taken);
+            shown
+        }
+        Err(error) => Err(error),
+    };
+    drop(told);
+    drop(seen);
+    shown
 }
 
-/// Prints what was seen, up to the last of it.
-fn print_seen<R: Print + Copy + Drop>(
-    rt: R,
+/// Prints what was seen, up to the last of it, and what was taken.
+fn print(
+    rt: &impl Print,
     seen: &mut mpsc::UnboundedReceiver<Seen>,
+    taken: &Option<(Key, Bytes)>,
 ) -> Result<()> {
     for _ in 0..10 {
         match seen.try_recv() {
-            Ok(Seen::Asked(peer)) => println!(rt; "asked {}", peer.0)?,
-            Ok(Seen::Answered(peer)) => println!(rt; "{} answered", peer.0)?,
-            Ok(Seen::Blocked(peer)) => println!(rt; "blocked {}", peer.0)?,
+            Ok(next) => println!(rt; "{next}")?,
             Err(_) => break,
         }
+    }
+    if let Some((key, value)) = taken {
+        println!(rt; "took {value:?} as {key}")?;
     }
     Ok(())
 }
@@ -72,9 +79,8 @@ where
     let wrong = answer(rt, alloc, wrong, b"wrong")?;
     let right = answer(rt, alloc, right, b"right")?;
     let taken = ask(rt, alloc, own, told);
-    end(&rt, wrong)?;
-    end(&rt, right)?;
-    taken
+    let ended = end(&rt, wrong).and(end(&rt, right));
+    ended.and(taken)
 }
 
 /// Runs an engine that asks for key 7, until the consumer has taken a value.
@@ -98,8 +104,7 @@ where
     let mut running = begin(rt, alloc, (sets, guard), hands, net)?;
     let value = take(rt, &mut running, &mut taken);
     drop(taken);
-    end(&rt, running)?;
-    value
+    end(&rt, running).and(value)
 }
 
 /// Asks a running engine for key 7, and waits for what the consumer has found right.

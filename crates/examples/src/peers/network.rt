@@ -8,6 +8,7 @@ use futures::channel::mpsc;
 use futures::task::{Context, Poll};
 use resolver::base::{Check, Faithful, Feedback, PublicKey, Receiver, Sender, Unreliable};
 use std::alloc::{AllocError, Global};
+use std::fmt;
 
 /// A name of an engine.
 #[derive(Clone, Copy, PartialEq, Eq, PartialOrd, Ord, Hash)]
@@ -25,6 +26,16 @@ pub enum Seen {
     Asked(Peer),
     Answered(Peer),
     Blocked(Peer),
+}
+
+impl fmt::Display for Seen {
+    fn fmt<W: fmt::Write>(&self, f: &mut fmt::Formatter<W>) -> fmt::Result {
+        match self {
+            Seen::Asked(peer) => write!(f, "asked {}", peer.0),
+            Seen::Answered(peer) => write!(f, "{} answered", peer.0),
+            Seen::Blocked(peer) => write!(f, "blocked {}", peer.0),
+        }
+    }
 }
 
 /// Where it is told.
