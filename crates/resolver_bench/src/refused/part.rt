@@ -188,6 +188,6 @@ pub fn note_all(text: &mut String, numbers: &[u128]) -> Result<(), Fault> {
 pub fn note_if_any(text: &mut String, number: Option<u128>) -> Result<(), Fault> {
     match number {
         Some(number) => note(text, number),
-        None => Ok(write!(text, " none")?),
+        None => Ok(text.push_str(" none")?),
     }
 }

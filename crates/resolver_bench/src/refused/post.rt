@@ -292,11 +292,11 @@ fn shows<N: Naming, R: Wait>(
 /// Writes the shares of both handles, what was taken, and the book.
 fn spell_mail<N: Naming, R: Wait>(text: &mut String, mail: &Mail<N, R>) -> Result<(), Fault> {
     spell_share(text, mail.first.share())?;
-    write!(text, ";")?;
+    text.push_str(";")?;
     spell_share(text, mail.second.share())?;
-    write!(text, ";")?;
+    text.push_str(";")?;
     spell_all(text, mail.taker.taken())?;
-    write!(text, ";")?;
+    text.push_str(";")?;
     spell_book_of(text, mail)
 }
 
@@ -305,7 +305,7 @@ fn spell_shown(text: &mut String, shown: Shown) -> Result<(), Fault> {
     let (first, second, taken, calls) = shown;
     write!(text, "{first};{second};{taken};")?;
     for call in BOOK.iter().take(calls) {
-        write!(text, "{call}")?;
+        text.push_str(call)?;
     }
     Ok(())
 }

@@ -15,7 +15,7 @@ pub fn spell_share<N: Naming>(
     share: Option<&Share<u16, u16, (), All, N>>,
 ) -> Result<(), Fault> {
     let Some(share) = share else {
-        return Ok(write!(text, "none")?);
+        return Ok(text.push_str("none")?);
     };
     let (handle, is_closed) = (share.handle(), share.is_closed());
     write!(text, "{handle} {is_closed}")?;
@@ -47,17 +47,17 @@ fn spell_entry(text: &mut String, entry: &Entry<u16, u16, (), All>) -> Result<()
             spell(text, &posted.message)
         }
         Entry::Take(message) => {
-            write!(text, " take")?;
+            text.push_str(" take")?;
             spell(text, message)
         }
-        Entry::Close => Ok(write!(text, " close")?),
+        Entry::Close => Ok(text.push_str(" close")?),
     }
 }
 
 /// Writes a message: the keys of its fetches, each with its subscribers and their marks.
 pub fn spell(text: &mut String, message: &Told) -> Result<(), Fault> {
     let Message::Fetch(items) = message else {
-        return Ok(write!(text, " retain")?);
+        return Ok(text.push_str(" retain")?);
     };
     for item in items {
         let key = item.key;
