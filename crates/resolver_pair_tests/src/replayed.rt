@@ -1,5 +1,6 @@
 //! Scripts, and what they print.
 
+use crate::asserting::assert_same;
 use log::sink::Memory;
 use resolver_script::endings::{Ending, Fault};
 use resolver_script::replay::run;
@@ -140,18 +141,23 @@ fn assert_prints(
     expected: (&[u8], Result<Ending, Fault>),
 ) {
     let (output, ended) = replayed_so(rt, alloc, script, ways);
-    assert_eq!(rt; output.taken.as_slice(), expected.0, "{script:?}");
-    assert_eq!(rt; ended, expected.1, "{script:?}");
+    assert_same(rt, (output.taken.as_slice(), ended), expected, script);
+    drop(output);
+}
+
+fn assert_text(rt: &impl Abort, name: &str, found: &[u8], expected: &[u8]) {
+    if found != expected {
+        let printed = str::from_utf8(found);
+        panic!(rt; "{name}: {printed:?}");
+    }
 }
 
 /// That all of a script is read, and that it prints this.
 fn assert_printed(rt: &impl Abort, alloc: Global, name: &str, script: &[u8], expected: &[u8]) {
     let (output, ended) = replayed(rt, alloc, script);
-    if output.as_slice() != expected {
-        let printed = str::from_utf8(&output);
-        panic!(rt; "{name}: {printed:?}");
-    }
-    assert_eq!(rt; ended, Ok(Ending::End), "{name}");
+    assert_text(rt, name, output.as_slice(), expected);
+    assert_same(rt, ended, Ok(Ending::End), name);
+    drop(output);
 }
 
 /// Worked rows, and what they leave out: a name, a script, and what it prints.
@@ -308,37 +314,38 @@ const UNREADABLE_OPENINGS: &[(&[u8], &[u8])] = &[
     ),
 ];
 
-/// Scripts with another line that can't be read, and what they print.
-const UNREADABLE: &[(&[u8], &[u8])] = &[
-    (b"opaque 1\n \nshow\n", b"line 2 unreadable\n"),
-    (b"opaque 1\n # no comment\n", b"line 2 unreadable\n"),
-    (b"opaque 1\nshow all\n", b"line 2 unreadable\n"),
-    (b"opaque 1\n\xff\n", b"line 2 unreadable\n"),
-    (b"opaque 1\nat\n", b"line 2 unreadable\n"),
-    (b"opaque 1\nat 1 2\n", b"line 2 unreadable\n"),
-    (b"opaque 1\nfetch 1 10\n", b"line 2 unreadable\n"),
-    (b"opaque 1\nfetch 256 10 7\n", b"line 2 unreadable\n"),
-    (b"opaque 1\nfetch 1 65536 7\n", b"line 2 unreadable\n"),
-    (
-        b"opaque 1\nfetch 1 10 18446744073709551616\n",
-        b"line 2 unreadable\n",
-    ),
-    (b"opaque 1\nfetch 1 10 7 3\n", b"line 2 unreadable\n"),
-    (b"opaque 1\nfetched 0\n", b"line 2 unreadable\n"),
-    (b"opaque 1\nfetched 0 68\n", b"line 2 unreadable\n"),
-    (b"opaque 1\nfetched 0 x6\n", b"line 2 unreadable\n"),
-    (b"opaque 1\nfetched 0 X68\n", b"line 2 unreadable\n"),
-    (b"opaque 1\nfetched 0 xg0\n", b"line 2 unreadable\n"),
-    (b"opaque 1\nfetched 0 none none\n", b"line 2 unreadable\n"),
-    (b"opaque 1\nverdict 0\n", b"line 2 unreadable\n"),
-    (b"opaque 1\nverdict 0 Complete\n", b"line 2 unreadable\n"),
-    (b"opaque 1\nverdict x complete\n", b"line 2 unreadable\n"),
-    (b"opaque 1\nwake 5\n", b"line 2 unreadable\n"),
-    (b"opaque 1\nstop now\n", b"line 2 unreadable\n"),
-    (b"opaque 1\nkeep-sub\n", b"line 2 unreadable\n"),
-    (b"opaque 1\nkeep-sub 65536\n", b"line 2 unreadable\n"),
-    (b"opaque 1\ndrop-key 256\n", b"line 2 unreadable\n"),
-    (b"opaque 1\nnet 4 x00\n", b"line 2 unreadable\n"),
+/// Scripts whose second line can't be read, up to what is fetched.
+const UNREADABLE_FETCHES: &[&[u8]] = &[
+    b"opaque 1\n \nshow\n",
+    b"opaque 1\n # no comment\n",
+    b"opaque 1\nshow all\n",
+    b"opaque 1\n\xff\n",
+    b"opaque 1\nat\n",
+    b"opaque 1\nat 1 2\n",
+    b"opaque 1\nfetch 1 10\n",
+    b"opaque 1\nfetch 256 10 7\n",
+    b"opaque 1\nfetch 1 65536 7\n",
+    b"opaque 1\nfetch 1 10 18446744073709551616\n",
+    b"opaque 1\nfetch 1 10 7 3\n",
+];
+
+/// The same of what is answered and told later.
+const UNREADABLE_ANSWERS: &[&[u8]] = &[
+    b"opaque 1\nfetched 0\n",
+    b"opaque 1\nfetched 0 68\n",
+    b"opaque 1\nfetched 0 x6\n",
+    b"opaque 1\nfetched 0 X68\n",
+    b"opaque 1\nfetched 0 xg0\n",
+    b"opaque 1\nfetched 0 none none\n",
+    b"opaque 1\nverdict 0\n",
+    b"opaque 1\nverdict 0 Complete\n",
+    b"opaque 1\nverdict x complete\n",
+    b"opaque 1\nwake 5\n",
+    b"opaque 1\nstop now\n",
+    b"opaque 1\nkeep-sub\n",
+    b"opaque 1\nkeep-sub 65536\n",
+    b"opaque 1\ndrop-key 256\n",
+    b"opaque 1\nnet 4 x00\n",
 ];
 
 /// Whether a script ended with a line that can't be read, and so with status 2.
@@ -352,8 +359,9 @@ fn is_unreadable(ended: Result<Ending, Fault>) -> bool {
 /// That a script ends with a line that can't be read, once it printed this.
 fn assert_unread(rt: &impl Abort, alloc: Global, script: &[u8], printed: &[u8]) {
     let (output, ended) = replayed(rt, alloc, script);
-    assert_eq!(rt; output.as_slice(), printed, "{script:?}");
-    assert!(rt; is_unreadable(ended), "{script:?}");
+    let found = (output.as_slice(), is_unreadable(ended));
+    assert_same(rt, found, (printed, true), script);
+    drop(output);
 }
 
 // The first line that can't be read ends the script, and is named.
@@ -364,11 +372,16 @@ fn unreadable_openings(rt: HostRuntime) {
     }
 }
 
+fn assert_second_unread(rt: &impl Abort, alloc: Global, scripts: &[&[u8]]) {
+    for &script in scripts {
+        assert_unread(rt, alloc, script, b"line 2 unreadable\n");
+    }
+}
+
 #[test]
 fn unreadable_lines(rt: HostRuntime) {
-    for &(script, printed) in UNREADABLE {
-        assert_unread(&rt, rt.alloc(), script, printed);
-    }
+    assert_second_unread(&rt, rt.alloc(), UNREADABLE_FETCHES);
+    assert_second_unread(&rt, rt.alloc(), UNREADABLE_ANSWERS);
     assert_eq!(rt; Ending::End.status(), 0);
 }
 
@@ -401,8 +414,9 @@ const TWO_FETCHES: &[u8] = b"opaque 1\nfetch 1 10 7\n\nfetch 2 10 7\n";
 /// That two fetches are printed to their end, flushed where so much was printed.
 fn assert_flushes(rt: &impl Abort, alloc: Global, ways: Ways, flushes: &[usize]) {
     let (output, ended) = replayed_so(rt, alloc, TWO_FETCHES, ways);
-    assert_eq!(rt; ended, Ok(Ending::End));
-    assert_eq!(rt; output.flushes.as_slice(), flushes);
+    let found = (output.flushes.as_slice(), ended);
+    assert_same(rt, found, (flushes, Ok(Ending::End)), TWO_FETCHES);
+    drop(output);
 }
 
 // What is executed is printed before more input is waited for.
@@ -427,23 +441,25 @@ fn traced(rt: &impl Abort, alloc: Global) -> (String, Result<Ending, Fault>) {
     let (output, ended) = run_so(rt, alloc, &log, TWO_FETCHES, WHOLE);
     drop(output);
     let mut said = String::new(alloc);
-    for line in log.into_lines().as_slice() {
+    let lines = log.into_lines();
+    for line in lines.as_slice() {
         said.push_str(line.as_str()).expect(rt, "memory");
         said.push('\n').expect(rt, "memory");
     }
+    drop(lines);
     (said, ended)
 }
 
-// A line that is skipped isn't traced.
+/// What two fetches trace. A line that is skipped isn't traced.
+const TRACED: &str = "[TRACE resolver_script::replay] line 1
+[TRACE resolver_script::replay] line 2
+[TRACE resolver_script::replay] line 4
+";
+
 #[test]
 fn lines_that_are_traced(rt: HostRuntime) {
     let (said, ended) = traced(&rt, rt.alloc());
-    assert_eq!(rt; ended, Ok(Ending::End));
-    assert_eq!(rt;
-        said.as_str(),
-        "[TRACE resolver_script::replay] line 1
-[TRACE resolver_script::replay] line 2
-[TRACE resolver_script::replay] line 4
-"
-    );
+    let found = (said.as_str(), ended);
+    assert_same(&rt, found, (TRACED, Ok(Ending::End)), TWO_FETCHES);
+    drop(said);
 }

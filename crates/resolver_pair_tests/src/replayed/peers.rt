@@ -1,6 +1,6 @@
 //! Scripts of the engine, which fetches from peers.
 
-use super::worked::{ASKED, DELIVERED, NOTHING, print_as_worked};
+use super::worked::{ASKED, DELIVERED, NOTHING, print_as_worked, put_line};
 use super::*;
 
 /// Worked rows: a name, what stands before, and the script.
@@ -208,12 +208,12 @@ fn ten_thousand_requests(rt: HostRuntime) {
 fn many_requests(rt: &impl Abort, alloc: Global) -> (Vec<u8>, Vec<u8>) {
     let mut script = Vec::new(alloc);
     let mut printed = Vec::new(alloc);
-    writeln!(script, "p2p 9 50 10").expect(rt, "memory");
+    put_line(rt, &mut script, "p2p 9 50 10");
     for serve in 0..10_000_u64 {
-        writeln!(script, "net 3 x0000000000000007007b").expect(rt, "memory");
+        put_line(rt, &mut script, "net 3 x0000000000000007007b");
         writeln!(printed, "produce {serve} 123").expect(rt, "memory");
     }
-    writeln!(script, "served 9999 dropped").expect(rt, "memory");
-    writeln!(printed, "reply 3 x000000000000000702").expect(rt, "memory");
+    put_line(rt, &mut script, "served 9999 dropped");
+    put_line(rt, &mut printed, "reply 3 x000000000000000702");
     (script, printed)
 }

@@ -28,8 +28,8 @@ const OPENINGS: &[&[u8]] = &[
     b"drawn 0",
 ];
 
-/// Lines that an engine can't be told.
-const OF_NO_ENGINE: &[&[u8]] = &[
+/// Lines that an engine can't be told: those of the other machine, and fetches.
+const FETCHES: &[&[u8]] = &[
     b"p2p 9 50 10",
     b"opaque 1",
     b"fetched 0 none",
@@ -49,6 +49,10 @@ const OF_NO_ENGINE: &[&[u8]] = &[
     b"fetch 256 10 7 3",
     b"fetch 1 65536 7 3",
     b"fetch 1 10 18446744073709551616 3",
+];
+
+/// Lines of peers.
+const PEERS: &[&[u8]] = &[
     b"peers",
     b"peers 1",
     b"peers 1 ",
@@ -64,6 +68,10 @@ const OF_NO_ENGINE: &[&[u8]] = &[
     b"blocked 256",
     b"blocked 3 4",
     b"blocked none",
+];
+
+/// Lines of messages and of what is served.
+const MESSAGES: &[&[u8]] = &[
     b"net 4",
     b"net 4 ",
     b"net 4 00",
@@ -79,6 +87,10 @@ const OF_NO_ENGINE: &[&[u8]] = &[
     b"served dropped",
     b"served 0 dropped x",
     b"served 18446744073709551616 x",
+];
+
+/// Lines that answer what a scan asks.
+const ANSWERS: &[&[u8]] = &[
     b"drawn",
     b"drawn -1",
     b"drawn 00",
@@ -93,6 +105,10 @@ const OF_NO_ENGINE: &[&[u8]] = &[
     b"sent yes",
     b"sent Accepted",
     b"sent accepted now",
+];
+
+/// Other lines.
+const OTHERS: &[&[u8]] = &[
     b"timeout 5",
     b"wake 5",
     b"verdict 0",
@@ -127,28 +143,37 @@ const OF_NO_ACTOR: &[&[u8]] = &[
 
 #[test]
 fn openings(rt: HostRuntime) {
-    for &line in OPENINGS {
-        assert_unreadable(&rt, rt.alloc(), b"", line, b"line 1 unreadable\n");
-    }
+    assert_all(&rt, rt.alloc(), OPENINGS, b"", b"line 1 unreadable\n");
 }
 
 #[test]
 fn of_no_engine(rt: HostRuntime) {
-    for &line in OF_NO_ENGINE {
-        assert_unreadable(
-            &rt,
-            rt.alloc(),
-            b"p2p 9 50 10\n",
-            line,
-            b"line 2 unreadable\n",
-        );
-    }
+    assert_no_engine(&rt, rt.alloc(), FETCHES);
+    assert_no_engine(&rt, rt.alloc(), PEERS);
+    assert_no_engine(&rt, rt.alloc(), MESSAGES);
+    assert_no_engine(&rt, rt.alloc(), ANSWERS);
+    assert_no_engine(&rt, rt.alloc(), OTHERS);
 }
 
 #[test]
 fn of_no_actor(rt: HostRuntime) {
-    for &line in OF_NO_ACTOR {
-        assert_unreadable(&rt, rt.alloc(), b"opaque 1\n", line, b"line 2 unreadable\n");
+    assert_all(
+        &rt,
+        rt.alloc(),
+        OF_NO_ACTOR,
+        b"opaque 1\n",
+        b"line 2 unreadable\n",
+    );
+}
+
+fn assert_no_engine(rt: &impl Abort, alloc: Global, lines: &[&[u8]]) {
+    assert_all(rt, alloc, lines, b"p2p 9 50 10\n", b"line 2 unreadable\n");
+}
+
+/// Each line behind this beginning ends the script, which prints this.
+fn assert_all(rt: &impl Abort, alloc: Global, lines: &[&[u8]], before: &[u8], printed: &[u8]) {
+    for &line in lines {
+        assert_unreadable(rt, alloc, before, line, printed);
     }
 }
 

@@ -1,6 +1,7 @@
 //! Why lines can't be read.
 
 use super::*;
+use resolver_script::endings::Place;
 
 /// Scripts with a line that can't be read, and what is said of it.
 const SAID: &[(&[u8], &str)] = &[
@@ -59,14 +60,20 @@ const SAID: &[(&[u8], &str)] = &[
     (b"p2p 9 50 10\nsent\n", "line 2: field 2: missing"),
 ];
 
+/// Where a script can't be read, and why.
+fn place_of(rt: &impl Abort, ended: Result<Ending, Fault>) -> Place {
+    match ended {
+        Ok(Ending::Unreadable(place)) => place,
+        _ => panic!(rt; "an unreadable line"),
+    }
+}
+
 fn assert_says(rt: &impl Abort, alloc: Global, script: &[u8], said: &str) {
     let (output, ended) = replayed(rt, alloc, script);
     drop(output);
-    let Ok(Ending::Unreadable(place)) = ended else {
-        panic!(rt; "an unreadable line");
-    };
-    let text = format!(in alloc; "{place}").expect(rt, "memory");
-    assert_eq!(rt; text.as_str(), said);
+    let text = format!(in alloc; "{}", place_of(rt, ended)).expect(rt, "memory");
+    assert_same(rt, text.as_str(), said, script);
+    drop(text);
 }
 
 #[test]

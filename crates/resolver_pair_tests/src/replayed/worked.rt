@@ -55,17 +55,23 @@ fn add_lines(rt: &impl Abort, text: &str, script: &mut Vec<u8>, printed: &mut Ve
 }
 
 fn add_line(rt: &impl Abort, line: &str, script: &mut Vec<u8>, printed: &mut Vec<u8>) {
-    let Some((said, answers)) = line.split_once(" => ") else {
-        put_line(rt, script, line);
-        return;
-    };
-    put_line(rt, script, said);
+    match line.split_once(" => ") {
+        Some((said, answers)) => {
+            put_line(rt, script, said);
+            add_answers(rt, answers, printed);
+        }
+        None => put_line(rt, script, line),
+    }
+}
+
+fn add_answers(rt: &impl Abort, answers: &str, printed: &mut Vec<u8>) {
     for answer in answers.split(" / ") {
         put_line(rt, printed, answer);
     }
 }
 
-fn put_line(rt: &impl Abort, lines: &mut Vec<u8>, line: &str) {
+/// Adds a line, with its LF.
+pub fn put_line(rt: &impl Abort, lines: &mut Vec<u8>, line: &str) {
     lines
         .extend_from_slice(line.as_bytes())
         .expect(rt, "memory");
