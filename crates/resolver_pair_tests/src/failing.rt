@@ -1,8 +1,8 @@
 //! Checks that say Until, and sends that are refused: for each place of these in a run that fetches three
 //! keys from three peers.
 
-use crate::pair::{Pair, Side, make_pair};
-use crate::twin::{Counts, Twin};
+use crate::pair::{Acts, Play, judge_end, with_pairs};
+use crate::twin::{Counts, Hands, NONE, asked_in, message};
 use resolver::{Outcome, Resolution};
 use resolver_fakes::acts::Act;
 use resolver_fakes::seen::Wrong;
@@ -70,44 +70,72 @@ fn answers(tenth: u64) -> &'static [(u8, bool)] {
     }
 }
 
-/// Fails unless every key was delivered once.
-fn judge(rt: &(impl Abort + Print), twin: &mut Twin) {
-    twin.hands.delivered.sort().expect(rt, "memory");
-    if twin.hands.delivered.as_slice() != DELIVERED {
-        twin.hands.fail(rt, "a key was not delivered once");
+/// What is wrong unless every key was delivered once, and each earned one credit.
+fn complaint(rt: &impl Abort, hands: &mut Hands) -> Option<&'static str> {
+    hands.delivered.sort().expect(rt, "memory");
+    if hands.delivered.as_slice() != DELIVERED {
+        return Some("a key was not delivered once");
     }
-    if !twin.has_no_row(rt) || twin.hands.counts.credits != 3 {
-        twin.hands
-            .fail(rt, "a key is left, or a response without its credit");
+    if hands.counts.credits != 3 {
+        return Some("a response without its credit");
     }
+    None
 }
 
 /// Three keys, each delivered once.
 const DELIVERED: &[(u8, u16)] = &[(1, 10), (2, 10), (3, 10)];
 
+/// The peer that is asked for a key answers with the id and these bytes.
+fn reply(rt: &(impl Abort + Print), pair: &mut impl Acts, key: u8, bytes: &[u8]) {
+    let rows = pair.rows(rt);
+    let asked = asked_in(rows.as_slice(), key);
+    drop(rows);
+    if let Some((id, peer)) = asked {
+        let message = message(rt, pair.hands().alloc, id, bytes);
+        pair.act(rt, Act::Net(peer, message.as_slice()));
+        drop(message);
+    }
+}
+
 /// The keys are answered whose turn it is in this tenth moment, and what is handed out is complete.
-fn answer<S: Side>(rt: &(impl Abort + Print), pair: &mut Pair<S>, tenth: u64) {
+fn answer(rt: &(impl Abort + Print), pair: &mut impl Acts, tenth: u64) {
     pair.act(rt, Act::At(tenth.saturating_mul(10)));
     for &(key, is_there) in answers(tenth) {
         if is_there {
-            pair.reply(rt, key, &[1, 1, key]);
+            reply(rt, pair, key, &[1, 1, key]);
             pair.act(rt, Act::Judge(Outcome::Resolved(Resolution::Complete)));
         } else {
-            pair.reply(rt, key, &[2]);
+            reply(rt, pair, key, &[2]);
         }
     }
 }
 
 /// The run, in which what is handed out is complete, and after which every key was delivered once. Gives what was
 /// counted.
-fn play<S: Side>(rt: &(impl Abort + Print), pair: &mut Pair<S>, is_targeted: bool) -> Counts {
+fn play(rt: &(impl Abort + Print), pair: &mut impl Acts, is_targeted: bool) -> Counts {
     pair.act(rt, Act::Peers(1, &[3, 4, 5, 9]));
     pair.act(rt, wants(is_targeted));
     for tenth in 1..22_u64 {
         answer(rt, pair, tenth);
     }
-    judge(rt, &mut pair.twin);
-    pair.twin.hands.counts
+    let complaint = complaint(rt, pair.hands());
+    judge_end(rt, pair, complaint);
+    pair.hands().counts
+}
+
+/// A run, and what was counted in it.
+#[derive(Clone, Copy)]
+struct Course {
+    is_targeted: bool,
+    counts: Counts,
+}
+
+impl Play for Course {
+    fn play<A: Acts>(&mut self, rt: &(impl Abort + Print), pairs: &mut [A]) {
+        for pair in pairs {
+            self.counts = play(rt, pair, self.is_targeted);
+        }
+    }
 }
 
 /// A run in which this one and those behind it go wrong. Gives what was counted.
@@ -121,10 +149,12 @@ where
         seed: plan.seed,
     };
     let eligible = if plan.is_targeted { 1 } else { 3 };
-    let mut pair = make_pair(rt, setting, Some(eligible));
-    let counts = play(&rt, &mut pair, plan.is_targeted);
-    drop(pair);
-    counts
+    let mut play = Course {
+        is_targeted: plan.is_targeted,
+        counts: NONE,
+    };
+    with_pairs(rt, &[setting], Some(eligible), &mut play);
+    play.counts
 }
 
 /// The run for every N that it meets. Gives how many these are.

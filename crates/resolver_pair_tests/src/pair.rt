@@ -1,12 +1,11 @@
 //! A loop beside the twin of its core: both are given the same, and are to ask and to await the same.
 
-use crate::twin::{Twin, message};
+use crate::scan::Shown;
+use crate::twin::{Deadlines, Hands, Steps, Twin, make_core, spell_turn};
 use futures::test::MockTask;
 use resolver_fakes::acts::{Act, Asks};
-use resolver_fakes::seen::spell;
-use resolver_fakes::world::{Asked, Looped, Polled, Setting, World, make_loop, settle};
+use resolver_fakes::world::{Polled, Setting, World, make_loop, settle};
 use std::alloc::AllocGlobal;
-use std::fmt::Write;
 use std::io::Print;
 use std::panic::Expect;
 use std::process::Abort;
@@ -40,21 +39,21 @@ impl<M: Asks, L: Polled> Side for Looping<M, L> {
     fn take(&mut self, rt: &impl Abort, text: &mut String, act: Act<'_>) {
         self.world.act(act).expect(rt, "memory");
         let polled = settle(&self.task, &mut *self.looped);
-        spell(text, &mut self.world.held.told).expect(rt, "memory");
         let awaited = self.world.held.watch.awaited();
-        write!(text, "{} {awaited:?}", polled.is_pending()).expect(rt, "memory");
+        let told = &mut self.world.held.told;
+        spell_turn(rt, text, told, polled.is_pending(), awaited);
     }
 }
 
 /// A loop, and its twin.
-pub struct Pair<S> {
-    pub twin: Twin,
+pub struct Pair<S, C> {
+    twin: Twin<C>,
     side: S,
     said: String,
     expected: String,
 }
 
-impl<S: Drop> Drop for Pair<S> {
+impl<S: Drop, C: Drop> Drop for Pair<S, C> {
     fn drop(self) {
         let Self {
             twin: _,
@@ -65,59 +64,97 @@ impl<S: Drop> Drop for Pair<S> {
     }
 }
 
-/// An engine's loop, and its twin.
-pub type Paired<R> = Pair<Looping<Asked<R>, Looped<R>>>;
+/// A loop beside its twin, as a test knows them.
+pub trait Acts {
+    /// Both take this. Fails where the loop's fakes were asked something else than the twin's, in
+    /// another order, or where it waits for another moment.
+    fn act(&mut self, rt: &(impl Abort + Print), act: Act<'_>);
 
-/// A pair whose fakes go by this setting. Scans are judged where the peers of each key are counted.
-pub fn make_pair<R>(rt: R, setting: Setting, eligible: Option<usize>) -> Paired<R>
-where
-    R: Abort + Wait + RandomSource + AllocGlobal + Copy + Drop + Send + 'static,
-{
-    let alloc = rt.alloc();
-    let (world, looped) = match make_loop(rt, alloc, setting) {
-        Ok(made) => made,
-        Err(fault) => panic!(rt; "a loop: {fault:?}"),
-    };
-    let side = Looping {
-        task: MockTask::new(&rt).expect(&rt, "a task"),
-        looped: Box::new(alloc, looped).expect(&rt, "memory"),
-        world,
-    };
-    Pair {
-        twin: Twin::new(&rt, alloc, setting, eligible),
-        side,
-        said: String::new(alloc),
-        expected: String::new(alloc),
+    /// What carries the twin's effects out.
+    fn hands(&mut self) -> &mut Hands;
+
+    /// The keys that are demanded of the twin.
+    fn rows(&self, rt: &impl Abort) -> Vec<Shown>;
+
+    fn deadlines(&self) -> Deadlines;
+}
+
+/// Fails where something is wrong at the end, or a key is left.
+pub fn judge_end(rt: &(impl Abort + Print), pair: &mut impl Acts, complaint: Option<&str>) {
+    let rows = pair.rows(rt);
+    let is_left = !rows.is_empty();
+    drop(rows);
+    let hands = pair.hands();
+    hands.judge(rt, complaint);
+    if is_left {
+        hands.fail(rt, "a key is left");
     }
 }
 
-impl<S: Side> Pair<S> {
-    /// Both take this. Fails where the loop's fakes were asked something else than the twin's, in
-    /// another order, or where it waits for another moment.
-    pub fn act(&mut self, rt: &(impl Abort + Print), act: Act<'_>) {
+/// What is done to loops, each beside its twin.
+pub trait Play {
+    fn play<A: Acts>(&mut self, rt: &(impl Abort + Print), pairs: &mut [A]);
+}
+
+/// Does this to engines' loops whose fakes go by these settings. Scans are judged where the peers of each key are
+/// counted.
+pub fn with_pairs<R, P>(rt: R, settings: &[Setting], eligible: Option<usize>, play: &mut P)
+where
+    R: Abort + Print + Wait + RandomSource + AllocGlobal + Copy + Drop + Send + 'static,
+    P: Play,
+{
+    let alloc = rt.alloc();
+    let mut pairs = Vec::new(alloc);
+    for setting in settings {
+        let (world, looped) = make_loop(rt, alloc, *setting).expect(&rt, "a loop");
+        let side = Looping {
+            task: MockTask::new(&rt).expect(&rt, "a task"),
+            looped: Box::new(alloc, looped).expect(&rt, "memory"),
+            world,
+        };
+        let core = make_core(alloc, setting.me);
+        let pair = Pair {
+            twin: Twin::new(&rt, alloc, core, *setting, eligible),
+            side,
+            said: String::new(alloc),
+            expected: String::new(alloc),
+        };
+        pairs.push(pair).expect(&rt, "memory");
+    }
+    play.play(&rt, pairs.as_mut_slice());
+    drop(pairs);
+}
+
+fn compare(rt: &(impl Abort + Print), hands: &Hands, said: &str, expected: &str) {
+    if said != expected {
+        hands.print_script(rt);
+        panic!(rt; "{:?}: {said} instead of {expected}", hands.setting);
+    }
+}
+
+impl<S: Side, C: Steps> Acts for Pair<S, C> {
+    fn act(&mut self, rt: &(impl Abort + Print), act: Act<'_>) {
         self.said.clear();
         self.side.take(rt, &mut self.said, act);
         self.expected.clear();
         self.twin.act(rt, &mut self.expected, act);
-        self.compare(rt);
+        compare(
+            rt,
+            &self.twin.hands,
+            self.said.as_str(),
+            self.expected.as_str(),
+        );
     }
 
-    fn compare(&self, rt: &(impl Abort + Print)) {
-        let (said, expected) = (self.said.as_str(), self.expected.as_str());
-        if said != expected {
-            self.twin.hands.print_script(rt);
-            panic!(rt;
-                "{:?}: {said} instead of {expected}",
-                self.twin.hands.setting
-            );
-        }
+    fn hands(&mut self) -> &mut Hands {
+        &mut self.twin.hands
     }
 
-    /// The peer that is asked for a key answers with the id and these bytes.
-    pub fn reply(&mut self, rt: &(impl Abort + Print), key: u8, bytes: &[u8]) {
-        if let Some((id, peer)) = self.twin.asked(rt, key) {
-            let message = message(rt, self.twin.hands.alloc, id, bytes);
-            self.act(rt, Act::Net(peer, message.as_slice()));
-        }
+    fn rows(&self, rt: &impl Abort) -> Vec<Shown> {
+        self.twin.rows(rt)
+    }
+
+    fn deadlines(&self) -> Deadlines {
+        self.twin.deadlines()
     }
 }

@@ -1,10 +1,9 @@
 //! What a scan is to come to, by the rules of scans: of one that is written down as it goes.
 
 use resolver::base::Check;
-use resolver::p2p::Core;
 use resolver::p2p::mocks::Key;
 use resolver::p2p::rows::{Phase, Row};
-use resolver_fakes::names::{Below, Peer};
+use resolver_fakes::names::Peer;
 use std::alloc::Global;
 use std::panic::Expect;
 use std::process::Abort;
@@ -42,12 +41,8 @@ fn stage_of(phase: &Phase<Peer>) -> Stage {
     }
 }
 
-/// The rows of a core, as a call that promises nothing.
-fn rows_of(rt: &impl Abort, core: &Core<Key, Peer, u16, Below>) -> Vec<Row<Key, u16, Peer>> {
-    core.rows().expect(rt, "memory")
-}
-
-fn shown_of(rt: &impl Abort, alloc: Global, rows: &[Row<Key, u16, Peer>]) -> Vec<Shown> {
+/// The demanded keys of a core that has these rows.
+pub fn shown_of(rt: &impl Abort, alloc: Global, rows: &[Row<Key, u16, Peer>]) -> Vec<Shown> {
     let mut list = Vec::new(alloc);
     for row in rows {
         let shown = Shown {
@@ -56,14 +51,6 @@ fn shown_of(rt: &impl Abort, alloc: Global, rows: &[Row<Key, u16, Peer>]) -> Vec
         };
         list.push(shown).expect(rt, "memory");
     }
-    list
-}
-
-/// The demanded keys of a core.
-pub fn list_rows(rt: &impl Abort, alloc: Global, core: &Core<Key, Peer, u16, Below>) -> Vec<Shown> {
-    let rows = rows_of(rt, core);
-    let list = shown_of(rt, alloc, rows.as_slice());
-    drop(rows);
     list
 }
 

@@ -1,6 +1,7 @@
 //! What an engine's core takes, as lines of a script for `resolver-replay`, and what such a script has.
 
-use crate::pair::{Pair, Side, make_pair};
+use crate::asserting::assert_same;
+use crate::pair::{Acts, Play, with_pairs};
 use crate::twin::Happened;
 use resolver::base::Check;
 use resolver::p2p::FetchKey;
@@ -12,13 +13,10 @@ use resolver_fakes::acts::Act;
 use resolver_fakes::names::Peer;
 use resolver_fakes::seen::{Hex, Wrong};
 use resolver_fakes::world::Setting;
-use std::alloc::{AllocError, AllocGlobal};
-use std::fmt::Write;
+use std::fmt::{Display, Write};
 use std::io::Print;
 use std::panic::Expect;
 use std::process::Abort;
-use std::random::RandomSource;
-use std::sync::Wait;
 
 /// A verdict's word.
 fn word_of(outcome: Option<Outcome>) -> &'static str {
@@ -32,67 +30,83 @@ fn word_of(outcome: Option<Outcome>) -> &'static str {
     }
 }
 
+/// A line, with its LF.
+fn put(rt: &impl Abort, lines: &mut String, line: &str) {
+    lines.push_str(line).expect(rt, "memory");
+}
+
+/// A line of a word and a number.
+pub fn write_number(rt: &impl Abort, lines: &mut String, word: &str, number: u128) {
+    writeln!(lines, "{word} {number}").expect(rt, "memory");
+}
+
+/// A line of a word, a number and what is said of it.
+fn write_said(
+    rt: &impl Abort,
+    lines: &mut String,
+    word: &str,
+    number: u64,
+    said: impl Display + Copy,
+) {
+    writeln!(lines, "{word} {number} {said}").expect(rt, "memory");
+}
+
 /// A line says one fetch of any peer. Where a message has other fetches, the line is a comment.
-fn write_fetch(lines: &mut String, items: &[FetchKey<Key, Peer, u16>]) -> Result<(), AllocError> {
-    let [item] = items else {
-        return writeln!(lines, "# fetches by one message");
-    };
-    if item.metadata.is_some() {
-        return writeln!(lines, "# a fetch of some peers");
+fn write_fetch(rt: &impl Abort, lines: &mut String, items: &[FetchKey<Key, Peer, u16>]) {
+    match items {
+        [item] if item.metadata.is_none() => {
+            let (subscriber, mark) = item.subscribers.first();
+            let written = writeln!(lines, "fetch {} {subscriber} {mark}", item.key.0);
+            written.expect(rt, "memory");
+        }
+        [_] => put(rt, lines, "# a fetch of some peers\n"),
+        _ => put(rt, lines, "# fetches by one message\n"),
     }
-    let (subscriber, mark) = item.subscribers.first();
-    writeln!(lines, "fetch {} {subscriber} {mark}", item.key.0)
 }
 
 /// Peers, joined by commas; a dash where there is none.
-fn write_peers(rt: &impl Abort, lines: &mut String, peers: &[Peer]) {
+fn write_peers(rt: &impl Abort, lines: &mut String, index: u64, peers: &[Peer]) {
+    write!(lines, "peers {index} ").expect(rt, "memory");
     let mut comma = "";
     for peer in peers {
         write!(lines, "{comma}{}", peer.0).expect(rt, "memory");
         comma = ",";
     }
-    let dash = if peers.is_empty() { "-" } else { "" };
-    writeln!(lines, "{dash}").expect(rt, "memory");
+    put(rt, lines, if peers.is_empty() { "-\n" } else { "\n" });
 }
 
 /// A core takes this event.
 pub fn write_event(rt: &impl Abort, lines: &mut String, event: &Happened) {
-    let written = match event {
-        Event::Fetch(items) => write_fetch(lines, items.as_slice()),
-        Event::PeerSet { index, peers } => {
-            write!(lines, "peers {index} ").expect(rt, "memory");
-            write_peers(rt, lines, peers.as_slice());
-            Ok(())
-        }
-        Event::ActiveDue => writeln!(lines, "timeout"),
-        Event::PendingDue => writeln!(lines, "wake"),
+    match event {
+        Event::Fetch(items) => write_fetch(rt, lines, items.as_slice()),
+        Event::PeerSet { index, peers } => write_peers(rt, lines, *index, peers.as_slice()),
+        Event::ActiveDue => put(rt, lines, "timeout\n"),
+        Event::PendingDue => put(rt, lines, "wake\n"),
         Event::Verdict { number, outcome } => {
-            writeln!(lines, "verdict {number} {}", word_of(*outcome))
+            write_said(rt, lines, "verdict", *number, word_of(*outcome));
         }
         Event::Served { serve, value } => match value {
-            Some(value) => writeln!(lines, "served {serve} {}", Hex(value.as_slice())),
-            None => writeln!(lines, "served {serve} dropped"),
+            Some(value) => write_said(rt, lines, "served", *serve, Hex(value.as_slice())),
+            None => write_said(rt, lines, "served", *serve, "dropped"),
         },
         Event::Net { peer, bytes } => {
-            writeln!(lines, "net {} {}", peer.0, Hex(bytes.as_slice()))
+            write_said(rt, lines, "net", u64::from(peer.0), Hex(bytes.as_slice()));
         }
         Event::Blocked(_) | Event::Retain(_) | Event::End => {
-            writeln!(lines, "# an event that no test of these gives")
+            put(rt, lines, "# an event that no test of these gives\n");
         }
-    };
-    written.expect(rt, "memory");
+    }
 }
 
 /// A core takes this answer.
 pub fn write_answer(rt: &impl Abort, lines: &mut String, answer: Answer) {
-    let written = match answer {
-        Answer::Drawn(number) => writeln!(lines, "drawn {number}"),
-        Answer::Checked(Check::Clear) => writeln!(lines, "checked clear"),
-        Answer::Checked(Check::Until(moment)) => writeln!(lines, "checked {moment}"),
-        Answer::Sent(true) => writeln!(lines, "sent accepted"),
-        Answer::Sent(false) => writeln!(lines, "sent refused"),
-    };
-    written.expect(rt, "memory");
+    match answer {
+        Answer::Drawn(number) => write_number(rt, lines, "drawn", number),
+        Answer::Checked(Check::Clear) => put(rt, lines, "checked clear\n"),
+        Answer::Checked(Check::Until(moment)) => write_number(rt, lines, "checked", moment),
+        Answer::Sent(true) => put(rt, lines, "sent accepted\n"),
+        Answer::Sent(false) => put(rt, lines, "sent refused\n"),
+    }
 }
 
 /// A key is fetched and served, and another runs out of time and is refused.
@@ -138,28 +152,27 @@ checked clear
 sent refused
 ";
 
-/// What the core took as these were done.
-fn script_of<S: Side>(rt: &(impl Abort + Print), pair: &mut Pair<S>, acts: &[Act<'_>]) -> String {
+/// A loop and its twin do these, and the core's script is compared.
+#[derive(Clone, Copy)]
+struct Scripted;
+
+impl Play for Scripted {
+    fn play<A: Acts>(&mut self, rt: &(impl Abort + Print), pairs: &mut [A]) {
+        for pair in pairs {
+            act_all(rt, pair, ACTS);
+            assert_same(rt, pair.hands().script.as_str(), LINES, "a script");
+        }
+    }
+}
+
+fn act_all(rt: &(impl Abort + Print), pair: &mut impl Acts, acts: &[Act<'_>]) {
     for act in acts {
         pair.act(rt, *act);
     }
-    let script = pair.twin.hands.script.as_str();
-    String::from_str(pair.twin.hands.alloc, script).expect(rt, "memory")
-}
-
-fn write_script<R>(rt: R, acts: &[Act<'_>]) -> String
-where
-    R: Abort + Print + Wait + RandomSource + AllocGlobal + Copy + Drop + Send + 'static,
-{
-    let refused = Wrong::Sends { first: 4, count: 1 };
-    let mut pair = make_pair(rt, Setting::with(refused), None);
-    let script = script_of(&rt, &mut pair, acts);
-    drop(pair);
-    script
 }
 
 #[test]
 fn a_script_has_what_its_core_took(rt: HostRuntime) {
-    let script = write_script(rt, ACTS);
-    assert_eq!(rt; script.as_str(), LINES);
+    let refused = Wrong::Sends { first: 4, count: 1 };
+    with_pairs(rt, &[Setting::with(refused)], None, &mut Scripted);
 }

@@ -1,10 +1,10 @@
 //! A second core, which is given by hand what the loop takes from its sources: it asks fakes of its own.
 
-use crate::scan::{Scan, Shown, Stage, list_rows};
-use crate::script::{write_answer, write_event};
+use crate::scan::{Scan, Shown, Stage, shown_of};
+use crate::script::{write_answer, write_event, write_number};
 use bytes::Bytes;
 use futures::channel::mpsc;
-use resolver::base::{Check, Draws, Sender};
+use resolver::base::{Check, Draws, NonEmptyVec, Sender};
 use resolver::ingress::FetchKey;
 use resolver::p2p::effects::Effect;
 use resolver::p2p::fetcher::{Answer, Ask, Config};
@@ -12,7 +12,8 @@ use resolver::p2p::inputs::{Event, Happening, Input};
 use resolver::p2p::mocks::Key;
 use resolver::p2p::{Core, FetchKey as Wanted};
 use resolver::{Delivery, Outcome};
-use resolver_fakes::acts::{Act, fetches, targeted};
+use resolver_fakes::acts;
+use resolver_fakes::acts::Act;
 use resolver_fakes::lent::{Dice, Wire};
 use resolver_fakes::names::{Below, Peer};
 use resolver_fakes::seen::{Seen, Told, spell};
@@ -46,7 +47,7 @@ pub struct Counts {
     pub responses: u64,
 }
 
-const NONE: Counts = Counts {
+pub const NONE: Counts = Counts {
     fetches: 0,
     checks: 0,
     sends: 0,
@@ -109,16 +110,16 @@ impl Drop for Hands {
     }
 }
 
-/// A core as a world's engine has it, and what carries its effects out.
-pub struct Twin {
-    core: Core<Key, Peer, u16, Below>,
+/// A core, and what carries its effects out.
+pub struct Twin<C> {
+    core: C,
     pub hands: Hands,
     now: u64,
     /// How many peers each key may be asked of, where scans are to be judged.
     eligible: Option<usize>,
 }
 
-impl Drop for Twin {
+impl<C: Drop> Drop for Twin<C> {
     fn drop(self) {
         let Self {
             core: _,
@@ -129,23 +130,54 @@ impl Drop for Twin {
     }
 }
 
-/// A step, as a call that promises nothing.
-fn step(
-    rt: &impl Abort,
-    core: &mut Core<Key, Peer, u16, Below>,
-    input: Input<Key, Peer, u16, Below>,
-) -> Vec<Done> {
-    core.step(input).expect(rt, "an input that is taken")
+/// When a request's time is over, and when it is time to look for keys to ask for.
+pub type Deadlines = (Option<u128>, Option<u128>);
+
+/// The earlier of the two, where a clock can reach it.
+pub fn awaited(deadlines: Deadlines) -> Option<u128> {
+    let (active, pending) = deadlines;
+    let active = active.unwrap_or(u128::MAX);
+    let pending = pending.unwrap_or(u128::MAX);
+    let earlier = if pending < active { pending } else { active };
+    if earlier < 1 << 94 {
+        Some(earlier)
+    } else {
+        None
+    }
 }
 
-/// When a request's time is over and when it is time to look for keys to ask for, as a call that promises
-/// nothing.
-fn deadlines(core: &Core<Key, Peer, u16, Below>) -> (Option<u128>, Option<u128>) {
-    (core.get_active_deadline(), core.get_pending_deadline())
+/// An engine's core, as calls that promise nothing.
+pub trait Steps {
+    fn take(&mut self, rt: &impl Abort, input: Input<Key, Peer, u16, Below>) -> Vec<Done>;
+
+    fn deadlines(&self) -> Deadlines;
+
+    /// The demanded keys.
+    fn list_rows(&self, rt: &impl Abort, alloc: Global) -> Vec<Shown>;
+}
+
+/// A core at the names of the fakes.
+pub type Plain = Core<Key, Peer, u16, Below>;
+
+impl Steps for Plain {
+    fn take(&mut self, rt: &impl Abort, input: Input<Key, Peer, u16, Below>) -> Vec<Done> {
+        self.step(input).expect(rt, "an input that is taken")
+    }
+
+    fn deadlines(&self) -> Deadlines {
+        (self.get_active_deadline(), self.get_pending_deadline())
+    }
+
+    fn list_rows(&self, rt: &impl Abort, alloc: Global) -> Vec<Shown> {
+        let rows = self.rows().expect(rt, "memory");
+        let list = shown_of(rt, alloc, rows.as_slice());
+        drop(rows);
+        list
+    }
 }
 
 /// A core with a timeout of 50 and a delay of 10, as a call that promises nothing.
-fn make_core(alloc: Global, me: u8) -> Core<Key, Peer, u16, Below> {
+pub fn make_core(alloc: Global, me: u8) -> Plain {
     let configuration = Config {
         me: Some(Peer(me)),
         fetch_timeout: 50,
@@ -196,6 +228,11 @@ fn draw(dice: &mut Dice, bound: u128) -> u128 {
     dice.below(bound)
 }
 
+/// Tells what was asked, where anybody listens.
+fn tell(told: &Told, seen: Seen) {
+    drop(told.unbounded_send(seen));
+}
+
 /// Lists the subscribers of a delivery with its key.
 fn list(rt: &impl Abort, delivered: &mut Vec<(u8, u16)>, delivery: &Delivery<Key, u16>) {
     for (subscriber, _) in delivery.subscribers.iter() {
@@ -213,11 +250,16 @@ pub fn message(rt: &impl Abort, alloc: Global, id: u64, bytes: &[u8]) -> Vec<u8>
     message
 }
 
+/// A key that any peer may be asked for.
+fn item(rt: &impl Abort, alloc: Global, key: u8, subscriber: u16) -> Wanted<Key, Peer, u16> {
+    FetchKey::from_fetch(alloc, acts::wanted(key, subscriber)).expect(rt, "memory")
+}
+
 /// Keys that any peer may be asked for.
 fn wanted(rt: &impl Abort, alloc: Global, wants: &[(u8, u16)]) -> Vec<Wanted<Key, Peer, u16>> {
     let mut items = Vec::new(alloc);
-    for fetch in fetches(alloc, wants).expect(rt, "memory") {
-        let item = FetchKey::from_fetch(alloc, fetch).expect(rt, "memory");
+    for (key, subscriber) in wants {
+        let item = item(rt, alloc, *key, *subscriber);
         items.push(item).expect(rt, "memory");
     }
     items
@@ -226,13 +268,25 @@ fn wanted(rt: &impl Abort, alloc: Global, wants: &[(u8, u16)]) -> Vec<Wanted<Key
 /// Keys that one peer each may be asked for.
 fn wanted_from(rt: &impl Abort, alloc: Global, wants: &[(u8, u8)]) -> Vec<Wanted<Key, Peer, u16>> {
     let mut items = Vec::new(alloc);
-    for (fetch, peers) in targeted(alloc, wants).expect(rt, "memory") {
-        let item = FetchKey::from_fetch(alloc, fetch);
-        let mut item: Wanted<Key, Peer, u16> = item.expect(rt, "memory");
-        item.metadata = Some(peers);
+    for (key, peer) in wants {
+        let mut item = item(rt, alloc, *key, 10);
+        let peers = NonEmptyVec::new(alloc, Peer(*peer)).expect(rt, "memory");
+        drop(mem::replace(&mut item.metadata, Some(peers)));
         items.push(item).expect(rt, "memory");
     }
     items
+}
+
+/// Writes what some fakes were asked, whether the turn ended with a wait, and for what.
+pub fn spell_turn(
+    rt: &impl Abort,
+    text: &mut String,
+    seen: &mut mpsc::UnboundedReceiver<Seen>,
+    is_pending: bool,
+    awaited: Option<u128>,
+) {
+    spell(text, seen).expect(rt, "memory");
+    write!(text, "{is_pending} {awaited:?}").expect(rt, "memory");
 }
 
 /// The event that this becomes, of those that need nothing of the twin.
@@ -253,7 +307,7 @@ fn event_of(rt: &impl Abort, alloc: Global, act: Act<'_>) -> Option<Happened> {
 }
 
 /// The id and the peer of the request for a key, if these rows have one.
-fn asked_in(rows: &[Shown], key: u8) -> Option<(u64, u8)> {
+pub fn asked_in(rows: &[Shown], key: u8) -> Option<(u64, u8)> {
     for row in rows {
         if let Stage::Asked { id, peer, .. } = row.stage {
             if row.key == key {
@@ -292,6 +346,13 @@ impl Hands {
     pub fn fail(&self, rt: &(impl Abort + Print), why: &str) -> ! {
         self.print_script(rt);
         panic!(rt; "{:?}: {why}", self.setting)
+    }
+
+    /// Ends the test where something is wrong.
+    pub fn judge(&self, rt: &(impl Abort + Print), complaint: Option<&str>) {
+        if let Some(why) = complaint {
+            self.fail(rt, why);
+        }
     }
 
     /// Sends, and says whether it is accepted.
@@ -344,15 +405,12 @@ impl Hands {
     ) {
         self.deliveries.push_back(number).expect(rt, "memory");
         list(rt, &mut self.delivered, &delivery);
-        let _ = self
-            .fakes
-            .told
-            .unbounded_send(Seen::Delivered(delivery, value));
+        tell(&self.fakes.told, Seen::Delivered(delivery, value));
     }
 
     fn produce(&mut self, rt: &impl Abort, serve: u64, key: Key) {
         self.serves.push_back((serve, key)).expect(rt, "memory");
-        let _ = self.fakes.told.unbounded_send(Seen::Produced(key));
+        tell(&self.fakes.told, Seen::Produced(key));
     }
 
     /// Carries an effect out, and gives the answer to what it asks.
@@ -380,9 +438,7 @@ impl Hands {
             Effect::Credit { .. } => {
                 self.counts.credits = self.counts.credits.saturating_add(1);
             }
-            Effect::Block { response: _, peer } => {
-                let _ = self.fakes.told.unbounded_send(Seen::Blocked(peer));
-            }
+            Effect::Block { response: _, peer } => tell(&self.fakes.told, Seen::Blocked(peer)),
         }
         None
     }
@@ -403,11 +459,18 @@ impl Hands {
     }
 }
 
-impl Twin {
-    /// The twin of a world's engine. Its scans are judged where the peers of each key are counted.
-    pub fn new(rt: &impl Abort, alloc: Global, setting: Setting, eligible: Option<usize>) -> Twin {
+impl<C: Steps> Twin<C> {
+    /// The twin of a world's engine, with a core as that has it. Its scans are judged where the peers of each key are
+    /// counted.
+    pub fn new(
+        rt: &impl Abort,
+        alloc: Global,
+        core: C,
+        setting: Setting,
+        eligible: Option<usize>,
+    ) -> Twin<C> {
         Twin {
-            core: make_core(alloc, setting.me),
+            core,
             hands: Hands::new(rt, alloc, setting),
             now: 0,
             eligible,
@@ -415,46 +478,18 @@ impl Twin {
     }
 
     /// The demanded keys.
-    fn rows(&self, rt: &impl Abort) -> Vec<Shown> {
-        list_rows(rt, self.hands.alloc, &self.core)
+    pub fn rows(&self, rt: &impl Abort) -> Vec<Shown> {
+        self.core.list_rows(rt, self.hands.alloc)
     }
 
-    /// Whether no key is demanded.
-    pub fn has_no_row(&self, rt: &impl Abort) -> bool {
-        self.rows(rt).is_empty()
-    }
-
-    /// The earlier of the two deadlines, where a clock can reach it.
-    pub fn awaited(&self) -> Option<u128> {
-        let (active, pending) = deadlines(&self.core);
-        let active = active.unwrap_or(u128::MAX);
-        let pending = pending.unwrap_or(u128::MAX);
-        let earlier = if pending < active { pending } else { active };
-        if earlier < 1 << 94 {
-            Some(earlier)
-        } else {
-            None
-        }
-    }
-
-    /// The id and the peer of the request for a key.
-    pub fn asked(&self, rt: &impl Abort, key: u8) -> Option<(u64, u8)> {
-        let rows = self.rows(rt);
-        let asked = asked_in(rows.as_slice(), key);
-        drop(rows);
-        asked
-    }
-
-    /// Whether no key is wanted: none waits, is asked for or is judged.
-    pub fn is_idle(&self) -> bool {
-        let (active, pending) = deadlines(&self.core);
-        active.is_none() && pending.is_none() && self.hands.deliveries.is_empty()
+    pub fn deadlines(&self) -> Deadlines {
+        self.core.deadlines()
     }
 
     /// Has the core take an answer, and carries out what it answers. Gives the answer to what it asks then.
     fn take_answer(&mut self, rt: &impl Abort, answer: Answer) -> Option<Answer> {
         write_answer(rt, &mut self.hands.script, answer);
-        let effects = step(rt, &mut self.core, Input::Answers(answer));
+        let effects = self.core.take(rt, Input::Answers(answer));
         self.hands.carry_out_all(rt, effects)
     }
 
@@ -483,19 +518,17 @@ impl Twin {
         if self.eligible.is_none() {
             return;
         }
-        let (_, pending) = deadlines(&self.core);
+        let (_, pending) = self.core.deadlines();
         let rows = self.rows(rt);
         let complaint = self.hands.scan.judge(rows.as_slice(), pending);
         drop(rows);
-        if let Some(why) = complaint {
-            self.hands.fail(rt, why);
-        }
+        self.hands.judge(rt, complaint);
     }
 
     /// Takes an event, and answers what its scan asks.
     fn take(&mut self, rt: &(impl Abort + Print), event: Happened) {
         write_event(rt, &mut self.hands.script, &event);
-        let effects = step(rt, &mut self.core, happens(self.now, event));
+        let effects = self.core.take(rt, happens(self.now, event));
         self.begin_scan(rt);
         let answer = self.hands.carry_out_all(rt, effects);
         self.answer_all(rt, answer);
@@ -504,7 +537,7 @@ impl Twin {
 
     /// What is due.
     fn due(&self) -> Option<Happened> {
-        let (active, pending) = deadlines(&self.core);
+        let (active, pending) = self.core.deadlines();
         if is_due(active, self.now) {
             return Some(Event::ActiveDue);
         }
@@ -541,17 +574,15 @@ impl Twin {
         }
     }
 
-    fn go_to(&mut self, rt: &impl Abort, moment: u64) {
-        self.now = moment;
-        writeln!(self.hands.script, "at {moment}").expect(rt, "memory");
-    }
-
     /// Takes this, and not yet what is due then.
     fn take_act(&mut self, rt: &(impl Abort + Print), act: Act<'_>) {
         match act {
             Act::Judge(outcome) => self.judge(rt, outcome),
             Act::Serve(bytes) => self.serve(rt, bytes),
-            Act::At(moment) => self.go_to(rt, moment),
+            Act::At(moment) => {
+                self.now = moment;
+                write_number(rt, &mut self.hands.script, "at", u128::from(moment));
+            }
             _ => {
                 let event = event_of(rt, self.hands.alloc, act);
                 self.take(rt, event.expect(rt, "an act that a twin takes"));
@@ -563,7 +594,7 @@ impl Twin {
     pub fn act(&mut self, rt: &(impl Abort + Print), text: &mut String, act: Act<'_>) {
         self.take_act(rt, act);
         self.settle(rt);
-        spell(text, &mut self.hands.fakes.seen).expect(rt, "memory");
-        write!(text, "true {:?}", self.awaited()).expect(rt, "memory");
+        let awaited = awaited(self.core.deadlines());
+        spell_turn(rt, text, &mut self.hands.fakes.seen, true, awaited);
     }
 }

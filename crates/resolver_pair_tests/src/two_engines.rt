@@ -1,8 +1,8 @@
 //! Two engines over one network in memory, which serve each other keys while their peer sets change and
 //! every seventh send is refused.
 
-use crate::pair::{Pair, Side, make_pair};
-use crate::twin::{Hands, Twin};
+use crate::pair::{Acts, Play, judge_end, with_pairs};
+use crate::twin::{Hands, awaited};
 use bytes::Bytes;
 use resolver::base::{Draws, Seeded};
 use resolver::p2p::mocks::Key;
@@ -58,6 +58,7 @@ fn next_fetch(hands: &mut Hands) -> Option<(u8, u16)> {
 }
 
 /// What one of the two does next.
+#[derive(Drop)]
 enum Work {
     Fetch((u8, u16)),
     /// The other has sent this.
@@ -78,8 +79,14 @@ fn next_work(me: &mut Hands, other: &mut Hands, kind: u128) -> Work {
             None => Work::Nothing,
         },
         1 | 2 | 3 => match other.sent.pop_front() {
-            Some((peer, bytes)) if peer.0 == me.setting.me => Work::Net(bytes),
-            Some(_) => Work::Pass,
+            Some((peer, bytes)) => {
+                if peer.0 == me.setting.me {
+                    Work::Net(bytes)
+                } else {
+                    drop(bytes);
+                    Work::Pass
+                }
+            }
             None => Work::Nothing,
         },
         4 | 5 => match me.serves.front() {
@@ -92,11 +99,11 @@ fn next_work(me: &mut Hands, other: &mut Hands, kind: u128) -> Work {
 }
 
 /// One of the two does this. Says whether there was something to be done.
-fn do_next<S: Side>(rt: &(impl Abort + Print), me: &mut Pair<S>, other: u8, work: Work) -> bool {
+fn do_next(rt: &(impl Abort + Print), me: &mut impl Acts, other: u8, work: &Work) -> bool {
     match work {
-        Work::Fetch(wants) => me.act(rt, Act::Fetch(&[wants])),
+        Work::Fetch(wants) => me.act(rt, Act::Fetch(&[*wants])),
         Work::Net(bytes) => me.act(rt, Act::Net(other, bytes.as_slice())),
-        Work::Serve(key) => me.act(rt, Act::Serve(&[key])),
+        Work::Serve(key) => me.act(rt, Act::Serve(&[*key])),
         Work::Judge => me.act(rt, Act::Judge(Outcome::Resolved(Resolution::Complete))),
         Work::Pass => {}
         Work::Nothing => return false,
@@ -105,10 +112,12 @@ fn do_next<S: Side>(rt: &(impl Abort + Print), me: &mut Pair<S>, other: u8, work
 }
 
 /// One of the two does several things of one kind.
-fn work_on<S: Side>(rt: &(impl Abort + Print), me: &mut Pair<S>, other: &mut Hands, kind: u128) {
+fn work_on(rt: &(impl Abort + Print), me: &mut impl Acts, other: &mut Hands, kind: u128) {
     for _ in 0..BATCH {
-        let next = next_work(&mut me.twin.hands, other, kind);
-        if !do_next(rt, me, other.setting.me, next) {
+        let next = next_work(me.hands(), other, kind);
+        let is_done = do_next(rt, me, other.setting.me, &next);
+        drop(next);
+        if !is_done {
             break;
         }
     }
@@ -159,8 +168,10 @@ fn draw_step(course: &mut Course, number: u64) -> Step {
 }
 
 /// Whether everything was fetched, and nothing is left to be done.
-fn is_over(twin: &Twin) -> bool {
-    twin.hands.counts.fetches >= FETCHES && twin.is_idle()
+fn is_over(pair: &mut impl Acts) -> bool {
+    let deadlines = pair.deadlines();
+    let hands = pair.hands();
+    hands.counts.fetches >= FETCHES && deadlines == (None, None) && hands.deliveries.is_empty()
 }
 
 /// Whether each of these, in their order, stands there once, and there are as many as were fetched.
@@ -173,9 +184,9 @@ fn is_each_once(delivered: &[(u8, u16)]) -> bool {
     delivered.len() as u64 == FETCHES
 }
 
-/// What is wrong with what was handed out and counted, if anything is: each key is to be delivered once to each
-/// subscriber, and each response that was handed out to have earned one credit.
-fn wrong(rt: &impl Abort, hands: &mut Hands) -> Option<&'static str> {
+/// What is wrong at the end, if anything is: each key is to be delivered once to each subscriber, each response that
+/// was handed out to have earned one credit, and nothing to be awaited.
+fn complaint(rt: &impl Abort, hands: &mut Hands, awaited: Option<u128>) -> Option<&'static str> {
     hands.delivered.sort().expect(rt, "memory");
     if !is_each_once(hands.delivered.as_slice()) {
         return Some("a key was not delivered once to each subscriber");
@@ -183,46 +194,41 @@ fn wrong(rt: &impl Abort, hands: &mut Hands) -> Option<&'static str> {
     if hands.counts.credits != hands.counts.responses {
         return Some("the credits are not the responses");
     }
+    if awaited.is_some() {
+        return Some("a request is left");
+    }
     None
 }
 
-/// Fails where something is wrong at the end, or a request is left.
-fn judge_end(rt: &(impl Abort + Print), twin: &mut Twin) {
-    if let Some(why) = wrong(rt, &mut twin.hands) {
-        twin.hands.fail(rt, why);
-    }
-    if !twin.has_no_row(rt) || twin.awaited().is_some() {
-        twin.hands.fail(rt, "a request is left");
-    }
+/// Fails where something is wrong at the end.
+fn judge(rt: &(impl Abort + Print), pair: &mut impl Acts) {
+    let awaited = awaited(pair.deadlines());
+    let complaint = complaint(rt, pair.hands(), awaited);
+    judge_end(rt, pair, complaint);
 }
 
 /// A step of both.
-fn go<S: Side>(rt: &(impl Abort + Print), one: &mut Pair<S>, two: &mut Pair<S>, step: Step) {
+fn go<P: Acts>(rt: &(impl Abort + Print), one: &mut P, two: &mut P, step: Step) {
     match step {
         Step::Both(act) => {
             one.act(rt, act);
             two.act(rt, act);
         }
-        Step::One(kind) => work_on(rt, one, &mut two.twin.hands, kind),
-        Step::Two(kind) => work_on(rt, two, &mut one.twin.hands, kind),
+        Step::One(kind) => work_on(rt, one, two.hands(), kind),
+        Step::Two(kind) => work_on(rt, two, one.hands(), kind),
     }
 }
 
 /// Steps by the draws, until nothing is left.
-fn go_all<S: Side>(
-    rt: &(impl Abort + Print),
-    one: &mut Pair<S>,
-    two: &mut Pair<S>,
-    course: &mut Course,
-) {
+fn go_all<P: Acts>(rt: &(impl Abort + Print), one: &mut P, two: &mut P, course: &mut Course) {
     for number in 1..STEPS {
         go(rt, one, two, draw_step(course, number));
-        if is_over(&one.twin) && is_over(&two.twin) {
+        if is_over(one) && is_over(two) {
             break;
         }
     }
-    judge_end(rt, &mut one.twin);
-    judge_end(rt, &mut two.twin);
+    judge(rt, one);
+    judge(rt, two);
 }
 
 /// One of the two engines.
@@ -234,30 +240,28 @@ fn setting(me: u8, seed: u64) -> Setting {
     }
 }
 
-/// A run of this seed. Where one of the two goes wrong its script is printed.
-fn run<R>(rt: R, seed: u64)
-where
-    R: Abort + Print + Wait + RandomSource + AllocGlobal + Copy + Drop + Send + 'static,
-{
-    let mut one = make_pair(rt, setting(1, seed), None);
-    let mut two = make_pair(rt, setting(2, seed.wrapping_add(1000)), None);
-    let mut course = Course {
-        now: 0,
-        index: 0,
-        draws: Seeded::new(seed.wrapping_add(2000)),
-    };
-    go_all(&rt, &mut one, &mut two, &mut course);
-    drop(two);
-    drop(one);
+impl Play for Course {
+    fn play<A: Acts>(&mut self, rt: &(impl Abort + Print), pairs: &mut [A]) {
+        let [one, two] = pairs else {
+            panic!(rt; "two engines");
+        };
+        go_all(rt, one, two, self);
+    }
 }
 
-/// Runs of ten seeds, from this one on.
+/// Runs of ten seeds, from this one on. Where one of the two goes wrong its script is printed.
 fn run_all<R>(rt: R, first: u64)
 where
     R: Abort + Print + Wait + RandomSource + AllocGlobal + Copy + Drop + Send + 'static,
 {
     for seed in first..first.saturating_add(10) {
-        run(rt, seed);
+        let settings = [setting(1, seed), setting(2, seed.wrapping_add(1000))];
+        let mut course = Course {
+            now: 0,
+            index: 0,
+            draws: Seeded::new(seed.wrapping_add(2000)),
+        };
+        with_pairs(rt, &settings, None, &mut course);
     }
 }
 
