@@ -112,3 +112,15 @@ pub fn input_of(rt: &impl Abort, alloc: Global, now: u64, given: Given) -> Plain
         Err(answer) => Input::Answers(answer),
     }
 }
+
+/// What a core tells where this is given at this moment, which it is not to refuse.
+pub fn take(
+    rt: &impl Abort,
+    alloc: Global,
+    core: &mut Plain,
+    now: u64,
+    given: Given,
+) -> Vec<PlainEffect> {
+    let input = input_of(rt, alloc, now, given);
+    core.step(input).expect(rt, "an input that is taken")
+}

@@ -1,7 +1,7 @@
 //! What an engine counts.
 
 use crate::asserting::assert_same;
-use crate::cores::{Given, Plain, input_of, make_core};
+use crate::cores::{Given, Plain, make_core, take};
 use resolver::p2p::{Durations, Metrics, Tally};
 use resolver::{Outcome, Resolution};
 use resolver_fakes::names::Peer;
@@ -119,15 +119,10 @@ const COMPLETED: Metrics = Metrics {
     ..CREDITED
 };
 
-/// Gives this to a core, which is not to refuse it.
-fn give(rt: &impl Abort, alloc: Global, core: &mut Plain, now: u64, given: Given) {
-    let input = input_of(rt, alloc, now, given);
-    drop(core.step(input).expect(rt, "an input that is taken"));
-}
-
+/// Gives these to a core.
 fn give_all(rt: &impl Abort, alloc: Global, core: &mut Plain, given: &[(u64, Given)]) {
     for (now, one) in given {
-        give(rt, alloc, core, *now, *one);
+        drop(take(rt, alloc, core, *now, *one));
     }
 }
 

@@ -1,15 +1,13 @@
 //! Many serves, closed in the worst order.
 
-use crate::cores::{Given, Plain, PlainEffect, input_of, make_core};
+use crate::cores::{Given, Plain, PlainEffect, make_core, take};
 use resolver::p2p::effects::Effect;
 use std::alloc::Global;
-use std::panic::Expect;
 use std::process::Abort;
 
 /// How many effects of serves a core has where this is given.
-fn take(rt: &impl Abort, alloc: Global, core: &mut Plain, given: Given) -> usize {
-    let input = input_of(rt, alloc, 0, given);
-    let effects = core.step(input).expect(rt, "an input that is taken");
+fn serves(rt: &impl Abort, alloc: Global, core: &mut Plain, given: Given) -> usize {
+    let effects = take(rt, alloc, core, 0, given);
     let count = count_serves(effects.as_slice());
     drop(effects);
     count
@@ -30,7 +28,7 @@ fn open_serves(rt: &impl Abort, alloc: Global, core: &mut Plain, count: u64) -> 
     let mut produced = 0_usize;
     for _ in 0..count {
         let request = Given::Net(3, &[0, 0, 0, 0, 0, 0, 0, 7, 0, 123]);
-        produced = produced.saturating_add(take(rt, alloc, core, request));
+        produced = produced.saturating_add(serves(rt, alloc, core, request));
     }
     produced
 }
@@ -40,7 +38,7 @@ fn close_serves(rt: &impl Abort, alloc: Global, core: &mut Plain, count: u64) ->
     let mut replied = 0_usize;
     for before in 0..count {
         let dropped = Given::Served(count - 1 - before, false);
-        replied = replied.saturating_add(take(rt, alloc, core, dropped));
+        replied = replied.saturating_add(serves(rt, alloc, core, dropped));
     }
     replied
 }
