@@ -1,5 +1,5 @@
 use crate::asserting::assert_same;
-use crate::cores::{Given, Plain, PlainEffect, PlainInput, input_of, make_core};
+use crate::cores::{Given, PlainEffect, PlainInput, input_of, make_core};
 use bytes::Bytes;
 use resolver::base::Fault;
 use resolver::p2p::effects::Effect;
@@ -29,27 +29,6 @@ type Silent<R> = Engine<
 
 /// What it answers.
 type Answered = Result<Vec<PlainEffect>, Fault>;
-
-/// An engine that is called 9, with a timeout of 50 and a delay of 10.
-fn open<R: Abort + Copy>(rt: R, alloc: Global) -> Silent<R> {
-    let mailbox_size = NonZeroUsize::new(4).expect(&rt, "a size");
-    let consumer = Consumer::dummy(alloc).expect(&rt, "memory");
-    let cfg = Config {
-        peer_provider: Quiet::new(),
-        blocker: Quiet::new(),
-        consumer,
-        producer: Producer::new(alloc),
-        mailbox_size,
-        me: Some(Peer(9)),
-        fetch_timeout: 50,
-        fetch_retry_delay: 10,
-        priority_requests: false,
-        priority_responses: false,
-    };
-    let (engine, mailbox) = Engine::new(rt, alloc, cfg).expect(&rt, "an engine");
-    drop(mailbox);
-    engine
-}
 
 /// What the row `peer_refusals` of the worked rows is given: a scan that sends its request, with answers and events
 /// that it refuses.
@@ -121,13 +100,12 @@ fn spell_answer(rt: &impl Abort, text: &mut String, answer: &Answered) {
 }
 
 fn spell_phase(rt: &impl Abort, text: &mut String, phase: &Phase<Peer>) {
-    let written = match phase {
+    match phase {
         Phase::Asked { id, peer, deadline } => {
-            writeln!(text, " asked {id} {} {deadline}", peer.0)
+            writeln!(text, " asked {id} {} {deadline}", peer.0).expect(rt, "memory");
         }
-        _ => writeln!(text, " idle"),
-    };
-    written.expect(rt, "memory");
+        _ => text.push_str(" idle\n").expect(rt, "memory"),
+    }
 }
 
 fn spell_key(rt: &impl Abort, text: &mut String, key: Key, first: &(u16, u64), retries: u32) {
@@ -183,13 +161,6 @@ fn spell_state(
     spell_counts(rt, text, counted);
 }
 
-fn show<R>(rt: &impl Abort, text: &mut String, engine: &Silent<R>) {
-    let rows = engine.rows().expect(rt, "memory");
-    let due = (engine.get_pending_deadline(), engine.get_active_deadline());
-    spell_state(rt, text, rows.as_slice(), due, &engine.metrics());
-    drop(rows);
-}
-
 /// What the row `peer_refusals` of the worked rows prints, with an empty line for each input that
 /// has no effect, and the counts after it.
 const PRINTED: &str = "
@@ -207,58 +178,62 @@ wake None timeout Some(50)
 waiting 0 asked 1 sent 1
 ";
 
-/// The inputs one by one.
-fn step_by_step<R>(rt: &impl Abort, text: &mut String, engine: &mut Silent<R>) {
-    for given in GIVEN {
-        let answer = engine.step(input_of(rt, *text.allocator(), 0, *given));
-        spell_answer(rt, text, &answer);
-        drop(answer);
-    }
-}
-
-/// The inputs in one run.
-fn in_one_run<R>(rt: &impl Abort, text: &mut String, engine: &mut Silent<R>) {
-    let inputs = inputs(rt, *text.allocator());
-    let answers = engine.run(inputs).expect(rt, "memory");
-    spell_answers(rt, text, answers.as_slice());
-    drop(answers);
-}
-
-/// What an engine writes of the inputs, which it takes in one run or one by one.
-fn printed<R: Abort + Copy + Drop>(rt: R, alloc: Global, is_one_run: bool) -> String {
-    let mut engine = open(rt, alloc);
-    let mut text = String::new(alloc);
+/// Gives an engine the inputs, in one run or one by one, and writes what it answers and how it stands then.
+fn drive<R>(rt: &impl Abort, text: &mut String, engine: &mut Silent<R>, is_one_run: bool) {
+    let alloc = *text.allocator();
     if is_one_run {
-        in_one_run(&rt, &mut text, &mut engine);
+        let answers = engine.run(inputs(rt, alloc)).expect(rt, "memory");
+        spell_answers(rt, text, answers.as_slice());
+        drop(answers);
     } else {
-        step_by_step(&rt, &mut text, &mut engine);
+        for given in GIVEN {
+            let answer = engine.step(input_of(rt, alloc, 0, *given));
+            spell_answer(rt, text, &answer);
+            drop(answer);
+        }
     }
-    show(&rt, &mut text, &engine);
+    let rows = engine.rows().expect(rt, "memory");
+    let due = (engine.get_pending_deadline(), engine.get_active_deadline());
+    spell_state(rt, text, rows.as_slice(), due, &engine.metrics());
+    drop(rows);
+}
+
+/// What an engine that is called 9, with a timeout of 50 and a delay of 10, writes of the inputs.
+fn printed<R: Abort + Copy + Drop>(rt: R, alloc: Global, is_one_run: bool) -> String {
+    let mailbox_size = NonZeroUsize::new(4).expect(&rt, "a size");
+    let consumer = Consumer::dummy(alloc).expect(&rt, "memory");
+    let cfg = Config {
+        peer_provider: Quiet::new(),
+        blocker: Quiet::new(),
+        consumer,
+        producer: Producer::new(alloc),
+        mailbox_size,
+        me: Some(Peer(9)),
+        fetch_timeout: 50,
+        fetch_retry_delay: 10,
+        priority_requests: false,
+        priority_responses: false,
+    };
+    let (engine, mailbox) = Engine::new(rt, alloc, cfg).expect(&rt, "an engine");
+    drop(mailbox);
+    let mut engine: Silent<R> = engine;
+    let mut text = String::new(alloc);
+    drive(&rt, &mut text, &mut engine, is_one_run);
     drop(engine);
     text
 }
 
-/// A core takes the inputs in one run.
-fn run_core(rt: &impl Abort, text: &mut String, core: &mut Plain) {
-    let inputs = inputs(rt, *text.allocator());
-    let answers = core.run(inputs).expect(rt, "memory");
-    spell_answers(rt, text, answers.as_slice());
-    drop(answers);
-}
-
-fn show_core(rt: &impl Abort, text: &mut String, core: &Plain) {
-    let rows = core.rows().expect(rt, "memory");
-    let due = (core.get_pending_deadline(), core.get_active_deadline());
-    spell_state(rt, text, rows.as_slice(), due, &core.metrics());
-    drop(rows);
-}
-
-/// What a core by itself writes of them.
+/// What a core by itself, which takes the inputs in one run, writes of them.
 fn printed_of_core(rt: &impl Abort, alloc: Global) -> String {
     let mut core = make_core(alloc, Some(Peer(9)));
     let mut text = String::new(alloc);
-    run_core(rt, &mut text, &mut core);
-    show_core(rt, &mut text, &core);
+    let answers = core.run(inputs(rt, alloc)).expect(rt, "memory");
+    spell_answers(rt, &mut text, answers.as_slice());
+    drop(answers);
+    let rows = core.rows().expect(rt, "memory");
+    let due = (core.get_pending_deadline(), core.get_active_deadline());
+    spell_state(rt, &mut text, rows.as_slice(), due, &core.metrics());
+    drop(rows);
     drop(core);
     text
 }
