@@ -1,5 +1,6 @@
 //! An actor's loop in memory over an opaque source, and what its test holds of it.
 
+use crate::playing::spell_said;
 use bytes::Bytes;
 use futures::Future;
 use futures::channel::{mpsc, oneshot};
@@ -7,23 +8,19 @@ use futures::task::{Context, Poll};
 use futures::test::MockTask;
 use resolver::base::Feedback;
 use resolver::mailbox::Unrecorded;
-use resolver::opaque::{Fetcher, Loop, init, open};
+use resolver::opaque::{Fetcher, Loop};
 use resolver::p2p::mocks::Key;
-use resolver::{Ending, Handle, Outcome, Resolution, Resolver, opaque};
+use resolver::{Ending, Outcome, Resolution, Resolver, opaque};
 use resolver_fakes::acts::wanted;
 use resolver_fakes::lent::Judge;
 use resolver_fakes::names::{Below, Peer};
 use resolver_fakes::seen::{Seen, Wrong};
 use resolver_fakes::watch::{Standing, Telling, Watch};
 use resolver_fakes::world::{Polled, judge};
-use std::alloc::{AllocGlobal, Global};
-use std::fmt::Write;
-use std::num::NonZeroUsize;
+use std::alloc::Global;
 use std::panic::Expect;
 use std::process::Abort;
-use std::random::RandomSource;
 use std::sync::{Arc, Wait};
-use std::thread::Threads;
 
 /// A look that a test answers.
 pub struct Look {
@@ -98,7 +95,7 @@ impl<R: Wait + Copy + Drop> Pollable for Lending<R> {
 /// A loop, as a test knows it, which polls it by hand.
 #[derive(Drop)]
 pub struct Looped<L> {
-    looped: L,
+    pub looped: L,
 }
 
 impl<L: Pollable> Polled for Looped<L> {
@@ -136,10 +133,10 @@ impl Drop for Held {
 
 /// What an actor is lent.
 #[derive(Drop)]
-struct Lent {
-    clock: Telling,
-    source: Source,
-    consumer: Judge,
+pub struct Lent {
+    pub clock: Telling,
+    pub source: Source,
+    pub consumer: Judge,
 }
 
 /// A handle of the mailbox, and what a test holds besides.
@@ -182,7 +179,7 @@ fn make_source(rt: &impl Abort, alloc: Global) -> (mpsc::UnboundedReceiver<(Key,
 }
 
 /// What an actor is lent, and the ends of it that its test holds.
-fn lend(rt: &impl Abort, alloc: Global, wrong: Wrong) -> (Held, Lent) {
+pub fn lend(rt: &impl Abort, alloc: Global, wrong: Wrong) -> (Held, Lent) {
     let (moments, watch, clock) = make_clock(rt, alloc);
     let (looks, source) = make_source(rt, alloc);
     let (teller, told) = mpsc::unbounded(alloc).expect(rt, "memory");
@@ -201,38 +198,6 @@ fn lend(rt: &impl Abort, alloc: Global, wrong: Wrong) -> (Held, Lent) {
         consumer,
     };
     (held, lent)
-}
-
-/// An actor over a source, with a delay of 100.
-pub fn opened<R>(rt: R, alloc: Global, wrong: Wrong) -> (Ends<Asked<R>>, Looped<Lending<R>>)
-where
-    R: Abort + Copy,
-{
-    let (held, lent) = lend(&rt, alloc, wrong);
-    let Lent {
-        clock,
-        source,
-        consumer,
-    } = lent;
-    let opened = open(rt, alloc, clock, source, consumer, NonZeroUsize::MIN, 100);
-    let (resolver, looped) = opened.expect(&rt, "an actor");
-    (Ends { resolver, held }, Looped { looped })
-}
-
-/// The same in a thread.
-pub fn run<R>(rt: R, alloc: Global) -> (Ends<Asked<R>>, Handle)
-where
-    R: Abort + Threads + Wait + RandomSource + AllocGlobal + Copy + Drop + Send + 'static,
-{
-    let (held, lent) = lend(&rt, alloc, Wrong::Nothing);
-    let Lent {
-        clock,
-        source,
-        consumer,
-    } = lent;
-    let begun = init(rt, alloc, clock, source, consumer, NonZeroUsize::MIN, 100);
-    let (resolver, handle) = begun.expect(&rt, "an actor");
-    (Ends { resolver, held }, handle)
 }
 
 /// A handle of an actor's mailbox, as a test asks by it.
@@ -260,11 +225,6 @@ impl<R: Wait + Copy + Send + 'static> Asking for Asked<R> {
     }
 }
 
-/// Writes that a key is looked for.
-pub fn spell_look(rt: &impl Abort, text: &mut String, key: Key) {
-    writeln!(text, "look {}", key.0).expect(rt, "memory");
-}
-
 /// Answers a look with these bytes, if there are any.
 pub fn answer_look(look: Looked, value: Option<&'static [u8]>) {
     let value = match value {
@@ -280,7 +240,7 @@ impl Held {
         let Ok((key, look)) = self.looks.try_recv() else {
             return None;
         };
-        spell_look(rt, text, key);
+        spell_said(rt, text, "look", key.0);
         Some(look)
     }
 

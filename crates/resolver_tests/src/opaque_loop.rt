@@ -1,13 +1,14 @@
 use crate::asserting::assert_same;
-use crate::opaque_lent::{Asking, Ends, opened};
-use crate::playing::{spell_feedback, turn};
-use futures::channel::{mpsc, oneshot};
+use crate::opaque_lent::{Asking, Ends, Held, Lent, Looped, Pollable, lend};
+use crate::playing::{spell_feedback, spell_said, turn};
+use futures::channel::oneshot;
 use futures::test::MockTask;
-use resolver::Outcome;
+use resolver::base::Fault;
+use resolver::opaque::open;
 use resolver_fakes::seen::Wrong;
 use resolver_fakes::world::Polled;
 use std::alloc::AllocGlobal;
-use std::fmt::Write;
+use std::num::NonZeroUsize;
 use std::panic::Expect;
 use std::process::Abort;
 use std::random::RandomSource;
@@ -98,20 +99,6 @@ fn is_given_up<T: Drop>(answer: Option<oneshot::Sender<T>>) -> bool {
     }
 }
 
-fn spell_given_up(rt: &impl Abort, text: &mut String, is_given_up: bool) {
-    writeln!(text, "given up {is_given_up}").expect(rt, "memory");
-}
-
-/// Writes whether the first of these verdicts is called off.
-fn spell_canceled(
-    rt: &impl Abort,
-    text: &mut String,
-    verdicts: &mut mpsc::UnboundedReceiver<oneshot::Sender<Outcome>>,
-) {
-    let is_canceled = is_given_up(verdicts.try_recv().ok());
-    writeln!(text, "canceled {is_canceled}").expect(rt, "memory");
-}
-
 /// The subscribers from this one on are let go while a look has begun. Writes whether that is given up.
 fn let_go_of_look<A: Asking, L: Polled>(
     rt: &impl Abort,
@@ -124,7 +111,7 @@ fn let_go_of_look<A: Asking, L: Polled>(
     let look = ends.held.look(rt, text);
     ends.resolver.let_go_from(rt, subscriber);
     turn(rt, text, task, looped, &mut ends.held.told);
-    spell_given_up(rt, text, is_given_up(look));
+    spell_said(rt, text, "given up", is_given_up(look));
 }
 
 fn step<A: Asking, L: Polled>(
@@ -145,37 +132,51 @@ fn step<A: Asking, L: Polled>(
         Act::Complete => ends.held.complete(),
         Act::LetGoFrom(subscriber) => ends.resolver.let_go_from(rt, subscriber),
         Act::LetGoOfLook(subscriber) => let_go_of_look(rt, text, task, looped, ends, subscriber),
-        Act::IsCanceled => spell_canceled(rt, text, &mut ends.held.verdicts),
+        Act::IsCanceled => {
+            let verdict = ends.held.verdicts.try_recv().ok();
+            spell_said(rt, text, "canceled", is_given_up(verdict));
+        }
         Act::Close => ends.resolver.end(),
         Act::Turn => turn(rt, text, task, looped, &mut ends.held.told),
     }
 }
 
-/// Does these, and gives what was written.
-fn written<R, A, L>(rt: &R, looped: &mut L, ends: &mut Ends<A>, acts: &[Act]) -> String
+/// Does these to the loop that was opened, by the handle of its mailbox and what is held besides, and gives what was
+/// written.
+fn written<R, A, L>(rt: &R, opened: Result<(A, L), Fault>, held: Held, acts: &[Act]) -> String
 where
     R: Abort + RandomSource + AllocGlobal,
-    A: Asking,
-    L: Polled,
+    A: Asking + Drop,
+    L: Pollable + Drop,
 {
+    let (resolver, looped) = opened.expect(rt, "an actor");
+    let mut looped = Looped { looped };
+    let mut ends = Ends { resolver, held };
     let task = MockTask::new(rt).expect(rt, "a task");
     let mut text = String::new(rt.alloc());
     for act in acts {
-        step(rt, &mut text, &task, looped, ends, *act);
+        step(rt, &mut text, &task, &mut looped, &mut ends, *act);
     }
     drop(task);
+    drop(looped);
+    drop(ends);
     text
 }
 
-/// That this is what is seen where these are done to an actor of its own.
+/// That this is what is seen where these are done to an actor over a source, with a delay of 100.
 fn sees<R>(rt: R, wrong: Wrong, acts: &[Act], seen: &str)
 where
     R: Abort + Wait + RandomSource + AllocGlobal + Copy + Drop + Send + 'static,
 {
-    let (mut ends, mut looped) = opened(rt, rt.alloc(), wrong);
-    let text = written(&rt, &mut looped, &mut ends, acts);
-    drop(looped);
-    drop(ends);
+    let alloc = rt.alloc();
+    let (held, lent) = lend(&rt, alloc, wrong);
+    let Lent {
+        clock,
+        source,
+        consumer,
+    } = lent;
+    let opened = open(rt, alloc, clock, source, consumer, NonZeroUsize::MIN, 100);
+    let text = written(&rt, opened, held, acts);
     assert_same(&rt, text.as_str(), seen);
     drop(text);
 }

@@ -10,7 +10,7 @@ use resolver_fakes::acts::{Act, Asks};
 use resolver_fakes::seen::{Seen, Wrong, spell};
 use resolver_fakes::world::{Polled, Setting, World, make_loop, settle};
 use std::alloc::{AllocGlobal, Global};
-use std::fmt::Write;
+use std::fmt::{Display, Write};
 use std::panic::Expect;
 use std::process::Abort;
 use std::random::RandomSource;
@@ -42,8 +42,9 @@ pub fn turn<L: Polled>(
     writeln!(text, "{word}").expect(rt, "memory");
 }
 
-fn spell_wanted(rt: &impl Abort, text: &mut String, is_wanted: bool) {
-    writeln!(text, "wanted {is_wanted}").expect(rt, "memory");
+/// Writes a line of a word and of what is said of it.
+pub fn spell_said(rt: &impl Abort, text: &mut String, word: &str, said: impl Display + Copy) {
+    writeln!(text, "{word} {said}").expect(rt, "memory");
 }
 
 /// Does this, and polls the loop.
@@ -56,7 +57,7 @@ fn step<M: Asks, L: Polled>(
     act: Act<'_>,
 ) {
     match act {
-        Act::IsWanted => spell_wanted(rt, text, world.held.is_wanted()),
+        Act::IsWanted => spell_said(rt, text, "wanted", world.held.is_wanted()),
         _ => {
             world.act(act).expect(rt, "memory");
             turn(rt, text, task, looped, &mut world.held.told);
@@ -104,8 +105,8 @@ where
     text
 }
 
-/// The same in a world of its own.
-fn play<R>(rt: R, wrong: Wrong, acts: &[Act<'_>]) -> String
+/// That this is what is seen where these are done in a world of its own.
+pub fn sees<R>(rt: R, wrong: Wrong, acts: &[Act<'_>], seen: &str)
 where
     R: Abort + Wait + RandomSource + AllocGlobal + Copy + Drop + Send + 'static,
 {
@@ -114,15 +115,6 @@ where
     let text = written(&rt, &mut looped, &mut world, acts);
     drop(looped);
     drop(world);
-    text
-}
-
-/// That this is what is seen where these are done.
-pub fn sees<R>(rt: R, wrong: Wrong, acts: &[Act<'_>], seen: &str)
-where
-    R: Abort + Wait + RandomSource + AllocGlobal + Copy + Drop + Send + 'static,
-{
-    let text = play(rt, wrong, acts);
     assert_same(&rt, text.as_str(), seen);
     drop(text);
 }

@@ -1,10 +1,12 @@
 use crate::asserting::assert_same;
-use crate::opaque_lent::{Asking, Held, Looked, answer_look, run, spell_look};
+use crate::opaque_lent::{Asking, Held, Lent, Looked, answer_look, lend};
+use crate::playing::spell_said;
 use bytes::Bytes;
 use futures::StreamExt;
 use futures::channel::{mpsc, oneshot};
 use futures::executor::block_on;
 use resolver::base::Fault;
+use resolver::opaque::init;
 use resolver::p2p::mocks::Key;
 use resolver::{Outcome, Resolution};
 use resolver_fakes::acts::{Act, Asks};
@@ -12,6 +14,7 @@ use resolver_fakes::seen::{Seen, Wrong};
 use resolver_fakes::world::{Setting, World, make_world, start};
 use std::alloc::AllocGlobal;
 use std::fmt::Write;
+use std::num::NonZeroUsize;
 use std::panic::Expect;
 use std::process::Abort;
 use std::random::RandomSource;
@@ -64,17 +67,17 @@ fn spell_next(
 }
 
 /// Looks at most 10,000 times, with a pause of a millisecond, whether the fakes were asked so many things, and
-/// writes them. Says whether they were.
+/// writes them.
 fn look<R: Abort + Clock>(
     rt: &R,
     text: &mut String,
     told: &mut mpsc::UnboundedReceiver<Seen>,
     count: u32,
-) -> bool {
+) {
     let mut left = count;
     for _ in 0..10_000_u32 {
         if left == 0 {
-            return true;
+            return;
         }
         if spell_next(rt, text, told) {
             left -= 1;
@@ -82,7 +85,6 @@ fn look<R: Abort + Clock>(
             thread::sleep(rt, Duration::from_millis(1));
         }
     }
-    false
 }
 
 /// Whoever asks next is answered so.
@@ -108,39 +110,28 @@ where
     answer_next(rt, verdicts, Outcome::Resolved(Resolution::Complete));
 }
 
-/// The producer has these bytes for the next request.
-fn serve<R>(
-    rt: &R,
-    serves: &mut mpsc::UnboundedReceiver<oneshot::Sender<Bytes>>,
-    value: &'static [u8],
-)
+/// The producer has two bytes for the next request.
+fn serve<R>(rt: &R, serves: &mut mpsc::UnboundedReceiver<oneshot::Sender<Bytes>>)
 where
     R: Abort + Wait + RandomSource + AllocGlobal,
 {
-    answer_next(rt, serves, Bytes::from_static(value));
+    answer_next(rt, serves, Bytes::from_static(b"ok"));
 }
 
-fn act<M: Asks>(rt: &impl Abort, world: &mut World<M>, act: Act<'_>) {
-    world.act(act).expect(rt, "memory");
-}
-
-/// Of two peers the second is asked for a key, and answers; the first asks for another, and is
-/// answered.
-fn exchange<R, M>(rt: &R, text: &mut String, world: &mut World<M>)
-where
-    R: Abort + Wait + RandomSource + AllocGlobal,
-    M: Asks,
-{
-    act(rt, world, Act::Peers(1, &[3, 4]));
-    act(rt, world, Act::FetchFrom(&[(1, 4)]));
-    wait(rt, text, &mut world.held.told, 5);
-    act(rt, world, Act::Net(4, b"\0\0\0\0\0\0\0\0\x01\x02hi"));
-    wait(rt, text, &mut world.held.told, 1);
-    complete(rt, &mut world.held.verdicts);
-    act(rt, world, Act::Net(3, b"\0\0\0\0\0\0\0\x07\0\x05"));
-    wait(rt, text, &mut world.held.told, 1);
-    serve(rt, &mut world.held.serves, b"ok");
-    wait(rt, text, &mut world.held.told, 1);
+/// What is done to an engine in a thread, one thing at a time.
+#[derive(Clone, Copy)]
+enum Step {
+    Act(Act<'static>),
+    /// Waits until the fakes were asked so many things.
+    Wait(u32),
+    /// Looks for so many things that the fakes are asked.
+    Look(u32),
+    /// The next delivery is what was wanted.
+    Complete,
+    /// The producer has two bytes for the next request.
+    Serve,
+    /// The same for the first one, if there is one. It is told whether anybody waited for them.
+    Release,
 }
 
 /// Sends an answer, and says whether anybody waited for it.
@@ -158,68 +149,74 @@ fn release(serves: &mut mpsc::UnboundedReceiver<oneshot::Sender<Bytes>>) -> bool
     }
 }
 
-fn spell_owed(rt: &impl Abort, text: &mut String, is_owed: bool) {
-    writeln!(text, "owed {is_owed}").expect(rt, "memory");
-}
+/// Of two peers the second is asked for a key, and answers; the first asks for another, and is
+/// answered.
+const EXCHANGE: &[Step] = &[
+    Step::Act(Act::Peers(1, &[3, 4])),
+    Step::Act(Act::FetchFrom(&[(1, 4)])),
+    Step::Wait(5),
+    Step::Act(Act::Net(4, b"\0\0\0\0\0\0\0\0\x01\x02hi")),
+    Step::Wait(1),
+    Step::Complete,
+    Step::Act(Act::Net(3, b"\0\0\0\0\0\0\0\x07\0\x05")),
+    Step::Wait(1),
+    Step::Serve,
+    Step::Wait(1),
+    Step::Act(Act::CloseMailbox),
+];
 
-/// A key is fetched, asked for and delivered.
-fn deliver<R, M>(rt: &R, text: &mut String, world: &mut World<M>)
+/// A key is fetched, asked for and delivered, while a serve is held back. Only then the serve is answered, and the
+/// reply looked for.
+const HOLD_BACK: &[Step] = &[
+    Step::Act(Act::Peers(1, &[3])),
+    Step::Act(Act::Net(3, b"\0\0\0\0\0\0\0\x07\0\x05")),
+    Step::Look(1),
+    Step::Act(Act::Fetch(&[(1, 10)])),
+    Step::Look(5),
+    Step::Act(Act::Net(3, b"\0\0\0\0\0\0\0\0\x01\x02hi")),
+    Step::Look(1),
+    Step::Release,
+    Step::Look(1),
+    Step::Act(Act::CloseMailbox),
+];
+
+fn do_step<R, M>(rt: &R, text: &mut String, world: &mut World<M>, step: Step)
 where
-    R: Abort + Clock,
+    R: Abort + Clock + Wait + RandomSource + AllocGlobal,
     M: Asks,
 {
-    act(rt, world, Act::Fetch(&[(1, 10)]));
-    if look(rt, text, &mut world.held.told, 5) {
-        act(rt, world, Act::Net(3, b"\0\0\0\0\0\0\0\0\x01\x02hi"));
-        look(rt, text, &mut world.held.told, 1);
+    match step {
+        Step::Act(act) => world.act(act).expect(rt, "memory"),
+        Step::Wait(count) => wait(rt, text, &mut world.held.told, count),
+        Step::Look(count) => look(rt, text, &mut world.held.told, count),
+        Step::Complete => complete(rt, &mut world.held.verdicts),
+        Step::Serve => serve(rt, &mut world.held.serves),
+        Step::Release => spell_said(rt, text, "owed", release(&mut world.held.serves)),
     }
 }
 
-/// The same while a serve is held back. Only then the serve is answered, and the reply looked for.
-fn hold_back<R, M>(rt: &R, text: &mut String, world: &mut World<M>)
-where
-    R: Abort + Clock,
-    M: Asks,
-{
-    act(rt, world, Act::Peers(1, &[3]));
-    act(rt, world, Act::Net(3, b"\0\0\0\0\0\0\0\x07\0\x05"));
-    look(rt, text, &mut world.held.told, 1);
-    deliver(rt, text, world);
-    spell_owed(rt, text, release(&mut world.held.serves));
-    look(rt, text, &mut world.held.told, 1);
-}
-
-/// What is done to an engine in a thread.
-#[derive(Clone, Copy)]
-enum Course {
-    Exchange,
-    HoldBack,
-}
-
-/// Does this, closes the mailbox, and gives what was written.
-fn go<R, M>(rt: &R, world: &mut World<M>, course: Course) -> String
+/// Does these, and gives what was written.
+fn go<R, M>(rt: &R, world: &mut World<M>, steps: &[Step]) -> String
 where
     R: Abort + Clock + Wait + RandomSource + AllocGlobal,
     M: Asks,
 {
     let mut text = String::new(rt.alloc());
-    match course {
-        Course::Exchange => exchange(rt, &mut text, world),
-        Course::HoldBack => hold_back(rt, &mut text, world),
+    for step in steps {
+        do_step(rt, &mut text, world, *step);
     }
-    act(rt, world, Act::CloseMailbox);
     text
 }
 
-/// Does this to an engine in a thread, with a world of its own. Gives what was written, and how the engine ended.
-fn play<R>(rt: R, course: Course) -> (String, Result<(), Fault>)
+/// Does these to an engine in a thread, with a world of its own. Gives what was written, and how the engine ended.
+fn play<R>(rt: R, steps: &[Step]) -> (String, Result<(), Fault>)
 where
     R: Abort + Clock + Threads + Wait + RandomSource + AllocGlobal + Copy + Drop + Send + 'static,
 {
     let made = make_world(rt, rt.alloc(), Setting::with(Wrong::Nothing));
     let (mut world, engine, lent) = made.expect(&rt, "a world");
     let handle = start(engine, lent).expect(&rt, "a thread");
-    let text = go(&rt, &mut world, course);
+    let text = go(&rt, &mut world, steps);
     let ended = handle.join(&rt);
     drop(world);
     (text, ended)
@@ -233,7 +230,7 @@ fn assert_ran(rt: &impl Abort, text: &str, ended: Result<(), Fault>, expected: &
 
 #[test]
 fn an_engine_in_a_thread_fetches_and_serves(rt: HostRuntime) {
-    let (text, ended) = play(rt, Course::Exchange);
+    let (text, ended) = play(rt, EXCHANGE);
     assert_ran(
         &rt,
         text.as_str(),
@@ -254,7 +251,7 @@ send 3 x000000000000000701026f6b
 /// A serve that is held back holds no fetch back.
 #[test]
 fn serve_waits_for_fetch(rt: HostRuntime) {
-    let (text, ended) = play(rt, Course::HoldBack);
+    let (text, ended) = play(rt, HOLD_BACK);
     assert_ran(
         &rt,
         text.as_str(),
@@ -284,13 +281,9 @@ where
     R: Abort + Wait + RandomSource + AllocGlobal,
 {
     if let Some((key, look)) = next(rt, looks) {
-        spell_look(rt, text, key);
+        spell_said(rt, text, "look", key.0);
         answer_look(look, value);
     }
-}
-
-fn spell_moment(rt: &impl Abort, text: &mut String, moment: u128) {
-    writeln!(text, "wait {moment}").expect(rt, "memory");
 }
 
 /// The source has nothing at first, and a value once the clock has come to the moment that it is
@@ -302,7 +295,7 @@ where
     let mut text = String::new(rt.alloc());
     answer(rt, &mut text, &mut held.looks, None);
     if let Some(moment) = next(rt, &mut held.moments) {
-        spell_moment(rt, &mut text, moment);
+        spell_said(rt, &mut text, "wait", moment);
     }
     held.watch.put(100);
     answer(rt, &mut text, &mut held.looks, Some(b"hi"));
@@ -310,17 +303,27 @@ where
     text
 }
 
-/// The same of an actor in a thread that is asked for key 1. Gives what was written, and how the actor ended.
+/// The same of an actor in a thread, with a delay of 100, that is asked for key 1. Gives what was written, and how the
+/// actor ended.
 fn retry_in_thread<R>(rt: R) -> (String, Result<(), Fault>)
 where
     R: Abort + Threads + Wait + RandomSource + AllocGlobal + Copy + Drop + Send + 'static,
 {
-    let (mut ends, handle) = run(rt, rt.alloc());
-    drop(ends.resolver.want(&rt, 10));
-    let text = retry(&rt, &mut ends.held);
-    ends.resolver.end();
+    let alloc = rt.alloc();
+    let (mut held, lent) = lend(&rt, alloc, Wrong::Nothing);
+    let Lent {
+        clock,
+        source,
+        consumer,
+    } = lent;
+    let begun = init(rt, alloc, clock, source, consumer, NonZeroUsize::MIN, 100);
+    let (mut resolver, handle) = begun.expect(&rt, "an actor");
+    drop(resolver.want(&rt, 10));
+    let text = retry(&rt, &mut held);
+    resolver.end();
     let ended = handle.join(&rt);
-    drop(ends);
+    drop(resolver);
+    drop(held);
     (text, ended)
 }
 
