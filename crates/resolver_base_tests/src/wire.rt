@@ -4,7 +4,8 @@ ghost use Rattle.std.specs.Prelude.{◌<◌, ◌^◌, length};
 ghost use Rattle.resolver_request.specs.Spelling.{IsShort};
 
 use crate::asserts::{equal, equal_at, equal_lists};
-use crate::keys::{Key, Zeros};
+use crate::keys::Zeros;
+use crate::names::Letter;
 use bytes::{Bytes, BytesMut};
 use resolver_base::base::Fault;
 use resolver_request::wire::{Message, Payload, max_message_size};
@@ -21,18 +22,22 @@ const RESPONSE_BYTES: &[u8] = b"\0\0\0\0\0\0\x10\xe1\x01\x0dHello, world!";
 
 #[test]
 fn wire_vectors(rt: HostRuntime) {
+    let rt = &rt;
     let alloc = rt.alloc();
-    let payload = Payload::Request(Key { value: 123 });
-    spelled(&rt, alloc, Message { id: 1234, payload }, REQUEST_BYTES);
+    let payload = Payload::Request(Letter(123));
+    spelled(rt, alloc, Message { id: 1234, payload }, REQUEST_BYTES);
     let payload = Payload::Error;
-    spelled(&rt, alloc, Message { id: 255, payload }, ERROR_BYTES);
+    spelled(rt, alloc, Message { id: 255, payload }, ERROR_BYTES);
     let payload = Payload::Response(Bytes::from_static(b"Hello, world!"));
-    spelled(&rt, alloc, Message { id: 4321, payload }, RESPONSE_BYTES);
+    spelled(rt, alloc, Message { id: 4321, payload }, RESPONSE_BYTES);
 }
 
 #[test]
 fn greatest_sizes(rt: HostRuntime) {
-    let of_keys = (max_message_size::<Key>(0), max_message_size::<Key>(100));
+    let of_keys = (
+        max_message_size::<Letter>(0),
+        max_message_size::<Letter>(100),
+    );
     let of_zeros = max_message_size::<Zeros>(0);
     equal(&rt, &(of_keys, of_zeros), &((14, 114), 73));
 }
@@ -66,7 +71,7 @@ fn bytes_refused(rt: HostRuntime) {
 }
 
 /// The message is written as these bytes and read from them, alone and with a byte behind them.
-fn spelled(rt: &impl Abort, alloc: Global, message: Message<Key>, bytes: &[u8])
+fn spelled(rt: &impl Abort, alloc: Global, message: Message<Letter>, bytes: &[u8])
     requires { IsShort message.payload }
 {
     equal(rt, &message.encode_size(), &bytes.len());
@@ -98,7 +103,7 @@ fn gives<T: PartialEq + Debug + Drop>(rt: &impl Abort, found: Result<T, Fault>, 
 /// The bytes are refused so, or spell a message which is written as they are.
 fn decodes(rt: &impl Abort, alloc: Global, bytes: &[u8], fault: Option<Fault>) {
     let copied = Bytes::copy_from_slice(alloc, bytes).expect(rt, "memory");
-    match Message::<Key>::decode(copied) {
+    match Message::<Letter>::decode(copied) {
         Err(refusal) => equal_at(rt, &bytes, &Some(refusal), &fault),
         Ok(message) => {
             equal_at(rt, &bytes, &None, &fault);
@@ -109,7 +114,7 @@ fn decodes(rt: &impl Abort, alloc: Global, bytes: &[u8], fault: Option<Fault>) {
 }
 
 /// The message is written as these bytes.
-fn is_spelled(rt: &impl Abort, alloc: Global, message: &Message<Key>, bytes: &[u8])
+fn is_spelled(rt: &impl Abort, alloc: Global, message: &Message<Letter>, bytes: &[u8])
     requires { IsShort message.now.payload }
 {
     let written = written(rt, alloc, message);
@@ -118,7 +123,7 @@ fn is_spelled(rt: &impl Abort, alloc: Global, message: &Message<Key>, bytes: &[u
 }
 
 /// What the message is written as.
-fn written(rt: &impl Abort, alloc: Global, message: &Message<Key>) -> Bytes
+fn written(rt: &impl Abort, alloc: Global, message: &Message<Letter>) -> Bytes
     requires { IsShort message.now.payload }
 {
     let mut out = BytesMut::new(alloc);
@@ -155,6 +160,7 @@ fn altered(rt: &impl Abort, alloc: Global, bytes: &[u8], changes: &[Change]) {
 
 #[test]
 fn messages_cut_short_or_changed(rt: HostRuntime) {
+    let rt = &rt;
     // A byte of a key is read as the length of a value that isn't there.
     const REQUEST: &[Change] = &[
         (8, 1, 1, Fault::EndOfBuffer),
@@ -173,9 +179,9 @@ fn messages_cut_short_or_changed(rt: HostRuntime) {
         (9, 0, 12, Fault::ExtraData),
         (9, 14, 255, Fault::EndOfBuffer),
     ];
-    altered(&rt, rt.alloc(), REQUEST_BYTES, REQUEST);
-    altered(&rt, rt.alloc(), ERROR_BYTES, ERROR);
-    altered(&rt, rt.alloc(), RESPONSE_BYTES, RESPONSE);
+    altered(rt, rt.alloc(), REQUEST_BYTES, REQUEST);
+    altered(rt, rt.alloc(), ERROR_BYTES, ERROR);
+    altered(rt, rt.alloc(), RESPONSE_BYTES, RESPONSE);
 }
 
 /// So many bytes that are 0.
@@ -188,6 +194,7 @@ fn zeros(rt: &impl Abort, alloc: Global, count: u16) -> Bytes
 
 #[test]
 fn responses_of_zeros(rt: HostRuntime) {
+    let rt = &rt;
     const CASES: &[(u16, (usize, usize, usize), &[u8])] = &[
         (0, (10, 10, 1), b"\0\0\0\0\0\0\0\0\x01\0"),
         (127, (137, 10, 2), b"\0\0\0\0\0\0\0\0\x01\x7f"),
@@ -196,17 +203,17 @@ fn responses_of_zeros(rt: HostRuntime) {
         (16384, (16396, 12, 2), b"\0\0\0\0\0\0\0\0\x01\x80\x80\x01"),
     ];
     for (len, wanted, head) in CASES {
-        let value = zeros(&rt, rt.alloc(), *len);
+        let value = zeros(rt, rt.alloc(), *len);
         let payload = Payload::Response(value);
         let message = Message { id: 0, payload };
-        equal(&rt, &sizes(&rt, rt.alloc(), &message), wanted);
-        begins_with(&rt, rt.alloc(), &message, head);
+        equal(rt, &sizes(rt, rt.alloc(), &message), wanted);
+        begins_with(rt, rt.alloc(), &message, head);
         drop(message);
     }
 }
 
 /// How many bytes the message is written as, how many of them aren't its value's, and in how many pieces.
-fn sizes(rt: &impl Abort, alloc: Global, message: &Message<Key>) -> (usize, usize, usize)
+fn sizes(rt: &impl Abort, alloc: Global, message: &Message<Letter>) -> (usize, usize, usize)
     requires { IsShort message.now.payload }
 {
     let pieces = message.write_bufs(alloc).expect(rt, "memory");
@@ -216,7 +223,7 @@ fn sizes(rt: &impl Abort, alloc: Global, message: &Message<Key>) -> (usize, usiz
 }
 
 /// The message is written as so many bytes as it says, and as these before its value. It is read again.
-fn begins_with(rt: &impl Abort, alloc: Global, message: &Message<Key>, head: &[u8])
+fn begins_with(rt: &impl Abort, alloc: Global, message: &Message<Letter>, head: &[u8])
     requires { IsShort message.now.payload }
 {
     let written = written(rt, alloc, message);
