@@ -3,6 +3,7 @@
 //! A test is a table of calls, and of what is seen at each. One loop goes through it, so that what
 //! a fetcher is comes up in few proofs.
 
+ghost use Rattle.std.specs.Prelude.{◌≡◌};
 ghost use Rattle.resolver_fetch.specs.Fetcher.{IsTimely};
 
 use crate::asserts::holds;
@@ -109,9 +110,9 @@ pub enum Seen {
     /// A weight.
     Weight(Option<u64>),
     /// The key of a request that was taken out.
-    Popped(Option<u8>),
+    Popped(Option<Letter>),
     /// The key of a request that was answered, and how long it took.
-    Answered(Option<(u8, u128)>),
+    Answered(Option<(Letter, u128)>),
     /// Whether it is so.
     Is(bool),
     /// When a key that waits is due and whether it is tried again, or its request's id and peer.
@@ -163,7 +164,7 @@ pub fn delayed(delay: u32) -> Config<Letter>
 }
 
 /// These peers.
-fn peers_of(rt: &impl Abort, alloc: Global, names: &[u8]) -> Vec<Letter> {
+pub fn peers_of(rt: &impl Abort, alloc: Global, names: &[u8]) -> Vec<Letter> {
     let mut peers = Vec::new(alloc);
     for name in names {
         peers.push(Letter(*name)).expect(rt, "memory");
@@ -186,7 +187,11 @@ fn crowd(rt: &impl Abort, alloc: Global, count: u8) -> Vec<Letter> {
 pub type Node = Fetcher<Letter, Letter>;
 
 /// Takes these peers in place of the latest set.
-fn set_peers(rt: &impl Abort, fetcher: &mut Node, peers: Vec<Letter>) -> Seen {
+pub fn set_peers<K: Ord + Drop, P: Ord + Drop>(
+    rt: &impl Abort,
+    fetcher: &mut Fetcher<K, P>,
+    peers: Vec<P>,
+) -> Seen {
     holds(rt, !fetcher.is_scanning());
     fetcher.reconcile(peers).expect(rt, "memory");
     Seen::Done
@@ -200,7 +205,15 @@ fn set_blocked(rt: &impl Abort, fetcher: &mut Node, peers: Vec<Letter>) -> Seen 
 }
 
 /// A key waits from now on, or waits to be tried again.
-fn wait(rt: &impl Abort, fetcher: &mut Node, key: Letter, at: u64, is_retry: bool) -> Seen {
+pub fn wait<K: Ord + Clone + Drop, P: Ord + Drop>(
+    rt: &impl Abort,
+    fetcher: &mut Fetcher<K, P>,
+    key: K,
+    at: u64,
+    is_retry: bool,
+) -> Seen
+    requires keys_clone { (x y : K) → K.is_clone x y → y ≡ x }
+{
     holds(rt, !fetcher.is_scanning());
     holds(rt, !fetcher.is_waiting(&key));
     holds(rt, !fetcher.is_asked(&key));
@@ -257,28 +270,36 @@ fn answered(fetcher: &mut Node, answer: Answer) -> Result<Option<Ask<Letter, Let
 }
 
 /// A response of this peer under the id 5.
-fn pop_response(fetcher: &mut Node, peer: u8, at: u64) -> Option<(u8, u128)> {
-    if fetcher.is_scanning() {
-        return None;
-    }
-    let (key, elapsed) = fetcher.pop_response(5, &Letter(peer), u128::from(at))?;
-    Some((key.0, elapsed))
+fn pop_response<K: Ord + Drop, P: Ord + Drop>(
+    rt: &impl Abort,
+    fetcher: &mut Fetcher<K, P>,
+    peer: &P,
+    at: u64,
+) -> Option<(K, u128)> {
+    holds(rt, !fetcher.is_scanning());
+    fetcher.pop_response(5, peer, u128::from(at))
 }
 
-/// Word of peer 4 under the id 5 that the data is missing.
-fn pop_missing(fetcher: &mut Node, at: u64) -> Option<u8> {
-    if fetcher.is_scanning() {
-        return None;
-    }
-    Some(fetcher.pop_missing(5, &Letter(4), u128::from(at))?.0)
+/// Word of a peer under the id 5 that the data is missing.
+fn pop_missing<K: Ord + Drop, P: Ord + Drop>(
+    rt: &impl Abort,
+    fetcher: &mut Fetcher<K, P>,
+    peer: &P,
+    at: u64,
+) -> Option<K> {
+    holds(rt, !fetcher.is_scanning());
+    fetcher.pop_missing(5, peer, u128::from(at))
 }
 
 /// The key whose time is over first, if it is over now.
-fn pop_active(fetcher: &mut Node, now: u128) -> Option<u8> {
-    if fetcher.is_scanning() || DURATION_MAX < now {
-        return None;
-    }
-    Some(fetcher.pop_active(now)?.0)
+fn pop_active<K: Ord + Drop, P: Ord + Drop>(
+    rt: &impl Abort,
+    fetcher: &mut Fetcher<K, P>,
+    now: u128,
+) -> Option<K> {
+    holds(rt, !fetcher.is_scanning());
+    holds(rt, now <= DURATION_MAX);
+    fetcher.pop_active(now)
 }
 
 /// When a scan may do something.
@@ -372,9 +393,9 @@ fn made(rt: &impl Abort, alloc: Global, fetcher: &mut Node, call: Call) -> Seen 
         Call::Begin(at) => stepped(begun(rt, fetcher, at)),
         Call::Answer(answer) => stepped(answered(fetcher, answer)),
         Call::Fetch(at, script) => fetches(rt, fetcher, at, script),
-        Call::Response { peer, at } => Seen::Answered(pop_response(fetcher, peer, at)),
-        Call::Missing(at) => Seen::Popped(pop_missing(fetcher, at)),
-        Call::Overdue(at) => Seen::Popped(pop_active(fetcher, at)),
+        Call::Response { peer, at } => Seen::Answered(pop_response(rt, fetcher, &Letter(peer), at)),
+        Call::Missing(at) => Seen::Popped(pop_missing(rt, fetcher, &Letter(4), at)),
+        Call::Overdue(at) => Seen::Popped(pop_active(rt, fetcher, at)),
         Call::WakeUp => Seen::At(wake_up(fetcher)),
         Call::Deadline => Seen::At(deadline(fetcher)),
         Call::Weight(peer) => Seen::Weight(weight(fetcher, peer)),

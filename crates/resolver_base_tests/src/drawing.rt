@@ -204,7 +204,7 @@ const HAS_NO_DATA: &[(Call, Seen)] = &[
     sent!(true, Seen::Over),
     responds!(6, 6),
     responds!(9, 50),
-    (Call::Missing(SECOND), Seen::Popped(Some(1))),
+    (Call::Missing(SECOND), Seen::Popped(Some(Letter(1)))),
     weighs!(4, Some(4)),
     weighs!(6, Some(7)),
     weighs!(9, None),
@@ -219,7 +219,10 @@ const HAS_NO_TIME: &[(Call, Seen)] = &[
     clear!(requests!(4, 6, 2)),
     sent!(true, Seen::Over),
     (Call::Overdue(4 * SECOND as u128 - 1), Seen::Popped(None)),
-    (Call::Overdue(4 * SECOND as u128), Seen::Popped(Some(2))),
+    (
+        Call::Overdue(4 * SECOND as u128),
+        Seen::Popped(Some(Letter(2))),
+    ),
     weighs!(4, Some(1)),
 ];
 
@@ -361,7 +364,7 @@ const COMES_BACK: &[(Call, Seen)] = &[
     sent!(true, Seen::Over),
     (
         Call::Response { peer: 4, at: 3 },
-        Seen::Answered(Some((1, 3))),
+        Seen::Answered(Some((Letter(1), 3))),
     ),
 ];
 

@@ -2,15 +2,14 @@
 
 use crate::asserts::{equal, equal_at, holds};
 use crate::calls::{
-    Call, Seen, begins, clear, delayed, drawn, goes, goes_by, requests, sent, until, waits,
-    waits_again, wakes, weighs,
+    Call, Seen, begins, clear, delayed, drawn, goes, goes_by, peers_of, requests, sent, set_peers,
+    until, wait, waits, waits_again, wakes, weighs,
 };
 use crate::names::Letter;
 use resolver_base::base::{Check, Fault};
 use resolver_fetch::fetcher::Answer::{self, Checked, Drawn, Sent};
 use resolver_fetch::fetcher::{Ask, Config, Fetcher};
 use resolver_request::score::DURATION_MAX;
-use std::alloc::Global;
 use std::panic::Expect;
 use std::process::Abort;
 
@@ -35,7 +34,7 @@ fn fetcher_first_request(rt: HostRuntime) {
             (Call::Response { peer: 3, at: 40 }, Seen::Answered(None)),
             (
                 Call::Response { peer: 4, at: 20 },
-                Seen::Answered(Some((1, 0))),
+                Seen::Answered(Some((Letter(1), 0))),
             ),
         ],
     ];
@@ -60,7 +59,7 @@ fn a_second_request(rt: HostRuntime) {
             (Call::Phase(2), Seen::Phase(None, Some((6, 4)))),
             (
                 Call::Response { peer: 4, at: 50 },
-                Seen::Answered(Some((1, 20))),
+                Seen::Answered(Some((Letter(1), 20))),
             ),
             (Call::Phase(1), Seen::Phase(None, None)),
         ],
@@ -87,7 +86,7 @@ fn fetcher_missing(rt: HostRuntime) {
     const TABLES: &[&[(Call, Seen)]] = &[
         ASKS,
         &[
-            (Call::Missing(50), Seen::Popped(Some(1))),
+            (Call::Missing(50), Seen::Popped(Some(Letter(1)))),
             (Call::Counts, Seen::Counts(false, 0, false, 0)),
             (Call::Weight(4), Seen::Weight(Some(1))),
         ],
@@ -100,7 +99,7 @@ fn fetcher_retry(rt: HostRuntime) {
     const TABLES: &[&[(Call, Seen)]] = &[
         ASKS,
         &[
-            (Call::Missing(50), Seen::Popped(Some(1))),
+            (Call::Missing(50), Seen::Popped(Some(Letter(1)))),
             (Call::Counts, Seen::Counts(false, 0, false, 0)),
             waits_again!(1, 50),
             wakes!(60),
@@ -300,7 +299,7 @@ fn charged_the_longest_time(rt: HostRuntime) {
         sent!(true, Seen::Over),
         (Call::Overdue(DURATION_MAX - 1), Seen::Popped(None)),
         weighs!(4, Some(u64::MAX)),
-        (Call::Overdue(DURATION_MAX), Seen::Popped(Some(1))),
+        (Call::Overdue(DURATION_MAX), Seen::Popped(Some(Letter(1)))),
         weighs!(4, Some(1)),
     ];
     const TABLES: &[&[(Call, Seen)]] = &[CALLS];
@@ -317,16 +316,6 @@ fn charged_the_longest_time(rt: HostRuntime) {
 // Fetchers of many keys.
 
 type Many = Fetcher<u16, Letter>;
-
-/// Key after key waits from 10 on.
-fn waits_each(rt: &impl Abort, fetcher: &mut Many, count: u16) {
-    for key in 0..count {
-        holds(rt, !fetcher.is_scanning());
-        holds(rt, !fetcher.is_waiting(&key));
-        holds(rt, !fetcher.is_asked(&key));
-        fetcher.add_ready(key, 10).expect(rt, "memory");
-    }
-}
 
 /// Gives an answer to a scan of many keys.
 fn answered_many(rt: &impl Abort, fetcher: &mut Many, answer: Answer) -> Option<Ask<u16, Letter>> {
@@ -353,20 +342,16 @@ fn limits_each(rt: &impl Abort, fetcher: &mut Many, count: u16) {
     equal(rt, &asked, &None);
 }
 
-/// Peer 4 comes.
-fn has_peer(rt: &impl Abort, alloc: Global, fetcher: &mut Many) {
-    let peers = Vec::from_slice(alloc, &[Letter(4)]).expect(rt, "memory");
-    holds(rt, !fetcher.is_scanning());
-    fetcher.reconcile(peers).expect(rt, "memory");
-}
-
 // A scan that looked from the first key on after each one would not end in time.
 #[test]
 fn a_scan_goes_over_each_due_key_once(rt: HostRuntime) {
+    let rt = &rt;
     let mut fetcher = Fetcher::new(rt.alloc(), delayed(10));
-    has_peer(&rt, rt.alloc(), &mut fetcher);
-    waits_each(&rt, &mut fetcher, 20_000);
-    limits_each(&rt, &mut fetcher, 20_000);
-    equal(&rt, &fetcher.get_pending_deadline(), &Some(100));
+    set_peers(rt, &mut fetcher, peers_of(rt, rt.alloc(), &[4]));
+    for key in 0..20_000 {
+        wait(rt, &mut fetcher, key, 10, false);
+    }
+    limits_each(rt, &mut fetcher, 20_000);
+    equal(rt, &fetcher.get_pending_deadline(), &Some(100));
     drop(fetcher);
 }

@@ -38,7 +38,7 @@ fn fetcher_first_request(rt: HostRuntime) {
         (Call::Response { peer: 3, at: 40 }, Seen::Answered(None)),
         (
             Call::Response { peer: 4, at: 20 },
-            Seen::Answered(Some((1, 0))),
+            Seen::Answered(Some((Letter(1), 0))),
         ),
     ];
     goes(&rt, rt.alloc(), CALLS);
@@ -56,7 +56,7 @@ fn fetcher_missing_and_retry(rt: HostRuntime) {
         (Call::Peers(&[4]), Seen::Done),
         waits!(1, 30),
         (Call::Fetch(30, &FIRST), Seen::Done),
-        (Call::Missing(50), Seen::Popped(Some(1))),
+        (Call::Missing(50), Seen::Popped(Some(Letter(1)))),
         (Call::Counts, Seen::Counts(false, 0, false, 0)),
         weighs!(4, Some(1)),
         waits_again!(1, 50),
@@ -130,7 +130,7 @@ fn timeout_and_limits(rt: HostRuntime) {
         (Call::Peers(&[3, 4]), Seen::Done),
         waits!(1, 0),
         (Call::Fetch(0, &FIRST), Seen::Done),
-        (Call::Overdue(50), Seen::Popped(Some(1))),
+        (Call::Overdue(50), Seen::Popped(Some(Letter(1)))),
         waits_again!(1, 50),
         (Call::Fetch(50, &LIMITED), Seen::Done),
         (Call::Counts, Seen::Counts(true, 0, false, 1)),
