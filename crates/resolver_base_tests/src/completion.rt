@@ -39,8 +39,9 @@ fn compares_clones(rt: &impl Abort, completion: &Over) {
 
 #[test]
 fn a_clone_is_the_same(rt: HostRuntime) {
-    let completion = completed(&rt, rt.alloc());
-    compares_clones(&rt, &completion);
+    let rt = &rt;
+    let completion = completed(rt, rt.alloc());
+    compares_clones(rt, &completion);
     drop(completion);
-    holds(&rt, copied(&rt, &Aborted {}) == Aborted {});
+    holds(rt, copied(rt, &Aborted {}) == Aborted {});
 }

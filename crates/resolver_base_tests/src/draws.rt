@@ -17,9 +17,10 @@ fn draws<D: Draws + Drop>(mut source: D) -> [u128; 6] {
 
 #[test]
 fn draws_the_words_of_pcg64(rt: HostRuntime) {
+    let rt = &rt;
     let drawn = draws(Seeded::new(0));
     equal(
-        &rt,
+        rt,
         &drawn,
         &[
             43439523305282059821465230189755591163,
@@ -32,7 +33,7 @@ fn draws_the_words_of_pcg64(rt: HostRuntime) {
     );
     let drawn = draws(Seeded::new(42));
     equal(
-        &rt,
+        rt,
         &drawn,
         &[
             77078215737868028582647199888982792465,
@@ -45,7 +46,7 @@ fn draws_the_words_of_pcg64(rt: HostRuntime) {
     );
     let drawn = draws(Seeded::new(u64::MAX));
     equal(
-        &rt,
+        rt,
         &drawn,
         &[
             286523676920182720572841079429214361626,

@@ -23,12 +23,13 @@ fn grows_in_order(rt: HostRuntime) {
 
 #[test]
 fn takes_a_list_that_has_items(rt: HostRuntime) {
-    let items = list_of(&rt, rt.alloc(), &[5u8, 6]).into_vec();
-    equal_lists(&rt, items.as_slice(), &[5, 6]);
+    let rt = &rt;
+    let items = list_of(rt, rt.alloc(), &[5u8, 6]).into_vec();
+    equal_lists(rt, items.as_slice(), &[5, 6]);
     drop(items);
     let back = NonEmptyVec::<u8>::try_from(Vec::new(rt.alloc()));
-    let back = back.err().expect(&rt, "the empty list");
-    holds(&rt, back.is_empty());
+    let back = back.err().expect(rt, "the empty list");
+    holds(rt, back.is_empty());
     drop(back);
 }
 
@@ -79,10 +80,11 @@ fn kept(list: &mut NonEmptyVec<(u16, u64)>, keep: &UpTo) -> (bool, bool, usize) 
 
 #[test]
 fn keeps_subscribers_or_all(rt: HostRuntime) {
-    let mut list = list_of(&rt, rt.alloc(), &[(10, 7), (11, 8)]);
-    equal(&rt, &kept(&mut list, &UpTo(9)), &(false, false, 2));
-    equal(&rt, &kept(&mut list, &UpTo(10)), &(true, true, 1));
-    equal_lists(&rt, list.as_slice(), &[(10, 7)]);
+    let rt = &rt;
+    let mut list = list_of(rt, rt.alloc(), &[(10, 7), (11, 8)]);
+    equal(rt, &kept(&mut list, &UpTo(9)), &(false, false, 2));
+    equal(rt, &kept(&mut list, &UpTo(10)), &(true, true, 1));
+    equal_lists(rt, list.as_slice(), &[(10, 7)]);
     drop(list);
 }
 

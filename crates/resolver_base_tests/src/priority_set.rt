@@ -27,20 +27,22 @@ fn gives(rt: &impl Abort, mut set: Set, entries: &[(u8, u16)]) {
 
 #[test]
 fn gives_by_priority_and_then_by_item(rt: HostRuntime) {
-    let set = set_of(&rt, rt.alloc(), &[(3, 20), (1, 20), (2, 30), (4, 10)]);
-    equal(&rt, &set.peek(), &Some((&4, &10)));
-    gives(&rt, set, &[(4, 10), (1, 20), (3, 20), (2, 30)]);
+    let rt = &rt;
+    let set = set_of(rt, rt.alloc(), &[(3, 20), (1, 20), (2, 30), (4, 10)]);
+    equal(rt, &set.peek(), &Some((&4, &10)));
+    gives(rt, set, &[(4, 10), (1, 20), (3, 20), (2, 30)]);
 }
 
 #[test]
 fn replaces_a_priority(rt: HostRuntime) {
+    let rt = &rt;
     const ENTRIES: &[(u8, u16)] = &[(1, 10), (2, 20), (1, 30), (2, 20), (3, 5), (3, 25)];
-    let set = set_of(&rt, rt.alloc(), ENTRIES);
-    equal(&rt, &set.len(), &3);
+    let set = set_of(rt, rt.alloc(), ENTRIES);
+    equal(rt, &set.len(), &3);
     let mut pairs = set.iter();
     let given = [pairs.next(), pairs.next(), pairs.next(), pairs.next()];
     equal(
-        &rt,
+        rt,
         &given,
         &[Some(&(20, 2)), Some(&(25, 3)), Some(&(30, 1)), None],
     );
@@ -58,10 +60,11 @@ fn has_from(rt: &impl Abort, set: &Set, priority: u16, wanted: &[(u16, u8)]) {
 
 #[test]
 fn gives_what_is_from_a_priority_on(rt: HostRuntime) {
-    let set = set_of(&rt, rt.alloc(), &[(3, 20), (1, 20), (2, 30), (4, 10)]);
-    has_from(&rt, &set, 20, &[(20, 1), (20, 3), (30, 2)]);
-    has_from(&rt, &set, 21, &[(30, 2)]);
-    has_from(&rt, &set, 31, &[]);
+    let rt = &rt;
+    let set = set_of(rt, rt.alloc(), &[(3, 20), (1, 20), (2, 30), (4, 10)]);
+    has_from(rt, &set, 20, &[(20, 1), (20, 3), (30, 2)]);
+    has_from(rt, &set, 21, &[(30, 2)]);
+    has_from(rt, &set, 31, &[]);
     drop(set);
 }
 
@@ -92,14 +95,15 @@ fn marked(mark: u64) -> Fetch<u8, u8> {
 
 #[test]
 fn an_item_that_is_there_stays(rt: HostRuntime) {
+    let rt = &rt;
     const MARKS: &[(u64, u16)] = &[(1, 10), (2, 30), (3, 30)];
     let mut set = PrioritySet::new(rt.alloc());
     for (mark, priority) in MARKS {
-        set.put(marked(*mark), *priority).expect(&rt, "memory");
+        set.put(marked(*mark), *priority).expect(rt, "memory");
     }
-    let (kept, priority) = set.pop().expect(&rt, "a fetch");
-    equal(&rt, &(kept.mark, priority), &(1, 30));
-    holds(&rt, set.is_empty());
+    let (kept, priority) = set.pop().expect(rt, "a fetch");
+    equal(rt, &(kept.mark, priority), &(1, 30));
+    holds(rt, set.is_empty());
     drop(set);
 }
 
@@ -124,9 +128,10 @@ fn is_even(item: &u8) -> bool {
 
 #[test]
 fn keeps_what_passes(rt: HostRuntime) {
-    let mut set = set_of(&rt, rt.alloc(), &[(1, 40), (2, 30), (3, 20), (4, 10)]);
+    let rt = &rt;
+    let mut set = set_of(rt, rt.alloc(), &[(1, 40), (2, 30), (3, 20), (4, 10)]);
     set.retain(is_even);
-    holds(&rt, !set.contains(&3));
-    set.put(3, 35).expect(&rt, "memory");
-    gives(&rt, set, &[(4, 10), (2, 30), (3, 35)]);
+    holds(rt, !set.contains(&3));
+    set.put(3, 35).expect(rt, "memory");
+    gives(rt, set, &[(4, 10), (2, 30), (3, 35)]);
 }

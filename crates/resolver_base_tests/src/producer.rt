@@ -57,9 +57,10 @@ fn gives_what_was_inserted(
 
 #[test]
 fn an_absent_key_drops_its_sender(rt: HostRuntime) {
-    let task = MockTask::new(&rt).expect(&rt, "a task");
+    let rt = &rt;
+    let task = MockTask::new(rt).expect(rt, "a task");
     let mut producer = mocks::Producer::new(rt.alloc());
-    gives_what_was_inserted(&rt, &task, &mut producer);
+    gives_what_was_inserted(rt, &task, &mut producer);
     drop(producer);
     drop(task);
 }

@@ -20,11 +20,12 @@ fn gives_nothing<S: Provider<PublicKey = Letter> + Blocker<PublicKey = Letter>>(
 
 #[test]
 fn quiet_sources_give_nothing(rt: HostRuntime) {
-    let task = MockTask::new(&rt).expect(&rt, "a task");
+    let rt = &rt;
+    let task = MockTask::new(rt).expect(rt, "a task");
     let mut quiet = Quiet::new();
     for _ in 0..3 {
-        holds(&rt, gives_nothing(&task, &mut quiet));
-        holds(&rt, !task.is_woken());
+        holds(rt, gives_nothing(&task, &mut quiet));
+        holds(rt, !task.is_woken());
     }
     drop(task);
 }

@@ -48,15 +48,16 @@ fn over(requests: &mut Asked) -> Option<u128> {
 
 #[test]
 fn the_soonest_is_over_first(rt: HostRuntime) {
-    let mut requests = held(&rt, rt.alloc(), &[(1, 30), (2, 10), (3, 40), (4, 20)]);
+    let rt = &rt;
+    let mut requests = held(rt, rt.alloc(), &[(1, 30), (2, 10), (3, 40), (4, 20)]);
     let deadlines = [
         over(&mut requests),
         over(&mut requests),
         over(&mut requests),
         over(&mut requests),
     ];
-    equal(&rt, &deadlines, &[Some(10), Some(20), Some(30), None]);
-    equal(&rt, &requests.len(), &1);
+    equal(rt, &deadlines, &[Some(10), Some(20), Some(30), None]);
+    equal(rt, &requests.len(), &1);
     drop(requests);
 }
 
@@ -74,8 +75,9 @@ fn answered(rt: &impl Abort, alloc: Global, peer: u8) -> (bool, usize, Option<u1
 
 #[test]
 fn an_answer_of_another_peer_finds_nothing(rt: HostRuntime) {
-    equal(&rt, &answered(&rt, rt.alloc(), 4), &(true, 1, Some(20)));
-    equal(&rt, &answered(&rt, rt.alloc(), 3), &(false, 2, Some(10)));
+    let rt = &rt;
+    equal(rt, &answered(rt, rt.alloc(), 4), &(true, 1, Some(20)));
+    equal(rt, &answered(rt, rt.alloc(), 3), &(false, 2, Some(10)));
 }
 
 fn is_not_six(key: &u64) -> bool {
@@ -84,12 +86,13 @@ fn is_not_six(key: &u64) -> bool {
 
 #[test]
 fn requests_are_let_go(rt: HostRuntime) {
-    let mut requests = held(&rt, rt.alloc(), TWO);
+    let rt = &rt;
+    let mut requests = held(rt, rt.alloc(), TWO);
     let is_removed = requests.remove(5).is_some() && requests.get(5).is_none();
     let left = (is_removed, requests.len(), requests.deadline());
-    equal(&rt, &left, &(true, 1, Some(20)));
+    equal(rt, &left, &(true, 1, Some(20)));
     requests.retain(is_not_six);
-    equal(&rt, &requests.len(), &0);
+    equal(rt, &requests.len(), &0);
     drop(requests);
 }
 
@@ -101,11 +104,12 @@ fn asked_for(requests: &Asked, key: u64) -> Option<(ID, u128)> {
 
 #[test]
 fn a_key_is_asked_for_under_its_id(rt: HostRuntime) {
-    let mut requests = held(&rt, rt.alloc(), TWO);
+    let rt = &rt;
+    let mut requests = held(rt, rt.alloc(), TWO);
     let asked = [asked_for(&requests, 5), asked_for(&requests, 7)];
-    equal(&rt, &asked, &[Some((5, 10)), None]);
+    equal(rt, &asked, &[Some((5, 10)), None]);
     requests.remove(5);
     let asked = [asked_for(&requests, 5), asked_for(&requests, 6)];
-    equal(&rt, &asked, &[None, Some((6, 20))]);
+    equal(rt, &asked, &[None, Some((6, 20))]);
     drop(requests);
 }

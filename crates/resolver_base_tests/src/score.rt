@@ -57,20 +57,22 @@ fn score_recovery(rt: HostRuntime) {
 
 #[test]
 fn score_extremes(rt: HostRuntime) {
+    let rt = &rt;
     let mut score = Score::default();
     score.record(0, u64::MAX);
-    idles(&rt, &mut score, 0, u64::MAX);
-    idles(&rt, &mut score, 64, 1_000_000_000);
-    idles(&rt, &mut score, 32, 1);
+    idles(rt, &mut score, 0, u64::MAX);
+    idles(rt, &mut score, 64, 1_000_000_000);
+    idles(rt, &mut score, 32, 1);
 }
 
 #[test]
 fn thirty_two_observations(rt: HostRuntime) {
+    let rt = &rt;
     let mut score = Score::default();
     score.record(1, u64::MAX);
-    idles(&rt, &mut score, 31, 8_589_934_592_000_000_000);
-    idles(&rt, &mut score, 1, 4_294_967_296_000_000_000);
-    idles(&rt, &mut score, 1, 2_147_483_648_000_000_000);
+    idles(rt, &mut score, 31, 8_589_934_592_000_000_000);
+    idles(rt, &mut score, 1, 4_294_967_296_000_000_000);
+    idles(rt, &mut score, 1, 2_147_483_648_000_000_000);
 }
 
 #[test]
@@ -88,10 +90,11 @@ fn a_clone_is_its_source(rt: HostRuntime) {
 
 #[test]
 fn longest_time(rt: HostRuntime) {
+    let rt = &rt;
     let whole = [(DURATION_MAX, u64::MAX, 1)];
     let half = [(1, u64::MAX, u64::MAX), (DURATION_MAX, u64::MAX, 2)];
     let longer = [(1, u64::MAX, u64::MAX), (u128::MAX, u64::MAX, 2)];
-    weighs(&rt, &whole);
-    weighs(&rt, &half);
-    weighs(&rt, &longer);
+    weighs(rt, &whole);
+    weighs(rt, &half);
+    weighs(rt, &longer);
 }

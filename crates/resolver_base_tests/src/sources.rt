@@ -81,24 +81,26 @@ fn gives_hi(
 
 #[test]
 fn a_network_gives_what_was_sent(rt: HostRuntime) {
-    let task = MockTask::new(&rt).expect(&rt, "a task");
-    let (sender, messages) = mpsc::unbounded(rt.alloc()).expect(&rt, "memory");
+    let rt = &rt;
+    let task = MockTask::new(rt).expect(rt, "a task");
+    let (sender, messages) = mpsc::unbounded(rt.alloc()).expect(rt, "memory");
     let mut network = Wire { messages };
-    gives_hi(&rt, &task, sender, &mut network);
+    gives_hi(rt, &task, sender, &mut network);
     drop(network);
     drop(task);
 }
 
 #[test]
 fn a_moment_comes_at_its_time(rt: HostRuntime) {
-    let task = MockTask::new(&rt).expect(&rt, "a task");
+    let rt = &rt;
+    let task = MockTask::new(rt).expect(rt, "a task");
     let mut clock = Watch {
         now: 5,
         changed: Source::new(),
         waker: None,
     };
-    equal(&rt, &left(&task, &mut clock, 5), &(0, true));
-    equal(&rt, &left(&task, &mut clock, 8), &(3, false));
+    equal(rt, &left(&task, &mut clock, 5), &(0, true));
+    equal(rt, &left(&task, &mut clock, 8), &(3, false));
     drop(clock);
     drop(task);
 }
