@@ -3,6 +3,7 @@
 
 ghost use Rattle.std.specs.Prelude.{IsTrue};
 
+use std::alloc::Global;
 use std::fmt::{Debug, Write};
 use std::process::Abort;
 
@@ -40,12 +41,17 @@ pub fn copied<T: Clone>(rt: &impl Abort, value: &T) -> T {
     value.clone().expect(rt, "memory")
 }
 
-/// Writes a value behind a space.
-pub fn spell(rt: &impl Abort, text: &mut String, value: &impl Debug) {
+/// Writes a value behind a space, and lets it go.
+pub fn spell<T: Debug + Drop>(rt: &impl Abort, text: &mut String, value: T) {
     write!(text, " {value:?}").expect(rt, "memory");
+    drop(value);
 }
 
-/// Writes a name and a value, each behind a space.
-pub fn spell_named(rt: &impl Abort, text: &mut String, name: &str, value: &impl Debug) {
-    write!(text, " {name} {value:?}").expect(rt, "memory");
+/// Ends the test where a value is written otherwise, and lets it go.
+pub fn is_written<T: Debug + Drop>(rt: &impl Abort, alloc: Global, value: T, wanted: &str) {
+    let mut text = String::new(alloc);
+    write!(text, "{value:?}").expect(rt, "memory");
+    drop(value);
+    equal_texts(rt, text.as_str(), wanted);
+    drop(text);
 }

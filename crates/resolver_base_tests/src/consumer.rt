@@ -26,7 +26,7 @@ fn outcome_of<C: Consumer<Key = Letter, Value = u16, Subscriber = u8>>(
 where
     C::Outcome: Drop,
 {
-    let delivery = delivery(rt, alloc, key);
+    let delivery = delivery(rt, alloc, Letter(key));
     let mut verdict = consumer.deliver(delivery, value).expect(rt, "memory");
     let polled = task.poll(&mut verdict);
     drop(verdict);
@@ -93,12 +93,13 @@ fn told(rt: &impl Abort, task: &MockTask, taken: &mut UnboundedReceiver<(Letter,
 
 #[test]
 fn what_is_expected_or_not_is_right(rt: HostRuntime) {
+    let rt = &rt;
     let alloc = rt.alloc();
-    let task = MockTask::new(&rt).expect(&rt, "a task");
-    let (mut consumer, mut taken) = mocks::Consumer::new(alloc).expect(&rt, "memory");
-    judges_what_is_expected(&rt, alloc, &task, &mut consumer);
+    let task = MockTask::new(rt).expect(rt, "a task");
+    let (mut consumer, mut taken) = mocks::Consumer::new(alloc).expect(rt, "memory");
+    judges_what_is_expected(rt, alloc, &task, &mut consumer);
     drop(consumer);
-    told(&rt, &task, &mut taken);
+    told(rt, &task, &mut taken);
     drop(taken);
     drop(task);
 }
@@ -106,11 +107,12 @@ fn what_is_expected_or_not_is_right(rt: HostRuntime) {
 /// What a dummy expects is right, and nothing else.
 #[test]
 fn a_dummy_judges_too(rt: HostRuntime) {
+    let rt = &rt;
     const JUDGED: &[Judged] = &[(1, 7, RIGHT), (1, 8, WRONG), (2, 8, RIGHT)];
     let alloc = rt.alloc();
-    let task = MockTask::new(&rt).expect(&rt, "a task");
-    let mut consumer = mocks::Consumer::dummy(alloc).expect(&rt, "memory");
-    judges(&rt, alloc, &task, &mut consumer, &[(1, 7), (2, 8)], JUDGED);
+    let task = MockTask::new(rt).expect(rt, "a task");
+    let mut consumer = mocks::Consumer::dummy(alloc).expect(rt, "memory");
+    judges(rt, alloc, &task, &mut consumer, &[(1, 7), (2, 8)], JUDGED);
     drop(consumer);
     drop(task);
 }

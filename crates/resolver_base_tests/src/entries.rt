@@ -5,8 +5,8 @@
 
 ghost use Rattle.std.specs.Prelude.{◌≡◌};
 
-use crate::asserts::{equal_texts, holds, spell, spell_named};
-use resolver_demand::delivery::{Completion, Entries};
+use crate::asserts::{equal_texts, holds, spell};
+use resolver_demand::delivery::Entries;
 use resolver_root::{Delivery, NonEmptyVec, Outcome, Resolution};
 use std::alloc::Global;
 use std::panic::Expect;
@@ -73,13 +73,6 @@ fn insert_below(rt: &impl Abort, entries: &mut Tracked, end: u16) -> u16 {
     count
 }
 
-/// Takes a key's entry out, and writes it.
-fn take(rt: &impl Abort, text: &mut String, entries: &mut Tracked, key: u16) {
-    let entry = entries.take(&key);
-    spell(rt, text, &entry);
-    drop(entry);
-}
-
 /// A delivery for subscriber 10.
 fn delivery(rt: &impl Abort, alloc: Global, key: u16) -> Delivery<u16, u16>
     ensures { result.key ≡ key }
@@ -89,11 +82,10 @@ fn delivery(rt: &impl Abort, alloc: Global, key: u16) -> Delivery<u16, u16>
 }
 
 fn deliver(rt: &impl Abort, alloc: Global, entries: &mut Tracked, key: u16, context: u64) -> u64 {
-    let delivery = delivery(rt, alloc, key);
-    assert!(rt; entries.contains(&delivery.key));
-    assert!(rt; entries.number(&delivery.key).is_none());
+    holds(rt, entries.contains(&key));
+    holds(rt, entries.number(&key).is_none());
     entries
-        .deliver(delivery, context, 5)
+        .deliver(delivery(rt, alloc, key), context, 5)
         .expect(rt, "a delivery")
 }
 
@@ -117,33 +109,6 @@ fn accept(rt: &impl Abort, entries: &mut Tracked, key: u16) {
     entries.accept_response(&key);
 }
 
-/// Closes a delivery, and writes what is known of it.
-fn complete(
-    rt: &impl Abort,
-    text: &mut String,
-    entries: &mut Tracked,
-    number: u64,
-    verdict: Option<Outcome>,
-) {
-    match entries.completed(number, verdict) {
-        Ok(completion) => {
-            spell_completion(rt, text, &completion);
-            drop(completion);
-        }
-        Err(_) => text.push_str(" aborted").expect(rt, "memory"),
-    }
-}
-
-fn spell_completion(rt: &impl Abort, text: &mut String, over: &Completion<u16, u16, u64>) {
-    spell_named(rt, text, "response", &over.response);
-    spell_named(rt, text, "of", &over.context);
-    spell_named(rt, text, "key", &over.delivery.key);
-    spell(rt, text, over.delivery.subscribers.first());
-    spell(rt, text, &over.outcome);
-    spell(rt, text, &over.canceled);
-    spell(rt, text, &over.previously_accepted);
-}
-
 fn complete_below(entries: &mut Tracked, end: u64) -> u64 {
     let mut count = 0u64;
     for number in (0..end).rev() {
@@ -164,20 +129,20 @@ fn retain(entries: &mut Tracked, end: u16) -> usize {
 fn change(rt: &impl Abort, text: &mut String, entries: &mut Tracked, call: Call) {
     let alloc = *text.allocator();
     match call {
-        Call::Insert(key) => spell(rt, text, &insert(rt, entries, key)),
+        Call::Insert(key) => spell(rt, text, insert(rt, entries, key)),
         Call::InsertNew(key) => insert_new(rt, entries, key),
-        Call::InsertBelow(end) => spell(rt, text, &insert_below(rt, entries, end)),
-        Call::Remove(key) => spell(rt, text, &entries.remove(&key)),
-        Call::Take(key) => take(rt, text, entries, key),
-        Call::Deliver(key, of) => spell(rt, text, &deliver(rt, alloc, entries, key, of)),
+        Call::InsertBelow(end) => spell(rt, text, insert_below(rt, entries, end)),
+        Call::Remove(key) => spell(rt, text, entries.remove(&key)),
+        Call::Take(key) => spell(rt, text, entries.take(&key)),
+        Call::Deliver(key, of) => spell(rt, text, deliver(rt, alloc, entries, key, of)),
         Call::DeliverBelow(end) => deliver_below(rt, alloc, entries, end),
-        Call::Redeliver(key) => spell(rt, text, &redeliver(rt, alloc, entries, key)),
+        Call::Redeliver(key) => spell(rt, text, redeliver(rt, alloc, entries, key)),
         Call::Accept(key) => accept(rt, entries, key),
         Call::Discard(key) => entries.discard_response(&key),
-        Call::Complete(number, verdict) => complete(rt, text, entries, number, verdict),
-        Call::CompleteBelow(end) => spell(rt, text, &complete_below(entries, end)),
-        Call::Retain(end) => spell(rt, text, &retain(entries, end)),
-        Call::Drain => spell(rt, text, &entries.drain()),
+        Call::Complete(number, verdict) => spell(rt, text, entries.completed(number, verdict)),
+        Call::CompleteBelow(end) => spell(rt, text, complete_below(entries, end)),
+        Call::Retain(end) => spell(rt, text, retain(entries, end)),
+        Call::Drain => spell(rt, text, entries.drain()),
         Call::Clear => entries.clear(),
         Call::Look(look) => spell_look(rt, text, entries, look),
     }
@@ -186,12 +151,12 @@ fn change(rt: &impl Abort, text: &mut String, entries: &mut Tracked, call: Call)
 /// Writes what is seen.
 fn spell_look(rt: &impl Abort, text: &mut String, entries: &Tracked, look: Look) {
     match look {
-        Look::Contains(key) => spell(rt, text, &entries.contains(&key)),
-        Look::IsAccepted(key) => spell(rt, text, &entries.response_accepted(&key)),
-        Look::Response(key) => spell(rt, text, &entries.response(&key)),
-        Look::Number(key) => spell(rt, text, &entries.number(&key)),
-        Look::Open(number) => spell(rt, text, &entries.open(number)),
-        Look::Entry(key) => spell(rt, text, &entries.get(&key)),
+        Look::Contains(key) => spell(rt, text, entries.contains(&key)),
+        Look::IsAccepted(key) => spell(rt, text, entries.response_accepted(&key)),
+        Look::Response(key) => spell(rt, text, entries.response(&key)),
+        Look::Number(key) => spell(rt, text, entries.number(&key)),
+        Look::Open(number) => spell(rt, text, entries.open(number)),
+        Look::Entry(key) => spell(rt, text, entries.get(&key)),
         Look::Keys => spell_keys(rt, text, entries),
     }
 }
@@ -259,8 +224,8 @@ const KEYS: &[Row] = &[
             Call::Insert(1),
             Call::Deliver(1, 41),
         ],
-        " true 0 Some(Entry { number: Some(0), response: \
-        Some(Response { name: 0, value: 5, context: 40, accepted: false }), state: () }) None None None true 1",
+        " true 0 Some(Entry { number: Some(0), response: Some(Response { name: 0, value: 5, context: 40, \
+        accepted: false }), state: () }) None None None true 1",
     ),
     (
         &[
@@ -275,8 +240,8 @@ const KEYS: &[Row] = &[
             Call::Look(Look::Keys),
             Call::Look(Look::Number(1)),
         ],
-        " 0 Some(Entry { number: Some(0), response: \
-        Some(Response { name: 0, value: 5, context: 40, accepted: false }), state: () }) false None \
+        " 0 Some(Entry { number: Some(0), response: Some(Response { name: 0, value: 5, context: 40, \
+        accepted: false }), state: () }) false None \
         Some(Entry { number: None, response: None, state: () }) 1 None",
     ),
 ];
@@ -317,9 +282,13 @@ const RESPONSES: &[Row] = &[
             Call::Redeliver(1),
             Call::Complete(2, INVALID),
         ],
-        " true 0 true true 1 response 0 of 40 key 1 (10, 7) Some(Invalid) true false Some(1) \
-        response 1 of 41 key 1 (10, 7) None false false 2 \
-        response 1 of 41 key 1 (10, 7) Some(Invalid) false true",
+        " true 0 true true 1 Ok(Completion { response: 0, context: 40, delivery: Delivery { key: 1, \
+        subscribers: NonEmptyVec { items: [(10, 7)] } }, outcome: Some(Invalid), canceled: true, \
+        previously_accepted: false }) Some(1) Ok(Completion { response: 1, context: 41, \
+        delivery: Delivery { key: 1, subscribers: NonEmptyVec { items: [(10, 7)] } }, outcome: None, \
+        canceled: false, previously_accepted: false }) 2 Ok(Completion { response: 1, context: 41, \
+        delivery: Delivery { key: 1, subscribers: NonEmptyVec { items: [(10, 7)] } }, outcome: Some(Invalid), \
+        canceled: false, previously_accepted: true })",
     ),
 ];
 
@@ -346,33 +315,47 @@ const CLOSINGS: &[Row] = &[
     closing!(
         [],
         COMPLETE,
-        " true 0 response 0 of 40 key 1 (10, 7) Some(Resolved(Complete)) false false aborted None"
+        " true 0 Ok(Completion { response: 0, context: 40, delivery: Delivery { key: 1, \
+        subscribers: NonEmptyVec { items: [(10, 7)] } }, outcome: Some(Resolved(Complete)), canceled: false, \
+        previously_accepted: false }) Err(Aborted) None"
     ),
     closing!(
         [],
         None,
-        " true 0 response 0 of 40 key 1 (10, 7) None false false aborted None"
+        " true 0 Ok(Completion { response: 0, context: 40, delivery: Delivery { key: 1, \
+        subscribers: NonEmptyVec { items: [(10, 7)] } }, outcome: None, canceled: false, \
+        previously_accepted: false }) Err(Aborted) None"
     ),
     closing!(
         [],
         INVALID,
-        " true 0 response 0 of 40 key 1 (10, 7) Some(Invalid) false false aborted None"
+        " true 0 Ok(Completion { response: 0, context: 40, delivery: Delivery { key: 1, \
+        subscribers: NonEmptyVec { items: [(10, 7)] } }, outcome: Some(Invalid), canceled: false, \
+        previously_accepted: false }) Err(Aborted) None"
     ),
     closing!(
         [Call::Remove(1)],
         COMPLETE,
-        " true 0 true response 0 of 40 key 1 (10, 7) Some(Resolved(Complete)) true false aborted None"
+        " true 0 true Ok(Completion { response: 0, context: 40, delivery: Delivery { key: 1, \
+        subscribers: NonEmptyVec { items: [(10, 7)] } }, outcome: Some(Resolved(Complete)), canceled: true, \
+        previously_accepted: false }) Err(Aborted) None"
     ),
-    closing!([Call::Remove(1)], None, " true 0 true aborted aborted None"),
+    closing!(
+        [Call::Remove(1)],
+        None,
+        " true 0 true Err(Aborted) Err(Aborted) None"
+    ),
     closing!(
         [Call::Remove(1), Call::Insert(1)],
         IGNORED,
-        " true 0 true true response 0 of 40 key 1 (10, 7) Some(Ignored) true false aborted None"
+        " true 0 true true Ok(Completion { response: 0, context: 40, delivery: Delivery { key: 1, \
+        subscribers: NonEmptyVec { items: [(10, 7)] } }, outcome: Some(Ignored), canceled: true, \
+        previously_accepted: false }) Err(Aborted) None"
     ),
     closing!(
         [Call::Remove(1), Call::Insert(1)],
         None,
-        " true 0 true true aborted aborted None"
+        " true 0 true true Err(Aborted) Err(Aborted) None"
     ),
 ];
 
@@ -417,13 +400,13 @@ fn closes_ten_thousand_backwards(rt: HostRuntime) {
 fn stages(rt: &impl Abort, text: &mut String, entries: &mut Entries<u16, u16, u8, u64, u32>) {
     let is_new = entries.insert_state(1, 20).expect(rt, "memory");
     let is_new_again = entries.insert_state(1, 30).expect(rt, "memory");
-    spell(rt, text, &is_new);
-    spell(rt, text, &is_new_again);
-    spell(rt, text, &entries.state(&1));
+    spell(rt, text, is_new);
+    spell(rt, text, is_new_again);
+    spell(rt, text, entries.state(&1));
     entries.set_state(&1, 40);
     entries.set_state(&2, 50);
-    spell(rt, text, &entries.state(&1));
-    spell(rt, text, &entries.state(&2));
+    spell(rt, text, entries.state(&1));
+    spell(rt, text, entries.state(&2));
 }
 
 #[test]

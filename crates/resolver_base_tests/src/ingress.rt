@@ -1,4 +1,4 @@
-use crate::asserts::{equal, equal_lists, holds};
+use crate::asserts::{equal, holds, is_written};
 use crate::counting::{Counting, Tally};
 use crate::names::All;
 use resolver_backlog::Pending;
@@ -11,6 +11,9 @@ use std::process::Abort;
 
 #[test]
 fn fetch_of_one_subscriber(rt: HostRuntime) {
+    const ITEM: &str =
+        "FetchKey { key: 1, subscribers: NonEmptyVec { items: [(20, 7)] }, metadata: None }";
+    let rt = &rt;
     let fetch = Fetch {
         key: 1,
         subscriber: 20,
@@ -19,11 +22,8 @@ fn fetch_of_one_subscriber(rt: HostRuntime) {
     let item: FetchKey<u16, u16, Option<NonEmptyVec<u16>>> = FetchKey::from_fetch(
         rt.alloc(),
         fetch,
-    ).expect(&rt, "memory");
-    equal(&rt, &item.key, &1);
-    equal_lists(&rt, item.subscribers.as_slice(), &[(20, 7)]);
-    holds(&rt, item.metadata.is_none());
-    drop(item);
+    ).expect(rt, "memory");
+    is_written(rt, rt.alloc(), item, ITEM);
 }
 
 /// A fetch of a key for one subscriber.
@@ -46,17 +46,6 @@ fn one<K: Drop>(
 
 type Plain = Message<u16, u16, (), All>;
 
-/// The key and the subscribers of the only fetch, where there is one.
-fn only_fetch(message: &Plain) -> Option<(u16, &[(u16, u64)])> {
-    let Message::Fetch(items) = message else {
-        return None;
-    };
-    let [item] = items.as_slice() else {
-        return None;
-    };
-    Some((item.key, item.subscribers.as_slice()))
-}
-
 /// A copy of a message, which is let go.
 fn copied(rt: &impl Abort, alloc: Global, message: Plain) -> Plain {
     let copy = message.copy(alloc).expect(rt, "memory");
@@ -66,13 +55,16 @@ fn copied(rt: &impl Abort, alloc: Global, message: Plain) -> Plain {
 
 #[test]
 fn message_is_copied(rt: HostRuntime) {
-    let alloc = rt.alloc();
-    let copy = copied(&rt, alloc, one(&rt, alloc, 1, 20));
-    equal(&rt, &only_fetch(&copy), &Some((1, &[(20, 0)])));
-    drop(copy);
-    let copy = copied(&rt, alloc, Message::Retain(All));
-    holds(&rt, matches!(copy, Message::Retain(_)));
-    drop(copy);
+    const FETCH: &str =
+        "Fetch([FetchKey { key: 1, subscribers: NonEmptyVec { items: [(20, 0)] }, metadata: () }])";
+    let (rt, alloc) = (&rt, rt.alloc());
+    is_written(rt, alloc, copied(rt, alloc, one(rt, alloc, 1, 20)), FETCH);
+    is_written(
+        rt,
+        alloc,
+        copied(rt, alloc, Message::Retain(All)),
+        "Retain(All)",
+    );
 }
 
 type Waiting<'a> = Pending<Counting<'a>, u16, (), All>;
@@ -93,31 +85,27 @@ fn put_all<'a>(
     looks.replace(0)
 }
 
-/// Whether a test is the first that waits.
-fn pops_a_test(pending: &mut Waiting) -> bool {
-    let popped = pending.pop();
-    let is_test = matches!(popped, Some(Message::Retain(_)));
-    drop(popped);
-    is_test
-}
-
-/// How many fetches a message has, and how many subscribers the one at this place has.
-fn counted(
-    message: &Option<Message<Counting, u16, (), All>>,
+/// How many fetches a message has, and how many subscribers the one at this place has. Of a test there is
+/// nothing.
+fn counted<K, S: Drop, M, Q>(
+    message: &Message<K, S, M, Q>,
     place: usize,
 ) -> Option<(usize, usize)> {
-    let Some(Message::Fetch(queued)) = message else {
+    let Message::Fetch(queued) = message else {
         return None;
     };
-    Some((queued.len(), queued.get(place)?.subscribers.len()))
+    match queued.get(place) {
+        Some(item) => Some((queued.len(), item.subscribers.len())),
+        None => Some((queued.len(), 0)),
+    }
 }
 
-/// How many fetches wait then, and how many subscribers the one at this place has.
-fn pops_fetches(pending: &mut Waiting, place: usize) -> Option<(usize, usize)> {
-    let popped = pending.pop();
+/// Takes what waits first, and counts it so.
+fn pops(pending: &mut Waiting, place: usize) -> Option<Option<(usize, usize)>> {
+    let popped = pending.pop()?;
     let counts = counted(&popped, place);
     drop(popped);
-    counts
+    Some(counts)
 }
 
 /// Keys are looked at a few times each where 10,000 are put, where they are put again, and where all are
@@ -134,8 +122,8 @@ fn queues_each<'a>(
     holds(rt, put_all(rt, alloc, pending, looks, 11) <= 1_000_000);
     pending.handle(Message::Retain(All)).expect(rt, "memory");
     holds(rt, looks.replace(0) <= 1_000_000);
-    holds(rt, pops_a_test(pending));
-    equal(rt, &pops_fetches(pending, 9_999), &Some((10_000, 2)));
+    let popped = [pops(pending, 0), pops(pending, 9_999)];
+    equal(rt, &popped, &[Some(None), Some(Some((10_000, 2)))]);
 }
 
 #[test]

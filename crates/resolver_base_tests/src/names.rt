@@ -52,7 +52,7 @@ impl Faithful for Letter {
 }
 
 /// Keeps every subscriber.
-#[derive(Clone, Copy)]
+#[derive(Clone, Copy, Debug)]
 pub struct All;
 
 impl<K: Eq, S: Eq> Predicate<K, S> for All {
@@ -76,21 +76,22 @@ impl Exact for All {
 }
 
 /// A delivery of a key for subscriber 10.
-pub fn delivery(rt: &impl Abort, alloc: Global, key: u8) -> Delivery<Letter, u8> {
-    Delivery {
-        key: Letter(key),
-        subscribers: NonEmptyVec::new(alloc, (10, 7)).expect(rt, "memory"),
-    }
+pub fn delivery(rt: &impl Abort, alloc: Global, key: Letter) -> Delivery<Letter, u8>
+    ensures { result.key ≡ key }
+{
+    let subscribers = NonEmptyVec::new(alloc, (10, 7)).expect(rt, "memory");
+    Delivery { key, subscribers }
 }
 
 #[test]
 fn is_read_as_it_was_written(rt: HostRuntime) {
+    let rt = &rt;
     let mut out = BytesMut::new(rt.alloc());
-    Letter(123).write(&mut out).expect(&rt, "memory");
-    Letter(5).write(&mut out).expect(&rt, "memory");
-    equal_lists(&rt, out.as_slice(), &[123, 5]);
+    Letter(123).write(&mut out).expect(rt, "memory");
+    Letter(5).write(&mut out).expect(rt, "memory");
+    equal_lists(rt, out.as_slice(), &[123, 5]);
     drop(out);
-    equal(&rt, &Letter::read(&[123]), &Some(Letter(123)));
+    equal(rt, &Letter::read(&[123]), &Some(Letter(123)));
 }
 
 fn is_before<P: PublicKey>(one: &P, other: &P) -> bool {

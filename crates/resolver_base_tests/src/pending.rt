@@ -6,17 +6,16 @@
 ghost use Rattle.std.specs.Prelude.{nat_le};
 ghost use Rattle.std.proofs.Common.{rules};
 
-use crate::asserts::{equal, equal_texts};
+use crate::asserts::{equal, equal_texts, is_written, spell};
 use resolver_backlog::Pending;
 use resolver_ingress::ingress::{FetchKey, Kept, Message, Metadata, Test};
 use resolver_root::{Fetch, NonEmptyVec, Predicate};
 use std::alloc::Global;
-use std::fmt::Write;
 use std::panic::Expect;
 use std::process::Abort;
 
 /// Passes the subscribers of the keys from a first one on.
-#[derive(Clone, Drop)]
+#[derive(Clone, Debug, Drop)]
 struct FirstKey(u16);
 
 impl Test<u16, u16> for FirstKey {
@@ -48,12 +47,8 @@ enum Call {
     FetchBelow(u16),
     /// The subscribers of the keys from this one on are kept.
     Retain(u16),
-    /// A drain that takes nothing.
-    Reject,
-    /// A drain that takes the tests alone.
-    TakeTests,
-    /// A drain that takes all.
-    TakeAll,
+    /// A drain that takes the tests, the fetches, both or neither.
+    Drain { tests: bool, fetches: bool },
     Pop,
     IsEmpty,
 }
@@ -110,43 +105,26 @@ fn retain(rt: &impl Abort, pending: &mut Waiting, first: u16) {
     pending.handle(Message::Retain(kept)).expect(rt, "memory");
 }
 
-fn reject<M: Metadata + Drop, Q: Predicate<u16, u16> + Drop>(
+/// Drains what waits: how many tests were taken, and the batch.
+fn drain<M: Metadata + Drop, Q: Predicate<u16, u16> + Drop>(
     pending: &mut Pending<u16, u16, M, Q>,
-) {
-    pending.drain(|message| Some(message));
-}
-
-/// Takes the tests, and counts them.
-fn take_tests<M: Metadata + Drop, Q: Predicate<u16, u16> + Drop>(
-    pending: &mut Pending<u16, u16, M, Q>,
-) -> usize {
-    let mut taken = 0usize;
-    pending.drain(|message| match message {
-        Message::Retain(_) => {
-            taken = taken.wrapping_add(1);
-            None
-        }
-        Message::Fetch(items) => Some(Message::Fetch(items)),
-    });
-    taken
-}
-
-/// Takes all that waits: how many tests, and then the batch.
-fn take_all<M: Metadata + Drop, Q: Predicate<u16, u16> + Drop>(
-    pending: &mut Pending<u16, u16, M, Q>,
+    takes_tests: bool,
+    takes_fetches: bool,
 ) -> (usize, Option<Message<u16, u16, M, Q>>) {
     let mut tests = 0usize;
     let mut batch = None;
     pending.drain(|message| {
-        match message {
-            Message::Retain(_) => {
+        if matches!(message, Message::Retain(_)) {
+            if takes_tests {
                 tests = tests.wrapping_add(1);
+                drop(message);
+                return None;
             }
-            Message::Fetch(items) => {
-                batch = Some(Message::Fetch(items));
-            }
+        } else if takes_fetches {
+            drop(batch.replace(message));
+            return None;
         }
-        None
+        Some(message)
     });
     (tests, batch)
 }
@@ -163,58 +141,6 @@ fn is_empty<M: Metadata + Drop, Q: Predicate<u16, u16> + Drop>(
     pending.is_empty()
 }
 
-/// Writes the peers that may be asked.
-fn spell_targets(rt: &impl Abort, text: &mut String, targets: &Targets) {
-    let Some(targets) = targets else {
-        return text.push_str(" any").expect(rt, "memory");
-    };
-    for peer in targets.as_slice() {
-        write!(text, " {peer}").expect(rt, "memory");
-    }
-}
-
-/// Writes subscribers with their marks.
-fn spell_subscribers(rt: &impl Abort, text: &mut String, subscribers: &[(u16, u64)]) {
-    for (name, mark) in subscribers {
-        write!(text, " {name}:{mark}").expect(rt, "memory");
-    }
-}
-
-/// Writes fetches: each key with its peers, and then its subscribers.
-fn spell_items(rt: &impl Abort, text: &mut String, items: &[FetchKey<u16, u16, Targets>]) {
-    for item in items {
-        write!(text, " {} of", item.key).expect(rt, "memory");
-        spell_targets(rt, text, &item.metadata);
-        spell_subscribers(rt, text, item.subscribers.as_slice());
-    }
-}
-
-/// Writes a message, or that there is none.
-fn spell(rt: &impl Abort, text: &mut String, told: &Option<Told>) {
-    match told {
-        Some(Message::Fetch(items)) => spell_items(rt, text, items.as_slice()),
-        Some(Message::Retain(kept)) => {
-            write!(text, " from {}", kept.test().0).expect(rt, "memory");
-        }
-        None => text.push_str(" none").expect(rt, "memory"),
-    }
-}
-
-/// Takes what waits first, and writes it.
-fn spell_first(rt: &impl Abort, text: &mut String, pending: &mut Waiting) {
-    let told = pop(pending);
-    spell(rt, text, &told);
-    drop(told);
-}
-
-/// Takes all that waits, and writes how many tests there were, and the batch.
-fn spell_all(rt: &impl Abort, text: &mut String, pending: &mut Waiting) {
-    let (tests, batch) = take_all(pending);
-    write!(text, " tests {tests}").expect(rt, "memory");
-    spell(rt, text, &batch);
-    drop(batch);
-}
-
 /// Makes a call, and writes what it answers.
 fn make(rt: &impl Abort, text: &mut String, pending: &mut Waiting, call: Call) {
     let alloc = *text.allocator();
@@ -222,11 +148,9 @@ fn make(rt: &impl Abort, text: &mut String, pending: &mut Waiting, call: Call) {
         Call::Fetch(key, subscriber) => fetch(rt, alloc, pending, key, subscriber),
         Call::FetchBelow(end) => fetch_below(rt, alloc, pending, end),
         Call::Retain(first) => retain(rt, pending, first),
-        Call::Reject => reject(pending),
-        Call::TakeTests => write!(text, " tests {}", take_tests(pending)).expect(rt, "memory"),
-        Call::TakeAll => spell_all(rt, text, pending),
-        Call::Pop => spell_first(rt, text, pending),
-        Call::IsEmpty => write!(text, " {}", is_empty(pending)).expect(rt, "memory"),
+        Call::Drain { tests, fetches } => spell(rt, text, drain(pending, tests, fetches)),
+        Call::Pop => spell(rt, text, pop(pending)),
+        Call::IsEmpty => spell(rt, text, is_empty(pending)),
     }
 }
 
@@ -252,14 +176,26 @@ const WAITING: &[(&[Call], &str)] = &[
             Call::Fetch(2, 10),
             Call::Fetch(1, 20),
             Call::Retain(0),
-            Call::Reject,
-            Call::TakeTests,
+            Call::Drain {
+                tests: false,
+                fetches: false,
+            },
+            Call::Drain {
+                tests: true,
+                fetches: false,
+            },
             Call::Fetch(2, 11),
             Call::Fetch(3, 30),
-            Call::TakeAll,
+            Call::Drain {
+                tests: true,
+                fetches: true,
+            },
             Call::IsEmpty,
         ],
-        " tests 1 tests 0 2 of any 10:0 11:0 1 of any 20:0 3 of any 30:0 true",
+        " (0, None) (1, None) \
+        (0, Some(Fetch([FetchKey { key: 2, subscribers: NonEmptyVec { items: [(10, 0), (11, 0)] }, metadata: None }, \
+        FetchKey { key: 1, subscribers: NonEmptyVec { items: [(20, 0)] }, metadata: None }, \
+        FetchKey { key: 3, subscribers: NonEmptyVec { items: [(30, 0)] }, metadata: None }]))) true",
     ),
     (
         &[
@@ -267,10 +203,14 @@ const WAITING: &[(&[Call], &str)] = &[
             Call::Retain(99),
             Call::Fetch(99, 11),
             Call::Fetch(0, 12),
-            Call::TakeAll,
+            Call::Drain {
+                tests: true,
+                fetches: true,
+            },
             Call::IsEmpty,
         ],
-        " tests 1 99 of any 10:0 11:0 0 of any 12:0 true",
+        " (1, Some(Fetch([FetchKey { key: 99, subscribers: NonEmptyVec { items: [(10, 0), (11, 0)] }, metadata: None }, \
+        FetchKey { key: 0, subscribers: NonEmptyVec { items: [(12, 0)] }, metadata: None }]))) true",
     ),
     (
         &[
@@ -282,7 +222,9 @@ const WAITING: &[(&[Call], &str)] = &[
             Call::Pop,
             Call::Pop,
         ],
-        " none from 0 1 of any 10:0 2 of any 20:0 none",
+        " None Some(Retain(Kept { test: FirstKey(0) })) \
+        Some(Fetch([FetchKey { key: 1, subscribers: NonEmptyVec { items: [(10, 0)] }, metadata: None }, \
+        FetchKey { key: 2, subscribers: NonEmptyVec { items: [(20, 0)] }, metadata: None }])) None",
     ),
 ];
 
@@ -296,20 +238,45 @@ fn what_waits_is_taken(rt: HostRuntime) {
 /// Messages that are copied and handed on, and what waits then: targets that are joined, or that any peer may be
 /// asked, and messages of no fetch, of one and of three, where nothing waits and where key 1 does.
 const COPIED: &[(&[&[Aimed]], &str)] = &[
-    (&[&[(1, &[2, 3])]], " 1 of 2 3 10:0"),
-    (&[&[(1, &[2, 3])], &[(1, &[3, 4])]], " 1 of 2 3 4 10:0"),
-    (&[&[(1, &[2])], &[(1, &[])], &[(1, &[3])]], " 1 of any 10:0"),
-    (&[&[]], " none"),
-    (&[&[(4, &[])]], " 4 of any 10:0"),
+    (
+        &[&[(1, &[2, 3])]],
+        " Some(Fetch([FetchKey { key: 1, subscribers: NonEmptyVec { items: [(10, 0)] }, \
+        metadata: Some(NonEmptyVec { items: [2, 3] }) }]))",
+    ),
+    (
+        &[&[(1, &[2, 3])], &[(1, &[3, 4])]],
+        " Some(Fetch([FetchKey { key: 1, subscribers: NonEmptyVec { items: [(10, 0)] }, \
+        metadata: Some(NonEmptyVec { items: [2, 3, 4] }) }]))",
+    ),
+    (
+        &[&[(1, &[2])], &[(1, &[])], &[(1, &[3])]],
+        " Some(Fetch([FetchKey { key: 1, subscribers: NonEmptyVec { items: [(10, 0)] }, metadata: None }]))",
+    ),
+    (&[&[]], " None"),
+    (
+        &[&[(4, &[])]],
+        " Some(Fetch([FetchKey { key: 4, subscribers: NonEmptyVec { items: [(10, 0)] }, metadata: None }]))",
+    ),
     (
         &[&[(4, &[]), (1, &[]), (3, &[])]],
-        " 4 of any 10:0 1 of any 10:0 3 of any 10:0",
+        " Some(Fetch([FetchKey { key: 4, subscribers: NonEmptyVec { items: [(10, 0)] }, metadata: None }, \
+        FetchKey { key: 1, subscribers: NonEmptyVec { items: [(10, 0)] }, metadata: None }, \
+        FetchKey { key: 3, subscribers: NonEmptyVec { items: [(10, 0)] }, metadata: None }]))",
     ),
-    (&[&[(1, &[])], &[]], " 1 of any 10:0"),
-    (&[&[(1, &[])], &[(4, &[])]], " 1 of any 10:0 4 of any 10:0"),
+    (
+        &[&[(1, &[])], &[]],
+        " Some(Fetch([FetchKey { key: 1, subscribers: NonEmptyVec { items: [(10, 0)] }, metadata: None }]))",
+    ),
+    (
+        &[&[(1, &[])], &[(4, &[])]],
+        " Some(Fetch([FetchKey { key: 1, subscribers: NonEmptyVec { items: [(10, 0)] }, metadata: None }, \
+        FetchKey { key: 4, subscribers: NonEmptyVec { items: [(10, 0)] }, metadata: None }]))",
+    ),
     (
         &[&[(1, &[])], &[(4, &[]), (1, &[]), (3, &[])]],
-        " 1 of any 10:0 4 of any 10:0 3 of any 10:0",
+        " Some(Fetch([FetchKey { key: 1, subscribers: NonEmptyVec { items: [(10, 0)] }, metadata: None }, \
+        FetchKey { key: 4, subscribers: NonEmptyVec { items: [(10, 0)] }, metadata: None }, \
+        FetchKey { key: 3, subscribers: NonEmptyVec { items: [(10, 0)] }, metadata: None }]))",
     ),
 ];
 
@@ -325,7 +292,7 @@ fn handed(rt: &impl Abort, alloc: Global, messages: &[&[Aimed]]) -> String {
     let mut text = String::new(alloc);
     let mut pending = Pending::new(alloc);
     hand_copies(rt, alloc, &mut pending, messages);
-    spell_first(rt, &mut text, &mut pending);
+    spell(rt, &mut text, pop(&mut pending));
     drop(pending);
     text
 }
@@ -339,29 +306,39 @@ fn copies_wait(rt: HostRuntime) {
 
 /// Ends the test where the copy of what an earlier and a later fetch say together is something else.
 fn joins(rt: &impl Abort, alloc: Global, earlier: &[u16], later: &[u16], wanted: &str) {
-    let mut text = String::new(alloc);
     let mut all = targets(rt, alloc, earlier);
     all.merge(alloc, targets(rt, alloc, later))
         .expect(rt, "memory");
-    let copy = all.copy().expect(rt, "memory");
-    spell_targets(rt, &mut text, &copy);
-    drop(copy);
+    is_written(rt, alloc, all.copy().expect(rt, "memory"), wanted);
     drop(all);
-    equal_texts(rt, text.as_str(), wanted);
 }
 
 #[test]
 fn targets_are_joined_and_copied(rt: HostRuntime) {
+    let rt = &rt;
     const EARLIER: &[u16] = &[2, 3];
     const LATER: &[u16] = &[9, 8, 7, 6, 5, 4, 3, 4, 5, 6];
-    joins(&rt, rt.alloc(), EARLIER, EARLIER, " 2 3");
-    joins(&rt, rt.alloc(), &[], &[], " any");
-    joins(&rt, rt.alloc(), &[5], LATER, " 5 9 8 7 6 4 3");
+    joins(
+        rt,
+        rt.alloc(),
+        EARLIER,
+        EARLIER,
+        "Some(NonEmptyVec { items: [2, 3] })",
+    );
+    joins(rt, rt.alloc(), &[], &[], "None");
+    joins(
+        rt,
+        rt.alloc(),
+        &[5],
+        LATER,
+        "Some(NonEmptyVec { items: [5, 9, 8, 7, 6, 4, 3] })",
+    );
 }
 
 #[test]
 fn nothing_said_stays(rt: HostRuntime) {
+    let rt = &rt;
     let mut all = ();
-    all.merge(rt.alloc(), ()).expect(&rt, "memory");
-    equal(&rt, &all.copy().expect(&rt, "memory"), &());
+    all.merge(rt.alloc(), ()).expect(rt, "memory");
+    equal(rt, &all.copy().expect(rt, "memory"), &());
 }

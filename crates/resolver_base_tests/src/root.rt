@@ -1,4 +1,4 @@
-use crate::asserts::{copied, equal, equal_lists, holds};
+use crate::asserts::{copied, equal, holds, is_written};
 use resolver_root::root::laws;
 use resolver_root::{Delivery, Fetch, NonEmptyVec, Outcome, Resolution};
 use std::alloc::Global;
@@ -22,6 +22,7 @@ fn delivery(
 // Key first, then the subscribers in order; a shorter equal beginning is less; marks don't count.
 #[test]
 fn deliveries_compare_by_key_and_subscribers(rt: HostRuntime) {
+    let rt = &rt;
     const CASES: &[(u8, &[(u16, u64)], u8, &[(u16, u64)], Ordering)] = &[
         (1, &[(10, 7)], 1, &[(10, 8)], Ordering::Equal),
         (1, &[(10, 7)], 2, &[(9, 7)], Ordering::Less),
@@ -38,9 +39,9 @@ fn deliveries_compare_by_key_and_subscribers(rt: HostRuntime) {
         ),
     ];
     for &(key, subscribers, other_key, others, order) in CASES {
-        let one = delivery(&rt, rt.alloc(), key, subscribers);
-        let other = delivery(&rt, rt.alloc(), other_key, others);
-        compares(&rt, &one, &other, order);
+        let one = delivery(rt, rt.alloc(), key, subscribers);
+        let other = delivery(rt, rt.alloc(), other_key, others);
+        compares(rt, &one, &other, order);
         drop(one);
         drop(other);
     }
@@ -48,13 +49,21 @@ fn deliveries_compare_by_key_and_subscribers(rt: HostRuntime) {
 
 /// Compares to another so.
 fn compares<T: Ord>(rt: &impl Abort, one: &T, other: &T, order: Ordering) {
-    equal(rt, &one.cmp(other), &order);
-    equal(rt, &one.partial_cmp(other), &Some(order));
-    equal_lists(
-        rt,
-        &[one == other, one < other, one > other],
-        &[order.is_eq(), order.is_lt(), order.is_gt()],
+    let found = (
+        one.cmp(other),
+        one.partial_cmp(other),
+        one == other,
+        one < other,
+        one > other,
     );
+    let wanted = (
+        order,
+        Some(order),
+        order.is_eq(),
+        order.is_lt(),
+        order.is_gt(),
+    );
+    equal(rt, &found, &wanted);
 }
 
 /// The laws say of them what their comparison does.
@@ -91,11 +100,12 @@ fn fetches_compare_by_key_and_subscriber(rt: HostRuntime) {
 
 #[test]
 fn deliveries_compare_whatever_their_marks(rt: HostRuntime) {
-    let one = delivery(&rt, rt.alloc(), 1, &[(10, 7)]);
-    let other = delivery(&rt, rt.alloc(), 1, &[(10, 8)]);
-    holds(&rt, laws::are_equal_deliveries(&one, &other));
+    let rt = &rt;
+    let one = delivery(rt, rt.alloc(), 1, &[(10, 7)]);
+    let other = delivery(rt, rt.alloc(), 1, &[(10, 8)]);
+    holds(rt, laws::are_equal_deliveries(&one, &other));
     equal(
-        &rt,
+        rt,
         &laws::order_of_deliveries(&one, &other),
         &Ordering::Equal,
     );
@@ -105,43 +115,36 @@ fn deliveries_compare_whatever_their_marks(rt: HostRuntime) {
 
 #[test]
 fn clones_of_a_fetch_keep_the_mark(rt: HostRuntime) {
+    const FETCH: &str = "Fetch { key: 1, subscriber: 10, mark: 7 }";
+    let (rt, alloc) = (&rt, rt.alloc());
     let fetch = fetch((1, 10, 7));
-    has_its_mark(&rt, fetch.clone().expect(&rt, "memory"));
-    has_its_mark(&rt, copied(&rt, &fetch));
+    is_written(rt, alloc, fetch.clone().expect(rt, "memory"), FETCH);
+    is_written(rt, alloc, copied(rt, &fetch), FETCH);
     drop(fetch);
-}
-
-/// It is the fetch of key 1 for subscriber 10, with the mark 7.
-fn has_its_mark(rt: &impl Abort, same: Fetch<u8, u16>) {
-    equal(rt, &(same.key, same.subscriber, same.mark), &(1, 10, 7));
-    drop(same);
 }
 
 #[test]
 fn clones_of_a_delivery_keep_the_marks(rt: HostRuntime) {
-    let handed = delivery(&rt, rt.alloc(), 1, &[(10, 7), (11, 8)]);
-    let same = handed.clone().expect(&rt, "memory");
-    let again = copied(&rt, &handed);
+    const DELIVERY: &str =
+        "Delivery { key: 1, subscribers: NonEmptyVec { items: [(10, 7), (11, 8)] } }";
+    let (rt, alloc) = (&rt, rt.alloc());
+    let handed = delivery(rt, alloc, 1, &[(10, 7), (11, 8)]);
+    let same = handed.clone().expect(rt, "memory");
+    let again = copied(rt, &handed);
     drop(handed);
-    has_two_marks(&rt, same);
-    has_two_marks(&rt, again);
-}
-
-/// It is the delivery of key 1 to subscribers 10 and 11, with the marks 7 and 8.
-fn has_two_marks(rt: &impl Abort, same: Delivery<u8, u16>) {
-    equal(rt, &same.key, &1);
-    equal_lists(rt, same.subscribers.as_slice(), &[(10, 7), (11, 8)]);
-    drop(same);
+    is_written(rt, alloc, same, DELIVERY);
+    is_written(rt, alloc, again, DELIVERY);
 }
 
 #[test]
 fn from_a_key_and_from_an_answer(rt: HostRuntime) {
+    let rt = &rt;
     let fetch: Fetch<u8, u16> = Fetch::from(5);
-    equal(&rt, &(fetch.key, fetch.subscriber, fetch.mark), &(5, 0, 0));
+    equal(rt, &(fetch.key, fetch.subscriber, fetch.mark), &(5, 0, 0));
     equal(
-        &rt,
+        rt,
         &Outcome::from(true),
         &Outcome::Resolved(Resolution::Complete),
     );
-    equal(&rt, &Outcome::from(false), &Outcome::Invalid);
+    equal(rt, &Outcome::from(false), &Outcome::Invalid);
 }

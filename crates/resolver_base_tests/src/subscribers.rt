@@ -10,7 +10,6 @@ use resolver_demand::subscribers::{Subscribers, Tracker};
 use resolver_root::NonEmptyVec;
 use std::alloc::Global;
 use std::cell::Cell;
-use std::fmt::Write;
 use std::panic::Expect;
 use std::process::Abort;
 
@@ -38,17 +37,6 @@ enum Call<'a> {
 fn list(rt: &impl Abort, alloc: Global, subscribers: List) -> NonEmptyVec<(u16, u64)> {
     let list = subscribers.to_vec(alloc).expect(rt, "memory");
     NonEmptyVec::try_from(list).ok().expect(rt, "subscribers")
-}
-
-/// Writes subscribers with their marks, or that there are none.
-fn spell_some(rt: &impl Abort, text: &mut String, subscribers: Option<NonEmptyVec<(u16, u64)>>) {
-    let Some(subscribers) = subscribers else {
-        return text.push_str(" nobody").expect(rt, "memory");
-    };
-    for (name, mark) in subscribers.as_slice() {
-        write!(text, " {name}:{mark}").expect(rt, "memory");
-    }
-    drop(subscribers);
 }
 
 // The calls promise nothing, so that their callers are proved without what a tracker is.
@@ -100,25 +88,21 @@ fn attach(
     subscribers: NonEmptyVec<(u16, u64)>,
 ) {
     let rest = tracker.attach(&key, subscribers).expect(rt, "memory");
-    spell_some(rt, text, rest);
+    spell(rt, text, rest);
 }
 
 /// Makes a call, and writes what it answers.
 fn make(rt: &impl Abort, text: &mut String, tracker: &mut Demand, call: Call) {
     let alloc = *text.allocator();
     match call {
-        Call::Insert(key, names) => spell(rt, text, &insert(rt, alloc, tracker, key, names)),
+        Call::Insert(key, names) => spell(rt, text, insert(rt, alloc, tracker, key, names)),
         Call::Attach(key, names) => attach(rt, text, tracker, key, list(rt, alloc, names)),
         Call::InsertNew(key, names) => insert_new(rt, alloc, tracker, key, names),
-        Call::Pending(key) => spell_some(rt, text, pending(rt, tracker, key)),
-        Call::Delivered(key, names) => spell_some(
-            rt,
-            text,
-            delivered(rt, alloc, tracker, key, names),
-        ),
-        Call::Retain => spell(rt, text, &retain(rt, tracker)),
-        Call::Contains(key) => spell(rt, text, &tracker.contains(&key)),
-        Call::IsEmpty => spell(rt, text, &tracker.is_empty()),
+        Call::Pending(key) => spell(rt, text, pending(rt, tracker, key)),
+        Call::Delivered(key, names) => spell(rt, text, delivered(rt, alloc, tracker, key, names)),
+        Call::Retain => spell(rt, text, retain(rt, tracker)),
+        Call::Contains(key) => spell(rt, text, tracker.contains(&key)),
+        Call::IsEmpty => spell(rt, text, tracker.is_empty()),
     }
 }
 
@@ -148,7 +132,8 @@ const ROWS: &[Row] = &[
             Call::Delivered(1, &[(10, 0), (12, 0)]),
             Call::Pending(1),
         ],
-        " true\n false\n 10:0 11:0 12:0\n 11:0\n 11:0\n",
+        " true\n false\n Some(NonEmptyVec { items: [(10, 0), (11, 0), (12, 0)] })\n \
+        Some(NonEmptyVec { items: [(11, 0)] })\n Some(NonEmptyVec { items: [(11, 0)] })\n",
     ),
     (
         &[
@@ -156,7 +141,7 @@ const ROWS: &[Row] = &[
             Call::Insert(1, &[(10, 8), (11, 8)]),
             Call::Pending(1),
         ],
-        " true\n false\n 10:7 11:8\n",
+        " true\n false\n Some(NonEmptyVec { items: [(10, 7), (11, 8)] })\n",
     ),
     (
         &[
@@ -166,7 +151,7 @@ const ROWS: &[Row] = &[
             Call::Pending(2),
             Call::Pending(1),
         ],
-        " true\n true\n [1]\n 20:0\n nobody\n",
+        " true\n true\n [1]\n Some(NonEmptyVec { items: [(20, 0)] })\n None\n",
     ),
     (
         &[
@@ -184,7 +169,7 @@ const ROWS: &[Row] = &[
             Call::Insert(1, &[(12, 0), (10, 0), (11, 0)]),
             Call::Delivered(1, &[(11, 0)]),
         ],
-        " true\n 10:0 12:0\n",
+        " true\n Some(NonEmptyVec { items: [(10, 0), (12, 0)] })\n",
     ),
     (
         &[
@@ -193,7 +178,7 @@ const ROWS: &[Row] = &[
             Call::Contains(1),
             Call::Delivered(1, &[(10, 0), (11, 0)]),
         ],
-        " true\n nobody\n false\n nobody\n",
+        " true\n None\n false\n None\n",
     ),
     (
         &[
@@ -208,7 +193,10 @@ const ROWS: &[Row] = &[
             Call::InsertNew(3, &[(30, 1), (30, 2)]),
             Call::Pending(3),
         ],
-        " 12:7 10:7\n false\n\n\n nobody\n nobody\n 10:7 11:8 12:7\n 19:4 20:1 21:2 22:3 23:6\n\n 30:1\n",
+        " Some(NonEmptyVec { items: [(12, 7), (10, 7)] })\n false\n\n\n None\n None\n \
+        Some(NonEmptyVec { items: [(10, 7), (11, 8), (12, 7)] })\n \
+        Some(NonEmptyVec { items: [(19, 4), (20, 1), (21, 2), (22, 3), (23, 6)] })\n\n \
+        Some(NonEmptyVec { items: [(30, 1)] })\n",
     ),
 ];
 
@@ -325,14 +313,15 @@ fn take_many(rt: &impl Abort, alloc: Global, tracker: &mut Demand) {
 
 #[test]
 fn many_subscribers_stand_in_order(rt: HostRuntime) {
+    let rt = &rt;
     let alloc = rt.alloc();
     let mut tracker = Tracker::new(alloc);
-    put_many(&rt, alloc, &mut tracker);
-    are_ascending(&rt, alloc, pending(&rt, &tracker, 1), 41);
-    let same = copied(&rt, &tracker);
-    take_many(&rt, alloc, &mut tracker);
+    put_many(rt, alloc, &mut tracker);
+    are_ascending(rt, alloc, pending(rt, &tracker, 1), 41);
+    let same = copied(rt, &tracker);
+    take_many(rt, alloc, &mut tracker);
     drop(tracker);
-    are_ascending(&rt, alloc, pending(&rt, &same, 1), 41);
+    are_ascending(rt, alloc, pending(rt, &same, 1), 41);
     drop(same);
 }
 

@@ -3,7 +3,7 @@
 //! A test is a table of calls, and the text of what they answer. A tracker is made, used and dropped in few
 //! places, so that the tests are proved without what a tracker is.
 
-use crate::asserts::{equal_texts, holds};
+use crate::asserts::{equal_texts, holds, spell};
 use crate::mail::mailbox::next;
 use crate::names::{Letter, delivery};
 use crate::slow::Slow;
@@ -14,10 +14,10 @@ use futures::test::MockTask;
 use resolver_demand::delivery::{Aborted, Completion};
 use resolver_loop::{Consumer, Tracker, mocks};
 use resolver_root::{Outcome, Resolution};
-use std::alloc::Global;
-use std::fmt::{Debug, Write};
+use std::alloc::{AllocGlobal, Global};
 use std::panic::Expect;
 use std::process::Abort;
+use std::random::RandomSource;
 
 /// A peer, and what it took: elapsed time and bytes.
 type Source = (Letter, u128, u64);
@@ -92,9 +92,10 @@ where
     C: Consumer<Key = Letter, Value = Bytes, Subscriber = u8> + Drop,
     C::Outcome: Drop,
 {
+    let key = Letter(key);
+    holds(rt, tracker.contains(&key));
+    holds(rt, tracker.entries().number(&key).is_none());
     let delivery = delivery(rt, alloc, key);
-    holds(rt, tracker.contains(&delivery.key));
-    holds(rt, tracker.entries().number(&delivery.key).is_none());
     tracker
         .deliver(delivery, SOURCE, Bytes::from_static(b"v"))
         .expect(rt, "a delivery")
@@ -110,11 +111,12 @@ where
     C: Consumer<Key = Letter, Value = Bytes, Subscriber = u8> + Drop,
     C::Outcome: Drop,
 {
-    let delivery = delivery(rt, alloc, key);
-    let entries = tracker.entries();
-    holds(rt, entries.response(&delivery.key).is_some());
-    holds(rt, entries.number(&delivery.key).is_none());
-    tracker.redeliver(delivery).expect(rt, "a delivery")
+    let key = Letter(key);
+    holds(rt, tracker.entries().response(&key).is_some());
+    holds(rt, tracker.entries().number(&key).is_none());
+    tracker
+        .redeliver(delivery(rt, alloc, key))
+        .expect(rt, "a delivery")
 }
 
 fn accept<C>(rt: &impl Abort, tracker: &mut Tracker<C, Source, ()>, key: u8)
@@ -157,30 +159,18 @@ where
     ]
 }
 
-/// Writes what a poll gives, and lets it go.
-fn spell(rt: &impl Abort, text: &mut String, polled: Polled) {
-    spell_polled(rt, text, &polled);
-    drop(polled);
-}
-
-fn spell_polled(rt: &impl Abort, text: &mut String, polled: &Polled) {
-    match polled {
-        Poll::Ready(Ok(over)) => spell_completion(rt, text, over),
-        Poll::Ready(Err(Aborted {})) => text.push_str("aborted\n").expect(rt, "memory"),
-        Poll::Pending => text.push_str("pending\n").expect(rt, "memory"),
-    }
-}
-
-fn spell_completion(rt: &impl Abort, text: &mut String, over: &Completion<Letter, u8, Source>) {
-    write!(text, "{} {:?}", over.delivery.key.0, over.outcome).expect(rt, "memory");
-    write!(text, " canceled {}", over.canceled).expect(rt, "memory");
-    let accepted = over.previously_accepted;
-    writeln!(text, " accepted {accepted} of {:?}", over.context).expect(rt, "memory");
-}
-
-/// Writes an answer on its line.
-fn answer<T: Debug + Copy>(rt: &impl Abort, text: &mut String, answer: T) {
-    writeln!(text, "{answer:?}").expect(rt, "memory");
+/// Polls, and writes what the poll gives.
+fn poll<C>(
+    rt: &impl Abort,
+    text: &mut String,
+    task: &MockTask,
+    tracker: &mut Tracker<C, Source, ()>,
+)
+where
+    C: Judge + Consumer<Key = Letter, Value = Bytes, Subscriber = u8> + Drop,
+    C::Outcome: Drop,
+{
+    spell(rt, text, C::polled(task, tracker));
 }
 
 /// Makes a call, and writes what it answers.
@@ -197,17 +187,15 @@ where
 {
     let alloc = *text.allocator();
     match call {
-        Call::Insert(key) => answer(rt, text, insert(rt, tracker, key)),
-        Call::Remove(key) => answer(rt, text, remove(tracker, key)),
-        Call::Deliver(key) => answer(rt, text, deliver(rt, alloc, tracker, key)),
-        Call::Redeliver(key) => answer(rt, text, redeliver(rt, alloc, tracker, key)),
+        Call::Insert(key) => spell(rt, text, insert(rt, tracker, key)),
+        Call::Remove(key) => spell(rt, text, remove(tracker, key)),
+        Call::Deliver(key) => spell(rt, text, deliver(rt, alloc, tracker, key)),
+        Call::Redeliver(key) => spell(rt, text, redeliver(rt, alloc, tracker, key)),
         Call::Accept(key) => accept(rt, tracker, key),
         Call::Discard(key) => discard(tracker, key),
-        Call::Complete(number, verdict) => {
-            spell(rt, text, Poll::Ready(complete(tracker, number, verdict)));
-        }
-        Call::Poll => spell(rt, text, C::polled(task, tracker)),
-        Call::Look(key) => answer(rt, text, seen(tracker, key)),
+        Call::Complete(number, verdict) => spell(rt, text, complete(tracker, number, verdict)),
+        Call::Poll => poll(rt, text, task, tracker),
+        Call::Look(key) => spell(rt, text, seen(tracker, key)),
     }
 }
 
@@ -245,6 +233,20 @@ where
     text
 }
 
+/// Ends the test where the calls of a tracker whose consumer finds every value right answer something else.
+fn answers<R: Abort + RandomSource + AllocGlobal>(
+    rt: &R,
+    alloc: Global,
+    calls: &[Call],
+    wanted: &str,
+) {
+    let task = MockTask::new(rt).expect(rt, "a task");
+    let text = told(rt, alloc, &task, mocked(rt, alloc), calls);
+    drop(task);
+    equal_texts(rt, text.as_str(), wanted);
+    drop(text);
+}
+
 #[test]
 fn inflight_completion(rt: HostRuntime) {
     const CALLS: &[Call] = &[
@@ -254,13 +256,13 @@ fn inflight_completion(rt: HostRuntime) {
         Call::Poll,
         Call::Look(1),
     ];
-    let task = MockTask::new(&rt).expect(&rt, "a task");
-    let text = told(&rt, rt.alloc(), &task, mocked(&rt, rt.alloc()), CALLS);
-    drop(task);
-    equal_texts(
+    answers(
         &rt,
-        text.as_str(),
-        "true\n0\ntrue\n1 Some(Resolved(Complete)) canceled true accepted false of (Letter(4), 0, 1)\n[false, false, false]\n",
+        rt.alloc(),
+        CALLS,
+        " true 0 true Ready(Ok(Completion { response: 0, context: (Letter(4), 0, 1), \
+        delivery: Delivery { key: Letter(1), subscribers: NonEmptyVec { items: [(10, 7)] } }, \
+        outcome: Some(Resolved(Complete)), canceled: true, previously_accepted: false })) [false, false, false]",
     );
 }
 
@@ -279,13 +281,17 @@ fn an_accepted_response_is_handed_out_again(rt: HostRuntime) {
         Call::Discard(1),
         Call::Look(1),
     ];
-    let task = MockTask::new(&rt).expect(&rt, "a task");
-    let text = told(&rt, rt.alloc(), &task, mocked(&rt, rt.alloc()), CALLS);
-    drop(task);
-    equal_texts(
+    answers(
         &rt,
-        text.as_str(),
-        "true\n0\n1 Some(Resolved(Complete)) canceled false accepted false of (Letter(4), 0, 1)\n[true, true, false]\n[true, true, true]\n1\n1 Some(Ignored) canceled false accepted true of (Letter(4), 0, 1)\npending\n[true, false, false]\n",
+        rt.alloc(),
+        CALLS,
+        " true 0 Ready(Ok(Completion { response: 0, context: (Letter(4), 0, 1), \
+        delivery: Delivery { key: Letter(1), subscribers: NonEmptyVec { items: [(10, 7)] } }, \
+        outcome: Some(Resolved(Complete)), canceled: false, \
+        previously_accepted: false })) [true, true, false] [true, true, true] 1 Ok(Completion { response: 0, \
+        context: (Letter(4), 0, 1), delivery: Delivery { key: Letter(1), \
+        subscribers: NonEmptyVec { items: [(10, 7)] } }, outcome: Some(Ignored), canceled: false, \
+        previously_accepted: true }) Pending [true, false, false]",
     );
 }
 
@@ -326,18 +332,18 @@ where
     C::Outcome: Drop,
 {
     deliver_three(rt, *text.allocator(), tracker);
-    spell(rt, text, C::polled(task, tracker));
+    poll(rt, text, task, tracker);
     let first = next_judge(rt, task, judges);
     let second = next_judge(rt, task, judges);
     let third = next_judge(rt, task, judges);
     let _ = second.send(COMPLETE);
-    spell(rt, text, C::polled(task, tracker));
+    poll(rt, text, task, tracker);
     drop(first);
-    spell(rt, text, C::polled(task, tracker));
+    poll(rt, text, task, tracker);
     remove(tracker, 3);
-    spell(rt, text, C::polled(task, tracker));
-    answer(rt, text, third.is_canceled());
-    spell(rt, text, C::polled(task, tracker));
+    poll(rt, text, task, tracker);
+    spell(rt, text, third.is_canceled());
+    poll(rt, text, task, tracker);
     drop(third);
 }
 
@@ -362,19 +368,25 @@ where
 
 #[test]
 fn verdicts_come_in_any_order(rt: HostRuntime) {
-    let task = MockTask::new(&rt).expect(&rt, "a task");
-    let (sender, mut judges) = mpsc::unbounded(rt.alloc()).expect(&rt, "memory");
+    let rt = &rt;
+    let task = MockTask::new(rt).expect(rt, "a task");
+    let (sender, mut judges) = mpsc::unbounded(rt.alloc()).expect(rt, "memory");
     let slow = Slow {
         alloc: rt.alloc(),
         judges: sender,
     };
-    let text = told_of_three(&rt, rt.alloc(), &task, &mut judges, slow);
+    let text = told_of_three(rt, rt.alloc(), &task, &mut judges, slow);
     drop(judges);
     drop(task);
     equal_texts(
-        &rt,
+        rt,
         text.as_str(),
-        "pending\n2 Some(Resolved(Complete)) canceled false accepted false of (Letter(4), 0, 1)\n1 None canceled false accepted false of (Letter(4), 0, 1)\naborted\ntrue\npending\n",
+        " Pending Ready(Ok(Completion { response: 1, context: (Letter(4), 0, 1), \
+        delivery: Delivery { key: Letter(2), subscribers: NonEmptyVec { items: [(10, 7)] } }, \
+        outcome: Some(Resolved(Complete)), canceled: false, previously_accepted: false })) \
+        Ready(Ok(Completion { response: 0, context: (Letter(4), 0, 1), delivery: Delivery { key: Letter(1), \
+        subscribers: NonEmptyVec { items: [(10, 7)] } }, outcome: None, canceled: false, \
+        previously_accepted: false })) Ready(Err(Aborted)) true Pending",
     );
 }
 
@@ -424,10 +436,10 @@ where
 {
     const STATES: &[(u8, u32)] = &[(1, 20), (1, 30), (2, 40), (3, 40), (4, 40)];
     for &(key, state) in STATES {
-        answer(rt, text, put_state(rt, tracker, key, state));
+        spell(rt, text, put_state(rt, tracker, key, state));
     }
-    answer(rt, text, drop_one(tracker, 2));
-    answer(rt, text, drop_all(tracker, 1));
+    spell(rt, text, drop_one(tracker, 2));
+    spell(rt, text, drop_all(tracker, 1));
 }
 
 fn told_of_states<C>(rt: &impl Abort, alloc: Global, consumer: C) -> String
@@ -444,10 +456,11 @@ where
 
 #[test]
 fn keys_have_a_state(rt: HostRuntime) {
-    let text = told_of_states(&rt, rt.alloc(), mocked(&rt, rt.alloc()));
+    let rt = &rt;
+    let text = told_of_states(rt, rt.alloc(), mocked(rt, rt.alloc()));
     equal_texts(
-        &rt,
+        rt,
         text.as_str(),
-        "(true, 20)\n(false, 20)\n(true, 40)\n(true, 40)\n(true, 40)\n(1, false)\n(3, false)\n",
+        " (true, 20) (false, 20) (true, 40) (true, 40) (true, 40) (1, false) (3, false)",
     );
 }

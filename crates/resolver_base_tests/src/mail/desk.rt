@@ -1,9 +1,8 @@
-use crate::asserts::equal_texts;
-use crate::mail::calls::{fetch, spell, spell_book};
+use crate::asserts::{equal_texts, spell};
+use crate::mail::calls::fetch;
 use crate::names::All;
 use resolver_mailbox::mailbox::Desk;
 use std::alloc::{AllocError, Global};
-use std::fmt::Write;
 use std::panic::Expect;
 use std::process::Abort;
 
@@ -17,18 +16,14 @@ fn put(
     told: (u16, u16, u64),
 ) -> Option<u64> {
     let message = fetch(*text.allocator(), told.0, told.1, told.2).expect(rt, "memory");
-    let (feedback, number) = desk.put(handle, message).expect(rt, "memory");
-    writeln!(text, "{feedback:?} {number:?}").expect(rt, "memory");
-    number
+    let answer = desk.put(handle, message).expect(rt, "memory");
+    spell(rt, text, answer);
+    answer.1
 }
 
 /// Takes, and writes what was taken.
 fn take(rt: &impl Abort, text: &mut String, desk: &mut Desk<u16, u16, (), All>) {
-    match desk.take().expect(rt, "memory") {
-        Some(message) => spell(rt, text, &message),
-        None => text.push_str(" none").expect(rt, "memory"),
-    }
-    text.push('\n').expect(rt, "memory");
+    spell(rt, text, desk.take().expect(rt, "memory"));
 }
 
 /// Three puts of two handles, three takes, a close and a put: writes their answers, and then the
@@ -43,7 +38,7 @@ fn row(rt: &impl Abort, text: &mut String, desk: &mut Desk<u16, u16, (), All>) {
     desk.close();
     desk.close();
     put(rt, text, desk, first, (3, 30, 5));
-    spell_book(rt, text, desk.calls());
+    spell(rt, text, desk.calls());
 }
 
 /// The row on a desk that was made.
@@ -66,10 +61,16 @@ fn mailbox_book(rt: HostRuntime) {
     equal_texts(
         &rt,
         text.as_str(),
-        "Ok Some(0)\nBackoff Some(0)\nBackoff Some(1)\n 1 10:7\n 2 20:8 21:9\n none\n\
-        Closed Some(0)\n\
-        put 0 0 true 1 10:7\nput 0 1 false 2 20:8\nput 1 0 false 2 21:9\n\
-        take 1 10:7\ntake 2 20:8 21:9\nclose\n",
+        " (Ok, Some(0)) (Backoff, Some(0)) (Backoff, Some(1)) \
+        Some(Fetch([FetchKey { key: 1, subscribers: NonEmptyVec { items: [(10, 7)] }, metadata: () }])) \
+        Some(Fetch([FetchKey { key: 2, subscribers: NonEmptyVec { items: [(20, 8), (21, 9)] }, metadata: () }])) \
+        None (Closed, Some(0)) [\
+        Put(Posted { handle: 0, place: 0, message: Fetch([FetchKey { key: 1, subscribers: NonEmptyVec { items: [(10, 7)] }, metadata: () }]), is_ok: true }), \
+        Put(Posted { handle: 0, place: 1, message: Fetch([FetchKey { key: 2, subscribers: NonEmptyVec { items: [(20, 8)] }, metadata: () }]), is_ok: false }), \
+        Put(Posted { handle: 1, place: 0, message: Fetch([FetchKey { key: 2, subscribers: NonEmptyVec { items: [(21, 9)] }, metadata: () }]), is_ok: false }), \
+        Take(Fetch([FetchKey { key: 1, subscribers: NonEmptyVec { items: [(10, 7)] }, metadata: () }])), \
+        Take(Fetch([FetchKey { key: 2, subscribers: NonEmptyVec { items: [(20, 8), (21, 9)] }, metadata: () }])), \
+        Close]",
     );
 }
 
@@ -80,6 +81,9 @@ fn mailbox_book_not_recorded(rt: HostRuntime) {
     equal_texts(
         &rt,
         text.as_str(),
-        "Ok None\nBackoff None\nBackoff None\n 1 10:7\n 2 20:8 21:9\n none\nClosed None\n",
+        " (Ok, None) (Backoff, None) (Backoff, None) \
+        Some(Fetch([FetchKey { key: 1, subscribers: NonEmptyVec { items: [(10, 7)] }, metadata: () }])) \
+        Some(Fetch([FetchKey { key: 2, subscribers: NonEmptyVec { items: [(20, 8), (21, 9)] }, metadata: () }])) \
+        None (Closed, None) []",
     );
 }

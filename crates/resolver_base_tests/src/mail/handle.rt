@@ -1,6 +1,7 @@
 ghost use Rattle.std.specs.Prelude.{◌≡◌, true};
 
-use crate::mail::calls::{equal_pieces, spell_share};
+use crate::asserts::spell;
+use crate::mail::calls::{equal_pieces, shown};
 use crate::mail::mailbox::next;
 use crate::names::{All, Letter};
 use futures::task::Poll;
@@ -13,7 +14,7 @@ use resolver_loop::{Resolver as Asks, TargetedResolver};
 use resolver_mailbox::mailbox::{Naming, Pages, Receiver, Sender, Share, new, recorded};
 use resolver_root::{Fetch, NonEmptyVec};
 use std::alloc::Global;
-use std::fmt::Write;
+use std::fmt::Debug;
 use std::marker::Brand;
 use std::panic::Expect;
 use std::process::Abort;
@@ -28,18 +29,42 @@ type Putter<M, N, R> = Sender<Letter, u16, M, All, N, R>;
 type Mail<M, N, R> = Receiver<Letter, u16, M, All, N, R>;
 
 /// What the answers to a put and then to the calls of `ask_each` are.
-const OK: &str = "Ok\nOk Ok Ok Ok Ok Ok Ok Ok Ok\n";
+const OK: &str = " Ok Ok Ok Ok Ok Ok Ok Ok Ok Ok";
 
 /// What the answers to the calls of `ask_each` are, once the mailbox is closed.
-const CLOSED: &str = "Closed Closed Closed Closed Closed Closed Closed Closed Closed\n";
+const CLOSED: &str = " Closed Closed Closed Closed Closed Closed Closed Closed Closed";
 
 /// What was put of the source's handle, each call one message.
-const PUT: &str = " retain\n 1=10:7\n\n 2=20:7\n 3=30:7 4=40:7 5=50:7\n 6=60:7\n\n 7=70:7\n \
-    8=80:7 9=90:7 10=100:7\n retain\n";
+const PUT: &str = " Retain(All) \
+    Fetch([FetchKey { key: Letter(1), subscribers: NonEmptyVec { items: [(10, 7)] }, metadata: () }]) \
+    Fetch([]) \
+    Fetch([FetchKey { key: Letter(2), subscribers: NonEmptyVec { items: [(20, 7)] }, metadata: () }]) \
+    Fetch([FetchKey { key: Letter(3), subscribers: NonEmptyVec { items: [(30, 7)] }, metadata: () }, \
+    FetchKey { key: Letter(4), subscribers: NonEmptyVec { items: [(40, 7)] }, metadata: () }, \
+    FetchKey { key: Letter(5), subscribers: NonEmptyVec { items: [(50, 7)] }, metadata: () }]) \
+    Fetch([FetchKey { key: Letter(6), subscribers: NonEmptyVec { items: [(60, 7)] }, metadata: () }]) \
+    Fetch([]) \
+    Fetch([FetchKey { key: Letter(7), subscribers: NonEmptyVec { items: [(70, 7)] }, metadata: () }]) \
+    Fetch([FetchKey { key: Letter(8), subscribers: NonEmptyVec { items: [(80, 7)] }, metadata: () }, \
+    FetchKey { key: Letter(9), subscribers: NonEmptyVec { items: [(90, 7)] }, metadata: () }, \
+    FetchKey { key: Letter(10), subscribers: NonEmptyVec { items: [(100, 7)] }, metadata: () }]) \
+    Retain(All)";
 
 /// What was put of the engine's handle.
-const PUT_TARGETED: &str = " retain\n 1=10:7\n\n 2=20:7\n 3=30:7 4=40:7 5=50:7\n 6=60:7 from \
-    106\n\n 7=70:7 from 107\n 8=80:7 from 108 9=90:7 from 109 10=100:7 from 110\n retain\n";
+const PUT_TARGETED: &str = " Retain(All) \
+    Fetch([FetchKey { key: Letter(1), subscribers: NonEmptyVec { items: [(10, 7)] }, metadata: None }]) \
+    Fetch([]) \
+    Fetch([FetchKey { key: Letter(2), subscribers: NonEmptyVec { items: [(20, 7)] }, metadata: None }]) \
+    Fetch([FetchKey { key: Letter(3), subscribers: NonEmptyVec { items: [(30, 7)] }, metadata: None }, \
+    FetchKey { key: Letter(4), subscribers: NonEmptyVec { items: [(40, 7)] }, metadata: None }, \
+    FetchKey { key: Letter(5), subscribers: NonEmptyVec { items: [(50, 7)] }, metadata: None }]) \
+    Fetch([FetchKey { key: Letter(6), subscribers: NonEmptyVec { items: [(60, 7)] }, metadata: Some(NonEmptyVec { items: [Letter(106)] }) }]) \
+    Fetch([]) \
+    Fetch([FetchKey { key: Letter(7), subscribers: NonEmptyVec { items: [(70, 7)] }, metadata: Some(NonEmptyVec { items: [Letter(107)] }) }]) \
+    Fetch([FetchKey { key: Letter(8), subscribers: NonEmptyVec { items: [(80, 7)] }, metadata: Some(NonEmptyVec { items: [Letter(108)] }) }, \
+    FetchKey { key: Letter(9), subscribers: NonEmptyVec { items: [(90, 7)] }, metadata: Some(NonEmptyVec { items: [Letter(109)] }) }, \
+    FetchKey { key: Letter(10), subscribers: NonEmptyVec { items: [(100, 7)] }, metadata: Some(NonEmptyVec { items: [Letter(110)] }) }]) \
+    Retain(All)";
 
 /// What both handles have besides.
 trait Handle {
@@ -67,24 +92,6 @@ impl<N: Naming, R: Wait> Handle for Mailbox<Letter, Letter, u16, All, N, R> {
 
     fn shut(&mut self) {
         self.close();
-    }
-}
-
-/// What is said of a fetch, which can be written.
-trait Said {
-    fn spell(&self, rt: &impl Abort, text: &mut String);
-}
-
-impl Said for () {
-    fn spell(&self, _rt: &impl Abort, _text: &mut String) {}
-}
-
-impl Said for Targets {
-    /// The first target.
-    fn spell(&self, rt: &impl Abort, text: &mut String) {
-        if let Some(targets) = self {
-            write!(text, " from {}", targets.first().0).expect(rt, "memory");
-        }
     }
 }
 
@@ -139,7 +146,7 @@ where
     for keys in LISTS {
         let fetches = fetches(rt, *text.allocator(), keys);
         let feedback = handle.fetch_all(fetches).expect(rt, "an answer");
-        write!(text, " {feedback:?}").expect(rt, "memory");
+        spell(rt, text, feedback);
     }
 }
 
@@ -152,7 +159,7 @@ where
     for keys in LISTS {
         let fetches = fetches_from(rt, *text.allocator(), keys);
         let feedback = handle.fetch_all_targeted(fetches).expect(rt, "an answer");
-        write!(text, " {feedback:?}").expect(rt, "memory");
+        spell(rt, text, feedback);
     }
 }
 
@@ -162,40 +169,25 @@ where
     H: TargetedResolver<PublicKey = Letter> + Asks<Key = Letter, Subscriber = u16, Predicate = All>,
 {
     let feedback = handle.fetch(fetch(1)).expect(rt, "an answer");
-    write!(text, "{feedback:?}").expect(rt, "memory");
+    spell(rt, text, feedback);
     ask_lists(rt, text, handle);
     let (one, targets) = fetch_from(rt, *text.allocator(), 6);
     let feedback = handle.fetch_targeted(one, targets).expect(rt, "an answer");
-    write!(text, " {feedback:?}").expect(rt, "memory");
+    spell(rt, text, feedback);
     ask_targeted_lists(rt, text, handle);
     let feedback = handle.retain(All).expect(rt, "an answer");
-    writeln!(text, " {feedback:?}").expect(rt, "memory");
-}
-
-/// Writes a message: each key with its subscribers, their marks, and what else is said of it.
-fn spell<M: Said>(rt: &impl Abort, text: &mut String, message: &Message<Letter, u16, M, All>) {
-    match message {
-        Message::Fetch(items) => {
-            for item in items {
-                write!(text, " {}=", item.key.0).expect(rt, "memory");
-                for one in item.subscribers.as_slice() {
-                    write!(text, "{}:{}", one.0, one.1).expect(rt, "memory");
-                }
-                item.metadata.spell(rt, text);
-            }
-        }
-        Message::Retain(_) => text.push_str(" retain").expect(rt, "memory"),
-    }
-    text.push('\n').expect(rt, "memory");
+    spell(rt, text, feedback);
 }
 
 /// Writes what a handle has put.
-fn spell_each<M: Said, N: Naming>(
+fn spell_each<M: Debug, N: Naming>(
     rt: &impl Abort,
     text: &mut String,
     share: Option<&Share<Letter, u16, M, All, N>>,
 ) {
-    for message in spell_share(rt, text, share) {
+    let (share, puts) = shown(share);
+    spell(rt, text, share);
+    for message in puts {
         spell(rt, text, message);
     }
 }
@@ -203,25 +195,18 @@ fn spell_each<M: Said, N: Naming>(
 /// What a poll of a receiver gives.
 type Polled<M> = Poll<Option<Result<Message<Letter, u16, M, All>, Fault>>>;
 
-/// Writes what a poll gives. Whether the receiver may have more.
-fn spell_polled<M: Said>(rt: &impl Abort, text: &mut String, polled: &Polled<M>) -> bool {
-    match polled {
-        Poll::Ready(Some(Ok(message))) => {
-            spell(rt, text, message);
-            return true;
-        }
-        Poll::Ready(Some(Err(fault))) => {
-            writeln!(text, "{}", fault.name()).expect(rt, "memory");
-            return true;
-        }
-        Poll::Ready(None) => text.push_str("end\n").expect(rt, "memory"),
-        Poll::Pending => text.push_str("pending\n").expect(rt, "memory"),
-    }
-    false
+/// Writes the message that a poll gives, or that there is none. Whether the receiver may have more.
+fn spell_polled<M: Debug>(rt: &impl Abort, text: &mut String, polled: &Polled<M>) -> bool {
+    let Poll::Ready(Some(Ok(message))) = polled else {
+        spell(rt, text, polled);
+        return false;
+    };
+    spell(rt, text, message);
+    true
 }
 
 /// Writes what the receiver gives, up to the end or where it waits.
-fn spell_taken<M: Metadata + Said + Drop, N: Naming, R: Wait + Drop>(
+fn spell_taken<M: Metadata + Debug + Drop, N: Naming, R: Wait + Drop>(
     rt: &impl Abort,
     text: &mut String,
     task: &MockTask,
@@ -245,8 +230,25 @@ fn close_by_clone<H: Handle + Clone + Drop>(rt: &impl Abort, text: &mut String, 
     drop(other);
 }
 
+/// Asks, writes what was put then, and takes it.
+fn ask_and_take<H, M: Metadata + Debug + Drop, N: Naming, R: Wait + Drop>(
+    rt: &impl Abort,
+    text: &mut String,
+    task: &MockTask,
+    handle: &mut H,
+    receiver: &mut Mail<M, N, R>,
+)
+where
+    H: Asks<Key = Letter, Subscriber = u16, Predicate = All>,
+    H: TargetedResolver<PublicKey = Letter> + Handle,
+{
+    ask_each(rt, text, handle);
+    handle.spell_puts(rt, text);
+    spell_taken(rt, text, task, receiver);
+}
+
 /// Asks, takes what was put, closes the mailbox, and asks and takes once more. Both are let go then.
-fn use_both<H, M: Metadata + Said + Drop, N: Naming, R: Wait + Drop>(
+fn use_both<H, M: Metadata + Debug + Drop, N: Naming, R: Wait + Drop>(
     rt: &impl Abort,
     text: &mut String,
     task: &MockTask,
@@ -257,13 +259,9 @@ where
     H: Asks<Key = Letter, Subscriber = u16, Predicate = All>,
     H: TargetedResolver<PublicKey = Letter> + Handle + Clone + Drop,
 {
-    ask_each(rt, text, &mut handle);
-    handle.spell_puts(rt, text);
-    spell_taken(rt, text, task, &mut receiver);
+    ask_and_take(rt, text, task, &mut handle, &mut receiver);
     close_by_clone(rt, text, &handle);
-    ask_each(rt, text, &mut handle);
-    handle.spell_puts(rt, text);
-    spell_taken(rt, text, task, &mut receiver);
+    ask_and_take(rt, text, task, &mut handle, &mut receiver);
     drop(handle);
     drop(receiver);
 }
@@ -275,7 +273,7 @@ fn put<M: Metadata + Drop, N: Naming, R: Wait>(
     sender: &mut Putter<M, N, R>,
 ) {
     let feedback = sender.enqueue(Message::Retain(All)).expect(rt, "an answer");
-    writeln!(text, "{feedback:?}").expect(rt, "memory");
+    spell(rt, text, feedback);
 }
 
 /// The mailbox of a source that was made is used by a handle of its sender.
@@ -345,21 +343,28 @@ where
 fn is_recorded_sight(rt: &impl Abort, text: &String, put: &str) {
     let pieces = [
         OK,
-        "share 0 false\n",
+        " Some((0, false))",
         put,
         put,
-        "pending\nnone\n",
+        " Pending None",
         CLOSED,
-        "share 0 true\n",
+        " Some((0, true))",
         put,
-        "end\n",
+        " Ready(None)",
     ];
     equal_pieces(rt, text, &pieces);
 }
 
 /// Ends the test where something else is seen of a handle that has no share.
 fn is_sight(rt: &impl Abort, text: &String, put: &str) {
-    let pieces = [OK, "none\n", put, "pending\nnone\n", CLOSED, "none\nend\n"];
+    let pieces = [
+        OK,
+        " None",
+        put,
+        " Pending None",
+        CLOSED,
+        " None Ready(None)",
+    ];
     equal_pieces(rt, text, &pieces);
 }
 

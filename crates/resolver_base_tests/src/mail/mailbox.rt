@@ -1,18 +1,18 @@
 ghost use Rattle.std.specs.Prelude.{◌≡◌, ◌<◌, true};
 
-use crate::asserts::equal_texts;
-use crate::mail::calls::{Told, equal_pieces, fetch, spell, spell_all, spell_book, spell_share};
+use crate::asserts::{equal_texts, spell};
+use crate::mail::calls::{equal_pieces, fetch, shown};
 use crate::names::All;
 use futures::task::Poll;
 use futures::test::MockTask;
 use futures::{Stream, StreamExt};
 use resolver_base::base::Fault;
-use resolver_mailbox::mailbox::{Entry, Naming, Pages, Receiver, Sender, Share, new, recorded};
-use std::alloc::Global;
-use std::fmt::Write;
+use resolver_mailbox::mailbox::{Naming, Pages, Receiver, Sender, Share, new, recorded};
+use std::alloc::{AllocGlobal, Global};
 use std::marker::Brand;
 use std::panic::Expect;
 use std::process::Abort;
+use std::random::RandomSource;
 use std::sync::Wait;
 
 /// The first handle and the receiver of a mailbox that was made.
@@ -46,39 +46,30 @@ pub fn shares_of<'a, N: Naming, R>(
     shares
 }
 
-/// Puts a fetch of a key for one subscriber with its mark, and writes the answer.
+/// Puts a fetch of each of these keys for one subscriber with its mark, and writes the answers.
 fn put<N: Naming, R: Wait>(
     rt: &impl Abort,
     text: &mut String,
     handle: &mut Sender<u16, u16, (), All, N, R>,
-    told: (u16, u16, u64),
+    told: &[(u16, u16, u64)],
 ) {
-    let message = fetch(*text.allocator(), told.0, told.1, told.2).expect(rt, "memory");
-    let feedback = handle.enqueue(message).expect(rt, "an answer");
-    writeln!(text, "{feedback:?}").expect(rt, "memory");
-}
-
-/// Writes what a poll gives.
-fn spell_polled(rt: &impl Abort, text: &mut String, polled: &Poll<Option<Result<Told, Fault>>>) {
-    match polled {
-        Poll::Ready(Some(Ok(message))) => spell(rt, text, message),
-        Poll::Ready(Some(Err(_))) => panic!(rt; "the receiver refuses"),
-        Poll::Ready(None) => text.push_str(" end").expect(rt, "memory"),
-        Poll::Pending => text.push_str(" pending").expect(rt, "memory"),
+    for &(key, subscriber, mark) in told {
+        let message = fetch(*text.allocator(), key, subscriber, mark).expect(rt, "memory");
+        spell(rt, text, handle.enqueue(message).expect(rt, "an answer"));
     }
-    text.push('\n').expect(rt, "memory");
 }
 
-/// Polls, and writes what the poll gives.
+/// Polls so often, and writes what each poll gives.
 fn poll<N: Naming, R: Wait + Drop>(
     rt: &impl Abort,
     text: &mut String,
     task: &MockTask,
     receiver: &mut Receiver<u16, u16, (), All, N, R>,
+    count: u32,
 ) {
-    let polled = next(task, receiver);
-    spell_polled(rt, text, &polled);
-    drop(polled);
+    for _ in 0..count {
+        spell(rt, text, next(task, receiver));
+    }
 }
 
 /// Writes the share of a handle: its number, its mark, and its messages.
@@ -87,8 +78,7 @@ fn spell_whole<N: Naming>(
     text: &mut String,
     share: Option<&Share<u16, u16, (), All, N>>,
 ) {
-    let puts = spell_share(rt, text, share);
-    spell_all(rt, text, puts);
+    spell(rt, text, shown(share));
 }
 
 /// Two handles put, the receiver takes, the mailbox is closed, and the first handle puts again:
@@ -103,14 +93,11 @@ fn row<N: Naming, R: Wait + Drop>(
 ) {
     spell_whole(rt, text, first.share());
     spell_whole(rt, text, second.share());
-    put(rt, text, first, (1, 10, 7));
-    put(rt, text, first, (2, 20, 8));
-    put(rt, text, second, (2, 21, 9));
-    for _ in 0..3 {
-        poll(rt, text, task, receiver);
-    }
+    put(rt, text, first, &[(1, 10, 7), (2, 20, 8)]);
+    put(rt, text, second, &[(2, 21, 9)]);
+    poll(rt, text, task, receiver, 3);
     first.close();
-    put(rt, text, first, (3, 30, 5));
+    put(rt, text, first, &[(3, 30, 5)]);
     show(rt, text, first.share(), second.share(), receiver);
 }
 
@@ -124,8 +111,7 @@ fn spell_lent<N: Naming, R: Wait>(
     let book = receiver
         .book(*text.allocator(), shares)
         .expect(rt, "a book");
-    spell_book(rt, text, book.as_slice());
-    drop(book);
+    spell(rt, text, book);
 }
 
 /// Writes the shares of two handles, what was taken, and the book that is lent for no share, and where there are
@@ -139,8 +125,7 @@ fn show<N: Naming, R: Wait>(
 ) {
     spell_whole(rt, text, first);
     spell_whole(rt, text, second);
-    text.push_str("taken\n").expect(rt, "memory");
-    spell_all(rt, text, receiver.taken());
+    spell(rt, text, receiver.taken());
     spell_lent(rt, text, receiver, &[]);
     if let (Some(one), Some(other)) = (first, second) {
         spell_lent(rt, text, receiver, &[one]);
@@ -169,18 +154,9 @@ fn shut<N: Naming, R: Wait + Drop>(
     handle: &mut Sender<u16, u16, (), All, N, R>,
     receiver: &mut Receiver<u16, u16, (), All, N, R>,
 ) {
-    put(rt, text, handle, (1, 10, 7));
-    put(rt, text, handle, (2, 20, 8));
-    put(rt, text, handle, (3, 30, 9));
+    put(rt, text, handle, &[(1, 10, 7), (2, 20, 8), (3, 30, 9)]);
     handle.close();
-    for _ in 0..5 {
-        poll(rt, text, task, receiver);
-    }
-}
-
-/// Writes whether the task was woken since it last polled.
-fn spell_woken(rt: &impl Abort, text: &mut String, task: &MockTask) {
-    writeln!(text, "woken {}", task.is_woken()).expect(rt, "memory");
+    poll(rt, text, task, receiver, 5);
 }
 
 /// Polls in vain, a put, two polls and a close: writes the answers, and after each what wakes the task.
@@ -191,16 +167,15 @@ fn wake<N: Naming, R: Wait + Drop>(
     handle: &mut Sender<u16, u16, (), All, N, R>,
     receiver: &mut Receiver<u16, u16, (), All, N, R>,
 ) {
-    poll(rt, text, task, receiver);
-    spell_woken(rt, text, task);
-    put(rt, text, handle, (1, 10, 7));
-    spell_woken(rt, text, task);
-    poll(rt, text, task, receiver);
-    poll(rt, text, task, receiver);
-    spell_woken(rt, text, task);
+    poll(rt, text, task, receiver, 1);
+    spell(rt, text, task.is_woken());
+    put(rt, text, handle, &[(1, 10, 7)]);
+    spell(rt, text, task.is_woken());
+    poll(rt, text, task, receiver, 2);
+    spell(rt, text, task.is_woken());
     receiver.close();
-    spell_woken(rt, text, task);
-    poll(rt, text, task, receiver);
+    spell(rt, text, task.is_woken());
+    poll(rt, text, task, receiver, 1);
 }
 
 /// What is done in a mailbox.
@@ -252,66 +227,93 @@ where
 }
 
 /// The calls of the row, and what is shown behind it.
-const ROW: &str = "none\nnone\nOk\nBackoff\nBackoff\n 1 10:7\n 2 20:8 21:9\n pending\nClosed\n\
-    share 0 true\n 1 10:7\n 2 20:8\nshare 1 false\n 2 21:9\n\
-    taken\n 1 10:7\n 2 20:8 21:9\n";
+const ROW: &str = " (None, []) (None, []) Ok Backoff Backoff \
+    Ready(Some(Ok(Fetch([FetchKey { key: 1, subscribers: NonEmptyVec { items: [(10, 7)] }, metadata: () }])))) \
+    Ready(Some(Ok(Fetch([FetchKey { key: 2, subscribers: NonEmptyVec { items: [(20, 8), (21, 9)] }, metadata: () }])))) \
+    Pending Closed \
+    (Some((0, true)), [Fetch([FetchKey { key: 1, subscribers: NonEmptyVec { items: [(10, 7)] }, metadata: () }]), \
+    Fetch([FetchKey { key: 2, subscribers: NonEmptyVec { items: [(20, 8)] }, metadata: () }])]) \
+    (Some((1, false)), [Fetch([FetchKey { key: 2, subscribers: NonEmptyVec { items: [(21, 9)] }, metadata: () }])]) \
+    [Fetch([FetchKey { key: 1, subscribers: NonEmptyVec { items: [(10, 7)] }, metadata: () }]), \
+    Fetch([FetchKey { key: 2, subscribers: NonEmptyVec { items: [(20, 8), (21, 9)] }, metadata: () }])]";
 
 /// The book of the row.
-const BOOK: &str = "put 0 0 true 1 10:7\nput 0 1 false 2 20:8\nput 1 0 false 2 21:9\n\
-    take 1 10:7\ntake 2 20:8 21:9\nclose\n";
+const BOOK: &str = " [\
+    Put(Posted { handle: 0, place: 0, message: Fetch([FetchKey { key: 1, subscribers: NonEmptyVec { items: [(10, 7)] }, metadata: () }]), is_ok: true }), \
+    Put(Posted { handle: 0, place: 1, message: Fetch([FetchKey { key: 2, subscribers: NonEmptyVec { items: [(20, 8)] }, metadata: () }]), is_ok: false }), \
+    Put(Posted { handle: 1, place: 0, message: Fetch([FetchKey { key: 2, subscribers: NonEmptyVec { items: [(21, 9)] }, metadata: () }]), is_ok: false }), \
+    Take(Fetch([FetchKey { key: 1, subscribers: NonEmptyVec { items: [(10, 7)] }, metadata: () }])), \
+    Take(Fetch([FetchKey { key: 2, subscribers: NonEmptyVec { items: [(20, 8), (21, 9)] }, metadata: () }])), \
+    Close]";
 
 /// The row where nothing is recorded.
-const BARE_ROW: &str = "none\nnone\nOk\nBackoff\nBackoff\n 1 10:7\n 2 20:8 21:9\n pending\nClosed\n\
-    none\nnone\ntaken\n";
+const BARE_ROW: &str = " (None, []) (None, []) Ok Backoff Backoff \
+    Ready(Some(Ok(Fetch([FetchKey { key: 1, subscribers: NonEmptyVec { items: [(10, 7)] }, metadata: () }])))) \
+    Ready(Some(Ok(Fetch([FetchKey { key: 2, subscribers: NonEmptyVec { items: [(20, 8), (21, 9)] }, metadata: () }])))) \
+    Pending Closed \
+    (None, []) (None, []) [] []";
 
 /// What a mailbox of capacity 2 answers that is shut.
-const SHUT: &str = "Ok\nOk\nBackoff\n 1 10:7\n 2 20:8\n 3 30:9\n end\n end\n";
+const SHUT: &str = " Ok Ok Backoff \
+    Ready(Some(Ok(Fetch([FetchKey { key: 1, subscribers: NonEmptyVec { items: [(10, 7)] }, metadata: () }])))) \
+    Ready(Some(Ok(Fetch([FetchKey { key: 2, subscribers: NonEmptyVec { items: [(20, 8)] }, metadata: () }])))) \
+    Ready(Some(Ok(Fetch([FetchKey { key: 3, subscribers: NonEmptyVec { items: [(30, 9)] }, metadata: () }])))) \
+    Ready(None) Ready(None)";
 
 /// What wakes a receiver.
-const WOKEN: &str = " pending\nwoken false\nOk\nwoken true\n 1 10:7\n pending\nwoken false\n\
-    woken true\n end\n";
+const WOKEN: &str = " Pending false Ok true \
+    Ready(Some(Ok(Fetch([FetchKey { key: 1, subscribers: NonEmptyVec { items: [(10, 7)] }, metadata: () }])))) \
+    Pending false true Ready(None)";
+
+/// Ends the test where a recorded mailbox of this capacity answers something else than these pieces.
+fn recorded_answers<R>(rt: R, alloc: Global, capacity: usize, play: Play, pieces: &[&str])
+where
+    R: Abort + Wait + RandomSource + AllocGlobal + Copy + Drop,
+    requires some { 0 < capacity }
+{
+    let task = MockTask::new(&rt).expect(&rt, "a task");
+    let mut text = String::new(alloc);
+    recorded_play::<Brand, _>(rt, &mut text, Pages::new(), &task, capacity, play);
+    drop(task);
+    equal_pieces(&rt, &text, pieces);
+    drop(text);
+}
+
+/// The same of a mailbox that isn't recorded.
+fn answers<R>(rt: R, alloc: Global, capacity: usize, play: Play, wanted: &str)
+where
+    R: Abort + Wait + RandomSource + AllocGlobal + Copy + Drop,
+    requires some { 0 < capacity }
+{
+    let task = MockTask::new(&rt).expect(&rt, "a task");
+    let mut text = String::new(alloc);
+    play_in(&rt, &mut text, &task, new(rt, alloc, capacity), play);
+    drop(task);
+    equal_texts(&rt, text.as_str(), wanted);
+    drop(text);
+}
 
 #[test]
 fn mailbox_book(rt: HostRuntime) {
-    let task = MockTask::new(&rt).expect(&rt, "a task");
-    let mut text = String::new(rt.alloc());
-    recorded_play::<Brand, _>(rt, &mut text, Pages::new(), &task, 1, Play::Row);
-    drop(task);
-    equal_pieces(&rt, &text, &[ROW, BOOK, BOOK, BOOK]);
+    recorded_answers(rt, rt.alloc(), 1, Play::Row, &[ROW, BOOK, BOOK, BOOK]);
 }
 
 #[test]
 fn mailbox_book_not_recorded(rt: HostRuntime) {
-    let task = MockTask::new(&rt).expect(&rt, "a task");
-    let mut text = String::new(rt.alloc());
-    play_in(&rt, &mut text, &task, new(rt, rt.alloc(), 1), Play::Row);
-    drop(task);
-    equal_texts(&rt, text.as_str(), BARE_ROW);
+    answers(rt, rt.alloc(), 1, Play::Row, BARE_ROW);
 }
 
 #[test]
 fn what_waits_is_given_after_the_close(rt: HostRuntime) {
-    let task = MockTask::new(&rt).expect(&rt, "a task");
-    let mut text = String::new(rt.alloc());
-    recorded_play::<Brand, _>(rt, &mut text, Pages::new(), &task, 2, Play::Shut);
-    drop(task);
-    equal_texts(&rt, text.as_str(), SHUT);
+    recorded_answers(rt, rt.alloc(), 2, Play::Shut, &[SHUT]);
 }
 
 #[test]
 fn what_waits_is_given_after_the_close_not_recorded(rt: HostRuntime) {
-    let task = MockTask::new(&rt).expect(&rt, "a task");
-    let mut text = String::new(rt.alloc());
-    play_in(&rt, &mut text, &task, new(rt, rt.alloc(), 2), Play::Shut);
-    drop(task);
-    equal_texts(&rt, text.as_str(), SHUT);
+    answers(rt, rt.alloc(), 2, Play::Shut, SHUT);
 }
 
 #[test]
 fn a_put_and_a_close_wake_the_receiver(rt: HostRuntime) {
-    let task = MockTask::new(&rt).expect(&rt, "a task");
-    let mut text = String::new(rt.alloc());
-    play_in(&rt, &mut text, &task, new(rt, rt.alloc(), 1), Play::Wake);
-    drop(task);
-    equal_texts(&rt, text.as_str(), WOKEN);
+    answers(rt, rt.alloc(), 1, Play::Wake, WOKEN);
 }

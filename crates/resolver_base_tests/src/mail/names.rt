@@ -3,7 +3,7 @@
 ghost use Rattle.std.specs.Prelude.{◌≡◌, ◌<◌, true};
 ghost use Rattle.std.proofs.Common.{rules};
 
-use crate::asserts::holds;
+use crate::asserts::{copied, holds, is_written};
 use bytes::Bytes;
 use resolver_base::base::Faithful;
 use resolver_ingress::ingress::{FetchKey, Kept, Message, Test};
@@ -18,26 +18,27 @@ use std::sync::Wait;
 
 /// Whether a value is the same as its clone, and not the same as another.
 fn is_told_apart<T: Exact + Faithful + Drop>(rt: &impl Abort, one: &T, other: &T) -> bool {
-    let clone = one.clone().expect(rt, "memory");
+    let clone = copied(rt, one);
     one.is_same(&clone) && !clone.is_same(other) && !other.is_same(one)
 }
 
 #[test]
 fn names_are_cloned_and_compared_exactly(rt: HostRuntime) {
-    holds(&rt, is_told_apart(&rt, &[1u8, 2, 3], &[1, 2, 4]));
+    let rt = &rt;
+    holds(rt, is_told_apart(rt, &[1u8, 2, 3], &[1, 2, 4]));
     holds(
-        &rt,
-        is_told_apart(&rt, &(1u8, (2u16, 3u32), [4u64]), &(1, (2, 3), [5])),
+        rt,
+        is_told_apart(rt, &(1u8, (2u16, 3u32), [4u64]), &(1, (2, 3), [5])),
     );
     holds(
-        &rt,
-        is_told_apart(&rt, &Bytes::from_static(b"ab"), &Bytes::from_static(b"ac")),
+        rt,
+        is_told_apart(rt, &Bytes::from_static(b"ab"), &Bytes::from_static(b"ac")),
     );
-    holds(&rt, is_told_apart(&rt, &Kept::new(1u8), &Kept::new(2)));
+    holds(rt, is_told_apart(rt, &Kept::new(1u8), &Kept::new(2)));
 }
 
 /// A test that every subscriber passes, with a number that tells it from others.
-#[derive(Clone, Copy)]
+#[derive(Clone, Copy, Debug)]
 struct Everyone(u8);
 
 impl<K: Eq, S: Eq> Test<K, S> for Everyone {
@@ -79,40 +80,11 @@ where
     Message::Fetch(items)
 }
 
-type Call<K, S> = Entry<K, S, (), Kept<Everyone>>;
+type Book<K, S> = Vec<Entry<K, S, (), Kept<Everyone>>>;
 
 type Handle<K, S, N, R> = Sender<K, S, (), Kept<Everyone>, N, R>;
 
 type Mail<K, S, N, R> = Receiver<K, S, (), Kept<Everyone>, N, R>;
-
-/// Whether a message fetches this key for this subscriber.
-fn is_fetch<K: Exact, S: Exact + Drop>(message: &Told<K, S>, key: &K, subscriber: &S) -> bool {
-    let Message::Fetch(items) = message else {
-        return false;
-    };
-    let Some(item) = items.first() else {
-        return false;
-    };
-    item.key.is_same(key) && item.subscribers.first().0.is_same(subscriber)
-}
-
-/// Whether a message is the test 9.
-fn is_test<K, S>(message: &Told<K, S>) -> bool {
-    match message {
-        Message::Retain(kept) => kept.test().0 == 9,
-        Message::Fetch(_) => false,
-    }
-}
-
-/// Whether a book puts a fetch of this key for this subscriber, then the test 9, and no more.
-fn puts_both<K: Exact, S: Exact + Drop>(book: &[Call<K, S>], key: &K, subscriber: &S) -> bool {
-    match book {
-        [Entry::Put(one), Entry::Put(other)] => {
-            is_fetch(&one.message, key, subscriber) && is_test(&other.message)
-        }
-        _ => false,
-    }
-}
 
 /// Puts a fetch of this key for this subscriber, and the test 9.
 fn put_both<K, S, N, R>(
@@ -128,40 +100,31 @@ where
     N: Naming,
     R: Wait,
 {
-    let key = key.clone().expect(rt, "memory");
-    let subscriber = subscriber.clone().expect(rt, "memory");
-    let message = fetch(rt, alloc, key, subscriber);
+    let message = fetch(rt, alloc, copied(rt, key), copied(rt, subscriber));
     handle.enqueue(message).expect(rt, "an answer");
     let message = Message::Retain(Kept::new(Everyone(9)));
     handle.enqueue(message).expect(rt, "an answer");
 }
 
-/// Whether these are all that the book has for the handle's share.
-fn has_both<K, S, N, R>(
+/// The book for the handle's share.
+fn book_of<K, S, N, R>(
     rt: &impl Abort,
     alloc: Global,
     handle: &Handle<K, S, N, R>,
     receiver: &Mail<K, S, N, R>,
-    key: &K,
-    subscriber: &S,
-) -> bool
+) -> Book<K, S>
 where
     K: Ord + Hash + Faithful + Exact + Drop,
     S: Ord + Faithful + Exact + Drop,
     N: Naming,
     R: Wait,
 {
-    let Some(share) = handle.share() else {
-        return false;
-    };
-    let book = receiver.book(alloc, &[share]).expect(rt, "a book");
-    let has_both = puts_both(book.as_slice(), key, subscriber);
-    drop(book);
-    has_both
+    let share = handle.share().expect(rt, "a share");
+    receiver.book(alloc, &[share]).expect(rt, "a book")
 }
 
-/// Puts both in a recorded mailbox of capacity 1. Whether the book has them then.
-fn are_booked<K, S, N, R>(rt: R, alloc: Global, pages: Pages, key: &K, subscriber: &S) -> bool
+/// The book of a recorded mailbox of capacity 1 that both are put in.
+fn booked<K, S, N, R>(rt: R, alloc: Global, pages: Pages, key: &K, subscriber: &S) -> Book<K, S>
 where
     K: Ord + Hash + Faithful + Exact + Drop,
     S: Ord + Faithful + Exact + Drop,
@@ -174,26 +137,34 @@ where
     let made = recorded::<K, S, (), Kept<Everyone>, N, R>(rt, alloc, pages, 1);
     let (mut handle, receiver) = made.expect(&rt, "a mailbox");
     put_both(&rt, alloc, &mut handle, key, subscriber);
-    let are_booked = has_both(&rt, alloc, &handle, &receiver, key, subscriber);
+    let book = book_of(&rt, alloc, &handle, &receiver);
     drop(handle);
     drop(receiver);
-    are_booked
+    book
 }
 
 #[test]
 fn byte_arrays_and_bytes_are_booked(rt: HostRuntime) {
+    const BOOK: &str = "[Put(Posted { handle: 0, place: 0, message: \
+        Fetch([FetchKey { key: [1, 2, 3], subscribers: NonEmptyVec { items: [(b\"ab\", 7)] }, metadata: () }]), \
+        is_ok: true }), \
+        Put(Posted { handle: 0, place: 1, message: Retain(Kept { test: Everyone(9) }), is_ok: false })]";
     let key = [1u8, 2, 3];
     let bytes = Bytes::from_static(b"ab");
-    let booked = are_booked::<_, _, Brand, _>(rt, rt.alloc(), Pages::new(), &key, &bytes);
+    let book = booked::<_, _, Brand, _>(rt, rt.alloc(), Pages::new(), &key, &bytes);
     drop(bytes);
-    holds(&rt, booked);
+    is_written(&rt, rt.alloc(), book, BOOK);
 }
 
 #[test]
 fn tuples_are_booked(rt: HostRuntime) {
+    const BOOK: &str = "[Put(Posted { handle: 0, place: 0, message: \
+        Fetch([FetchKey { key: (1, b\"cd\"), subscribers: NonEmptyVec { items: [((1, 2, [3, 4]), 7)] }, metadata: () }]), \
+        is_ok: true }), \
+        Put(Posted { handle: 0, place: 1, message: Retain(Kept { test: Everyone(9) }), is_ok: false })]";
     let pair = (1u8, Bytes::from_static(b"cd"));
     let triple = (1u8, 2u16, [3u32, 4]);
-    let booked = are_booked::<_, _, Brand, _>(rt, rt.alloc(), Pages::new(), &pair, &triple);
+    let book = booked::<_, _, Brand, _>(rt, rt.alloc(), Pages::new(), &pair, &triple);
     drop(pair);
-    holds(&rt, booked);
+    is_written(&rt, rt.alloc(), book, BOOK);
 }

@@ -2,7 +2,7 @@
 
 ghost use Rattle.std.specs.Prelude.{◌≡◌, ◌<◌, true};
 
-use crate::asserts::{equal, equal_texts, holds};
+use crate::asserts::{equal, equal_texts, holds, spell};
 use crate::mail::calls::{Told, fetch};
 use crate::mail::mailbox::{next, shares_of};
 use crate::names::All;
@@ -12,7 +12,6 @@ use resolver_base::base::{Fault, Feedback};
 use resolver_ingress::ingress::Message;
 use resolver_mailbox::mailbox::{Entry, Naming, Pages, Receiver, Sender, recorded};
 use std::alloc::{AllocGlobal, Global};
-use std::fmt::Write;
 use std::marker::Brand;
 use std::panic::Expect;
 use std::process::Abort;
@@ -171,38 +170,27 @@ fn join_all<W: Send + Drop + 'static, R: Abort + Threads>(
     (workers, all)
 }
 
-/// Writes how many fetches a message has, and of the first one the key and how many want it.
-fn spell_size(rt: &impl Abort, text: &mut String, message: &Told) {
-    match message {
-        Message::Fetch(items) => {
-            write!(text, "{}", items.len()).expect(rt, "memory");
-            if let Some(item) = items.first() {
-                write!(text, " of {} for {}", item.key, item.subscribers.len()).expect(
-                    rt, "memory",
-                );
-            }
-        }
-        Message::Retain(_) => text.push_str("retain").expect(rt, "memory"),
-    }
-    text.push('\n').expect(rt, "memory");
+/// How many fetches a message has, and of the first one the key and how many want it.
+fn size_of(message: &Told) -> Option<(usize, u16, usize)> {
+    let Message::Fetch(items) = message else {
+        return None;
+    };
+    let item = items.first()?;
+    Some((items.len(), item.key, item.subscribers.len()))
 }
 
-/// Writes what a poll gives. Whether that was a message.
+/// Writes how large the message is that a poll gives, or that there is none. Whether there was one.
 fn spell_polled(
     rt: &impl Abort,
     text: &mut String,
     polled: &Poll<Option<Result<Told, Fault>>>,
 ) -> bool {
-    match polled {
-        Poll::Ready(Some(Ok(message))) => {
-            spell_size(rt, text, message);
-            return true;
-        }
-        Poll::Ready(Some(Err(_))) => panic!(rt; "the receiver refuses"),
-        Poll::Ready(None) => text.push_str("end\n").expect(rt, "memory"),
-        Poll::Pending => text.push_str("pending\n").expect(rt, "memory"),
-    }
-    false
+    let Poll::Ready(Some(Ok(message))) = polled else {
+        spell(rt, text, polled);
+        return false;
+    };
+    spell(rt, text, size_of(message));
+    true
 }
 
 /// Polls up to the end, and writes what the receiver gives.
@@ -405,6 +393,7 @@ fn the_book_holds_what_four_threads_put(rt: HostRuntime) {
     };
     let found = run_by_itself(rt, &mut text, &jobs, how);
     equal(&rt, &numbers_of(&found), &[1000, 0, 1000, 1000, 0, 0]);
+    holds(&rt, text.as_str().ends_with(" Pending"));
 }
 
 /// Three threads put while a fourth closes, which is started after this many of them.
@@ -434,7 +423,7 @@ fn closing(rt: HostRuntime) {
         let found = run_by_itself(rt, &mut text, &jobs, how);
         let put = found.tally.ok.saturating_add(found.tally.backoff);
         equal(&rt, &numbers_of(&found), &[300, 0, put, put, 1, 0]);
-        holds(&rt, text.as_str().ends_with("end\n"));
+        holds(&rt, text.as_str().ends_with(" Ready(None)"));
     }
 }
 
@@ -458,7 +447,11 @@ fn full_desk(rt: HostRuntime) {
         closes: true,
     };
     let found = run_by_itself(rt, &mut text, &jobs, how);
-    equal_texts(&rt, text.as_str(), "1 of 7 for 1\n1 of 7 for 999\nend\n");
+    equal_texts(
+        &rt,
+        text.as_str(),
+        " Some((1, 7, 1)) Some((1, 7, 999)) Ready(None)",
+    );
     equal(&rt, &[found.tally.ok, found.tally.backoff], &[1, 999]);
     equal(&rt, &numbers_of(&found), &[1000, 0, 1000, 1000, 1, 0]);
 }

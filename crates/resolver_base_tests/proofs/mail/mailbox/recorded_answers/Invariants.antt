@@ -1,5 +1,5 @@
 use Rattle.std.proofs.Common.{true}
-use Rattle.resolver_base_tests.proofs.mail.mailbox.what_waits_is_given_after_the_close.Given as goal
+use Rattle.resolver_base_tests.proofs.mail.mailbox.recorded_answers.Given as goal
 
 abbrev pub ghosts-recorded_play-N-Names : goal.ghosts-recorded_play-N-Names
 ghosts-recorded_play-N-Names g a = record { puts = a.pages.puts.name; takes = a.pages.takes.name }
