@@ -482,6 +482,7 @@ impl<C: Steps> Twin<C> {
         self.core.list_rows(rt, self.hands.alloc)
     }
 
+    /// The moments that the core waits for.
     pub fn deadlines(&self) -> Deadlines {
         self.core.deadlines()
     }
