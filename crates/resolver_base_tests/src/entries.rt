@@ -82,10 +82,11 @@ fn delivery(rt: &impl Abort, alloc: Global, key: u16) -> Delivery<u16, u16>
 }
 
 fn deliver(rt: &impl Abort, alloc: Global, entries: &mut Tracked, key: u16, context: u64) -> u64 {
-    holds(rt, entries.contains(&key));
-    holds(rt, entries.number(&key).is_none());
+    let delivery = delivery(rt, alloc, key);
+    assert!(rt; entries.contains(&delivery.key));
+    assert!(rt; entries.number(&delivery.key).is_none());
     entries
-        .deliver(delivery(rt, alloc, key), context, 5)
+        .deliver(delivery, context, 5)
         .expect(rt, "a delivery")
 }
 
