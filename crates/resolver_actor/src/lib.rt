@@ -4,5 +4,6 @@
 //! It takes one input at a time and answers with effects. It holds no clock, no socket and no thread.
 #![tactic(auto)]
 
-pub mod laws;
 pub mod opaque;
+
+pub use resolver_source::laws;

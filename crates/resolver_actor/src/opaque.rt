@@ -3,10 +3,9 @@
 //! `Actor` is the machine: it takes inputs with their moments and answers with effects.
 
 mod actor;
-mod rows;
 
 pub use actor::Actor;
+pub use resolver_source::rows::Row;
 pub use resolver_stages::Phase;
 pub use resolver_stages::effects::Effect;
 pub use resolver_stages::inputs::{Event, Input};
-pub use rows::Row;

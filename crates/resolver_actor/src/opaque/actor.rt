@@ -1,25 +1,21 @@
 //! The actor's machine: inputs, effects, and one step after another.
 
-ghost use Rattle.std.specs.Prelude.{◌≡◌, ◌<◌, ◌^◌, ◌++◌, ◌∷◌, [], None, IfErr, IfOk, IfSome, IsSome, OnOk, map};
+ghost use Rattle.std.specs.Prelude.{◌≡◌, ◌<◌, ◌^◌, [], None, IfErr, IfOk, IfSome, map};
 ghost use Rattle.std.specs.Map.{keys_of};
-ghost use Rattle.resolver_demand.specs.Entries.{is_accepted, number_of, response_of, state_of};
-ghost use Rattle.resolver_actor.specs.OpaqueActor.{AreCached};
-ghost use Rattle.resolver_actor.specs.OpaqueFound.{IsRefusal, flagged, handed_again};
-ghost use Rattle.resolver_stages.specs.OpaqueStages.{IsAsked};
 ghost use Rattle.resolver_stages.specs.declared.effects.Effect.TheVariants.{Deliver};
 ghost use Rattle.resolver_machine.specs.Steps.{stops};
-ghost use Rattle.resolver_machine.specs.Verdicts.{ruling};
 
-use super::rows::{Row, call_off_all, call_off_each, forget_each, listed};
 use resolver_base::base::{Fault, Numbers};
 use resolver_demand::subscribers::Tracker;
 use resolver_ingress::ingress::FetchKey;
-use resolver_machine::ruling::{Ruling, rule_on};
+use resolver_machine::ruling::Ruling;
 use resolver_root::{Delivery, NonEmptyVec, Outcome, Predicate};
+use resolver_source::handing::{copies, hand_out_again, ruling_of};
+use resolver_source::rows::{Row, call_off_all, call_off_each, forget_each, listed};
 use resolver_stages::Stages;
 use resolver_stages::effects::Effect;
 use resolver_stages::inputs::{Event, Input};
-use std::alloc::{AllocError, Global};
+use std::alloc::Global;
 use std::marker::{Model, PhantomData};
 
 #[derive(Clone, Copy)]
@@ -67,7 +63,7 @@ pub struct Actor<K: Ord, V, S: Ord, Q> {
 
 impl<K: Ord, V, S: Ord, Q> Model for Actor<K, V, S, Q> {
     ghost use Rattle.std.specs.Prelude.{◌<◌, ◌^◌};
-    ghost use Rattle.resolver_actor.specs.Opaque.{Machine};
+    ghost use Rattle.resolver_source.specs.Opaque.{Machine};
 
     ghost Value = { Machine K V S };
 
@@ -100,12 +96,12 @@ impl<K: Ord + Clone, V: Clone, S: Ord + Clone, Q: Predicate<K, S> + Drop> Actor<
     ghost use Rattle.std.specs.BTreeMap.{is_at};
     ghost use Rattle.resolver_root.specs.Names.{names};
     ghost use Rattle.resolver_root.specs.Subscribers.{attached_all};
-    ghost use Rattle.resolver_actor.specs.Opaque.{opening, start_new, fetch_one, fetch, hand_out, fetched, verdict, does, row_of, next_retry, end, retain, start_again, start_all, waiting_by_due};
-    ghost use Rattle.resolver_actor.specs.OpaqueSteps.{Goes, Takes, Runs, answer_of, takes_no_memory};
-    ghost use Rattle.resolver_actor.specs.OpaqueInputs.{item_of, event_of, input_of};
-    ghost use Rattle.resolver_actor.specs.OpaqueFound.{IsAskedFor, IsIdle};
-    ghost use Rattle.resolver_actor.specs.OpaqueListed.{listed};
-    ghost use Rattle.resolver_actor.specs.OpaqueLaws.{KeepsDemand};
+    ghost use Rattle.resolver_source.specs.Opaque.{opening, start_new, fetch_one, fetch, hand_out, fetched, verdict, does, row_of, next_retry, end, retain, start_again, start_all, waiting_by_due};
+    ghost use Rattle.resolver_source.specs.OpaqueSteps.{Goes, Takes, Runs, answer_of, takes_no_memory};
+    ghost use Rattle.resolver_source.specs.OpaqueInputs.{item_of, event_of, input_of};
+    ghost use Rattle.resolver_source.specs.OpaqueFound.{IsAskedFor, IsIdle};
+    ghost use Rattle.resolver_source.specs.OpaqueListed.{listed};
+    ghost use Rattle.resolver_source.specs.OpaqueLaws.{KeepsDemand};
 
     /// An actor without demand. A key that the source had no value for is asked for again after
     /// `delay` nanoseconds, which is below 2^94.
@@ -506,111 +502,6 @@ impl<K: Ord + Clone, V: Clone, S: Ord + Clone, Q: Predicate<K, S> + Drop> Actor<
         self.stages.clear(self.alloc);
         self.status = Status::Ended;
         Ok(())
-    }
-}
-
-/// Hands the cached response out once more, accepted or not.
-fn hand_out_again<K: Ord + Clone + Drop, V: Clone + Drop, S: Clone + Drop>(
-    stages: &mut Stages<K, S, V>,
-    delivery: Delivery<K, S>,
-    accepted: bool,
-    effects: &mut Vec<Effect<K, V, S>>,
-) -> Result<(), Fault>
-    requires keys_clone { (x y : K) → K.is_clone x y → y ≡ x }
-    requires values_clone { (x y : V) → V.is_clone x y → y ≡ x }
-    requires subscribers_clone { (x y : S) → S.is_clone x y → y ≡ x }
-    requires cached { IsSome (response_of K.cmp stages.old.entries delivery.key) }
-    requires asked { IsAsked (state_of K.cmp stages.old.entries delivery.key) }
-    requires free { number_of K.cmp stages.old.entries delivery.key ≡ None }
-    ensures ok { OnOk result (stages.new.entries
-        ≡ handed_again K.cmp delivery accepted stages.old.entries) }
-    ensures attempts { stages.new.next_attempt ≡ stages.old.next_attempt }
-    ensures told { OnOk result (IfSome (response_of K.cmp stages.old.entries delivery.key) (λ r.
-        effects.new.items ≡ effects.old.items
-        ++ Deliver stages.old.entries.next r.name delivery r.value ∷ [])) }
-    ensures room { OnOk result (stages.old.entries.next < 2 ^ 64) }
-    ensures same { keys_of stages.new.entries.keys ≡ keys_of stages.old.entries.keys }
-    ensures cached { AreCached stages.old.entries.keys → AreCached stages.new.entries.keys }
-    ensures only { IfErr result (λ fault. IsRefusal stages.old.entries.next fault) }
-{
-    note_accepted(stages, &delivery.key, accepted);
-    let Some(response) = stages.entries().response(&delivery.key) else {
-        unreachable!()
-    };
-    let name = response.name;
-    let (told, value) = match copies(&delivery, &response.value) {
-        Ok(copies) => copies,
-        Err(failed) => {
-            drop(delivery);
-            return Err(Fault::from(failed));
-        }
-    };
-    let number = match stages.redeliver(delivery) {
-        Ok(number) => number,
-        Err(fault) => {
-            drop((told, value));
-            return Err(fault);
-        }
-    };
-    effects.push(Effect::Deliver {
-        number,
-        response: name,
-        delivery: told,
-        value,
-    })?;
-    Ok(())
-}
-
-/// A copy of a delivery, and one of its value.
-fn copies<K: Clone + Drop, V: Clone + Drop, S: Clone + Drop>(
-    delivery: &Delivery<K, S>,
-    value: &V,
-) -> Result<(Delivery<K, S>, V), AllocError>
-    requires keys_clone { (x y : K) → K.is_clone x y → y ≡ x }
-    requires values_clone { (x y : V) → V.is_clone x y → y ≡ x }
-    requires subscribers_clone { (x y : S) → S.is_clone x y → y ≡ x }
-    ensures { IfOk result (λ copies. copies ≡ (delivery.now, value.now)) }
-{
-    let delivery = delivery.clone()?;
-    let Ok(value) = value.clone() else {
-        drop(delivery);
-        return Err(AllocError);
-    };
-    Ok((delivery, value))
-}
-
-/// The ruling on a verdict for a key. Whether its response was accepted is looked up only where the
-/// ruling depends on it.
-fn ruling_of<K: Ord + Drop, V: Drop, S: Drop>(
-    stages: &Stages<K, S, V>,
-    outcome: Option<Outcome>,
-    key: &K,
-) -> Ruling
-    ensures { result ≡ ruling (is_accepted K.cmp stages.now.entries key.now) outcome }
-{
-    match outcome {
-        None | Some(Outcome::Invalid) => {
-            rule_on(outcome, stages.entries().response_accepted(key))
-        }
-        Some(Outcome::Resolved(_)) | Some(Outcome::Unresolved) | Some(Outcome::Ignored) => {
-            rule_on(outcome, false)
-        }
-    }
-}
-
-/// Notes that a key's cached response is right, if it is.
-fn note_accepted<K: Ord + Drop, V: Drop, S: Drop>(
-    stages: &mut Stages<K, S, V>,
-    key: &K,
-    accepted: bool,
-)
-    requires cached { IsSome (response_of K.cmp stages.old.entries key.now) }
-    ensures { stages.new ≡ record stages.old {
-      entries = flagged K.cmp accepted key.now stages.old.entries;
-    } }
-{
-    if accepted {
-        stages.accept_response(key);
     }
 }
 

@@ -1,7 +1,7 @@
 use Rattle.resolver_root.specs.Names.{names}
 use Rattle.resolver_actor.specs.OpaqueActor.{status_of}
-use Rattle.resolver_actor.proofs.Agrees.{agree-none}
-use Rattle.resolver_actor.proofs.Going.{end_goes}
+use Rattle.resolver_source.proofs.Agrees.{agree-none}
+use Rattle.resolver_source.proofs.Going.{end_goes}
 use Rattle.resolver_actor.proofs.opaque.actor.Actor.end.Goals as goal
 
 pub invariant_of-self : goal.invariant_of-self

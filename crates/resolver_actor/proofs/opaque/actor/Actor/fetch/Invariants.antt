@@ -1,9 +1,9 @@
 use Rattle.std.proofs.Common.{◌≡◌, map}
 use Rattle.std.specs.Vec.Iter.{into_iter_items}
 use Rattle.resolver_root.specs.Names.{names}
-use Rattle.resolver_actor.specs.Opaque.{fetch}
-use Rattle.resolver_actor.specs.OpaqueInputs.{item_of}
-use Rattle.resolver_actor.specs.OpaqueSteps.{onto}
+use Rattle.resolver_source.specs.Opaque.{fetch}
+use Rattle.resolver_source.specs.OpaqueInputs.{item_of}
+use Rattle.resolver_source.specs.OpaqueSteps.{onto}
 use Rattle.resolver_actor.proofs.opaque.actor.Actor.fetch.Given as goal
 
 -- what is left of the items, behind the effects so far, does what all of them do behind the first effects

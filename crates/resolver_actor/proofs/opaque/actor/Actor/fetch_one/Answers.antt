@@ -1,10 +1,11 @@
 use Rattle.std.proofs.Common.{sym, subst}
 use Rattle.resolver_root.specs.Names.{names}
-use Rattle.resolver_actor.specs.OpaqueActor.{machine_with, status_of}
-use Rattle.resolver_actor.specs.Opaque.{fetch_one}
-use Rattle.resolver_actor.specs.OpaqueInputs.{item_of}
-use Rattle.resolver_actor.specs.OpaqueSteps.{Goes}
-use Rattle.resolver_actor.proofs.Going.{fetch_present_goes, agree-attached, absent-row}
+use Rattle.resolver_source.specs.OpaqueTables.{machine_with}
+use Rattle.resolver_actor.specs.OpaqueActor.{status_of}
+use Rattle.resolver_source.specs.Opaque.{fetch_one}
+use Rattle.resolver_source.specs.OpaqueInputs.{item_of}
+use Rattle.resolver_source.specs.OpaqueSteps.{Goes}
+use Rattle.resolver_source.proofs.Going.{fetch_present_goes, agree-attached, absent-row}
 use Rattle.resolver_actor.proofs.opaque.actor.Actor.fetch_one.Goals as goal
 
 pub invariant_of-self-in-Ok-None : goal.invariant_of-self-in-Ok-None

@@ -1,9 +1,9 @@
 use Rattle.std.proofs.Common.{◌∙◌, ap, refl, Some}
 use Rattle.std.proofs.lemmas.Cmp.{eq_by_cmp_equiv}
 use Rattle.resolver_root.specs.Names.{names}
-use Rattle.resolver_actor.specs.Opaque.{quiet, retry}
+use Rattle.resolver_source.specs.Opaque.{quiet, retry}
 use Rattle.resolver_actor.specs.OpaqueActor.{machine_of, status_of}
-use Rattle.resolver_actor.proofs.Going.{quiet_goes, nothing-found, found-key, retry_goes, agree-waited, asked-row, asked-stage, idle-free_number, idle-row, row-found, waited_goes}
+use Rattle.resolver_source.proofs.Going.{quiet_goes, nothing-found, found-key, retry_goes, agree-waited, asked-row, asked-stage, idle-free_number, idle-row, row-found, waited_goes}
 use Rattle.resolver_actor.proofs.opaque.actor.Actor.fetched.Goals as goal
 
 pub returns-in_default : goal.returns-in_default

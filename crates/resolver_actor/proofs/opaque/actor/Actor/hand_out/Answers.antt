@@ -5,7 +5,7 @@ use Rattle.resolver_stages.specs.declared.effects.Effect.{Effect}
 use Rattle.resolver_stages.specs.declared.effects.Effect.TheVariants.{Deliver}
 use Rattle.resolver_root.specs.Names.{names}
 use Rattle.resolver_actor.specs.OpaqueActor.{status_of}
-use Rattle.resolver_actor.proofs.Going.{hand_out_goes, agree-delivered, asked-idle, asked-stage, at-idle, idle-asked, idle-tracked, idle-free_number, asked-none}
+use Rattle.resolver_source.proofs.Going.{hand_out_goes, agree-delivered, asked-idle, asked-stage, at-idle, idle-asked, idle-tracked, idle-free_number, asked-none}
 use Rattle.resolver_actor.proofs.opaque.actor.Actor.hand_out.Goals as goal
 
 pub unreachable-requires : goal.unreachable-requires

@@ -1,5 +1,5 @@
 use Rattle.std.proofs.Common.{sym}
-use Rattle.resolver_actor.proofs.ByDue.{next_retry-first}
+use Rattle.resolver_source.proofs.ByDue.{next_retry-first}
 use Rattle.resolver_actor.proofs.opaque.actor.Actor.next_retry.Goals as goal
 
 pub returns-clause-value : goal.returns-clause-value

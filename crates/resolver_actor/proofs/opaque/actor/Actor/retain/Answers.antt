@@ -1,11 +1,12 @@
 use Rattle.std.proofs.Common.{Some, ap, ◌++◌, ◌≡◌}
 use Rattle.std.proofs.lemmas.Cmp.{eq_by_cmp_equiv}
 use Rattle.resolver_root.specs.Names.{names}
-use Rattle.resolver_actor.specs.Opaque.{retain}
-use Rattle.resolver_actor.specs.OpaqueActor.{machine_of, machine_with, status_of}
-use Rattle.resolver_actor.specs.OpaqueFound.{each_called_off}
-use Rattle.resolver_actor.proofs.Agrees.{agree-kept}
-use Rattle.resolver_actor.proofs.Going.{retain_goes, goes-told}
+use Rattle.resolver_source.specs.Opaque.{retain}
+use Rattle.resolver_source.specs.OpaqueTables.{machine_with}
+use Rattle.resolver_actor.specs.OpaqueActor.{machine_of, status_of}
+use Rattle.resolver_source.specs.OpaqueFound.{each_called_off}
+use Rattle.resolver_source.proofs.Agrees.{agree-kept}
+use Rattle.resolver_source.proofs.Going.{retain_goes, goes-told}
 use Rattle.resolver_actor.proofs.opaque.actor.Actor.retain.Goals as goal
 
 pub invariant_of-self-2 : goal.invariant_of-self-2

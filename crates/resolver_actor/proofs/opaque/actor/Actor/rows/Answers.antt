@@ -1,4 +1,4 @@
-use Rattle.resolver_actor.proofs.Agrees.{listed-distinct, listed-ordered}
+use Rattle.resolver_source.proofs.Agrees.{listed-distinct, listed-ordered}
 use Rattle.resolver_actor.proofs.opaque.actor.Actor.rows.Goals as goal
 
 pub returns-clause-once : goal.returns-clause-once

@@ -2,14 +2,14 @@ use Rattle.std.proofs.Common.{◌≡◌, refl, sym, ◌∙◌, subst, rules, ari
 use Rattle.std.proofs.lemmas.List.{nil_from_length}
 use Rattle.std.specs.Vec.Iter.{into_iter_items}
 use Rattle.resolver_root.specs.Names.{names}
-use Rattle.resolver_actor.specs.OpaqueInputs.{input_of}
-use Rattle.resolver_actor.specs.OpaqueSteps.{Runs, answer_of, step_on, MayWant}
-use Rattle.resolver_actor.specs.Opaque.{Failed}
+use Rattle.resolver_source.specs.OpaqueInputs.{input_of}
+use Rattle.resolver_source.specs.OpaqueSteps.{Runs, answer_of, step_on, MayWant}
+use Rattle.resolver_source.specs.Opaque.{Failed}
 use Rattle.std.proofs.lemmas.Cmp.{eq_by_cmp_equiv}
-use Rattle.resolver_actor.proofs.OpaqueKept.{inputs-lawful, demand_is_kept}
+use Rattle.resolver_source.proofs.OpaqueKept.{inputs-lawful, demand_is_kept}
 use Rattle.resolver_machine.specs.Lawful.{AnswersAlike}
 use Rattle.resolver_machine.proofs.Runs.{Runs-step, Runs-last}
-use Rattle.resolver_actor.proofs.Running.{stops-answer_of, map-more, map-last}
+use Rattle.resolver_source.proofs.Running.{stops-answer_of, map-more, map-last}
 use Rattle.resolver_actor.proofs.opaque.actor.Actor.run.Goals as goal
 
 -- the last answer, behind those so far

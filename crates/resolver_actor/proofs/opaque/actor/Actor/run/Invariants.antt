@@ -2,8 +2,8 @@ use Rattle.std.proofs.Common.{◌+◌, ◌≤◌, ◌++◌, length, map, vec_len
 use Rattle.std.specs.Vec.{vec_capacity}
 use Rattle.std.specs.Vec.Iter.{into_iter_items}
 use Rattle.resolver_root.specs.Names.{names}
-use Rattle.resolver_actor.specs.OpaqueSteps.{Runs, answer_of}
-use Rattle.resolver_actor.specs.OpaqueInputs.{input_of}
+use Rattle.resolver_source.specs.OpaqueSteps.{Runs, answer_of}
+use Rattle.resolver_source.specs.OpaqueInputs.{input_of}
 use Rattle.resolver_actor.proofs.opaque.actor.Actor.run.Given as goal
 
 -- What answers the inputs that are left, behind the answers so far, answers them all. There is room for the answers.

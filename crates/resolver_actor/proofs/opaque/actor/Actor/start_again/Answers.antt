@@ -1,9 +1,9 @@
 use Rattle.std.proofs.Common.{◌≡◌, ◌∙◌, ◌+◌, Some, ap, find, rules, subst}
 use Rattle.std.specs.Ordering.{is_eq}
-use Rattle.resolver_actor.proofs.Joined.{keys-rows}
+use Rattle.resolver_source.proofs.Joined.{keys-rows}
 use Rattle.resolver_root.specs.Names.{names}
 use Rattle.resolver_actor.specs.OpaqueActor.{status_of}
-use Rattle.resolver_actor.proofs.Going.{start_again_goes, agree-staged, at-idle}
+use Rattle.resolver_source.proofs.Going.{start_again_goes, agree-staged, at-idle}
 use Rattle.resolver_actor.proofs.opaque.actor.Actor.start_again.Goals as goal
 
 pub invariant_of-self-in_err-push : goal.invariant_of-self-in_err-push

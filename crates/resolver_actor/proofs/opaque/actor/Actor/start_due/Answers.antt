@@ -1,10 +1,10 @@
 use Rattle.std.proofs.Common.{◌≡◌, ◌∙◌, ap, sym, subst, rules, Err, IfSome}
 use Rattle.std.proofs.lemmas.Cmp.{eq_by_cmp_equiv}
 use Rattle.resolver_root.specs.Names.{names}
-use Rattle.resolver_actor.specs.Opaque.{row_of, start_again, start_all, waiting_by_due}
-use Rattle.resolver_actor.specs.OpaqueSteps.{onto, Goes}
-use Rattle.resolver_actor.proofs.Going.{quiet_goes}
-use Rattle.resolver_actor.proofs.ByDue.{found-first, found-none, one-started, refused-goes, shorter, some-left}
+use Rattle.resolver_source.specs.Opaque.{row_of, start_again, start_all, waiting_by_due}
+use Rattle.resolver_source.specs.OpaqueSteps.{onto, Goes}
+use Rattle.resolver_source.proofs.Going.{quiet_goes}
+use Rattle.resolver_source.proofs.ByDue.{found-first, found-none, one-started, refused-goes, shorter, some-left}
 use Rattle.resolver_actor.proofs.opaque.actor.Actor.start_due.Goals as goal
 
 pub start_again-requires-clause-own : goal.start_again-requires-clause-own

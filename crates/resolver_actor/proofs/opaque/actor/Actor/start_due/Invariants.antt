@@ -1,7 +1,7 @@
 use Rattle.std.proofs.Common.{◌≡◌, ◌==◌, false, length}
 use Rattle.resolver_root.specs.Names.{names}
-use Rattle.resolver_actor.specs.Opaque.{start_all, waiting_by_due}
-use Rattle.resolver_actor.specs.OpaqueSteps.{onto}
+use Rattle.resolver_source.specs.Opaque.{start_all, waiting_by_due}
+use Rattle.resolver_source.specs.OpaqueSteps.{onto}
 use Rattle.resolver_actor.proofs.opaque.actor.Actor.start_due.Given as goal
 
 -- what is due now, behind the effects so far, does what all that was due does behind the first effects

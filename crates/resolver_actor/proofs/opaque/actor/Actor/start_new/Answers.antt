@@ -1,9 +1,9 @@
 use Rattle.std.proofs.Common.{None, ◌≡◌, ap, sym, refl, rules, subst}
 use Rattle.std.proofs.lemmas.Cmp.{eq_by_cmp_equiv}
 use Rattle.resolver_root.specs.Names.{names}
-use Rattle.resolver_actor.specs.Opaque.{row_of}
+use Rattle.resolver_source.specs.Opaque.{row_of}
 use Rattle.resolver_actor.specs.OpaqueActor.{status_of}
-use Rattle.resolver_actor.proofs.Going.{absent-first, absent-second, start_new_goes, agree-started, agree-undone}
+use Rattle.resolver_source.proofs.Going.{absent-first, absent-second, start_new_goes, agree-started, agree-undone}
 use Rattle.resolver_actor.proofs.opaque.actor.Actor.start_new.Goals as goal
 
 pub ask-requires-clause-absent : goal.ask-requires-clause-absent

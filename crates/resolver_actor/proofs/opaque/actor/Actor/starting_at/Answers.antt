@@ -1,4 +1,4 @@
-use Rattle.resolver_actor.proofs.Agrees.{agree-none}
+use Rattle.resolver_source.proofs.Agrees.{agree-none}
 use Rattle.resolver_actor.proofs.opaque.actor.Actor.starting_at.Goals as goal
 
 pub invariant_of-result : goal.invariant_of-result

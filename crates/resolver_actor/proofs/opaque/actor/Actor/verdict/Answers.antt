@@ -2,8 +2,8 @@ use Rattle.std.proofs.Common.{◌∙◌, sym, ap, refl}
 use Rattle.std.proofs.lemmas.Cmp.{eq_by_cmp_equiv}
 use Rattle.resolver_root.specs.Names.{names}
 use Rattle.resolver_actor.specs.OpaqueActor.{status_of}
-use Rattle.resolver_actor.proofs.Closing.{live, aborted_goes, canceled_goes, was-open, response-left, number-left, agree-left, retire_goes, retry_goes, served_goes, agree-gone, agree-served, agree-serve, serve_result}
-use Rattle.resolver_actor.proofs.Going.{agree-waited, waited_goes}
+use Rattle.resolver_source.proofs.Closing.{live, aborted_goes, canceled_goes, was-open, response-left, number-left, agree-left, retire_goes, retry_goes, served_goes, agree-gone, agree-served, agree-serve, serve_result}
+use Rattle.resolver_source.proofs.Going.{agree-waited, waited_goes}
 use Rattle.resolver_actor.proofs.opaque.actor.Actor.verdict.Goals as goal
 
 pub returns-in_default-clause-goes : goal.returns-in_default-clause-goes

@@ -1,0 +1,12 @@
+pub use Rattle.resolver_root.specs.Names
+pub use Rattle.resolver_root.specs.Demand
+pub use Rattle.resolver_root.specs.Subscribers
+pub mod Opaque
+pub mod OpaqueTables
+pub mod OpaqueSteps
+pub mod OpaqueInputs
+pub mod OpaqueRows
+pub mod OpaqueStanding
+pub mod OpaqueLaws
+pub mod OpaqueListed
+pub mod OpaqueFound
