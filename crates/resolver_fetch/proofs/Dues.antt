@@ -1,5 +1,5 @@
 -- Waiting keys by their dues: which are due, and when the next one is.
-use Rattle.std.proofs.Common.{◌≡◌, refl, ap, ◌∙◌, ℕ, ◌<◌, Bool, true, false, List, [], ◌∷◌, ◌++◌, length, map, filter, Option, None, Some, option_map, if◌then◌else◌, arith}
+use Rattle.std.proofs.Common.{◌≡◌, refl, ap, ℕ, ◌<◌, Bool, true, false, List, [], ◌∷◌, length, map, filter, None, Some, option_map, if◌then◌else◌, arith}
 use Rattle.std.proofs.lemmas.Bool.{lt-ltb}
 use Rattle.std.proofs.lemmas.Bool.Decides.{nat_tests}
 use Rattle.std.proofs.lemmas.Grind.{common_steps}
@@ -15,18 +15,14 @@ use Rattle.resolver_trying.specs.declared.place.Place.{Place}
 use Rattle.resolver_trying.specs.declared.trail.Try.{Try}
 use Rattle.resolver_fetch.specs.Fetcher.{Fetcher, waiting_of}
 use Rattle.resolver_trying.specs.Orders.{Orders}
-use Rattle.resolver_fetch.specs.Pending.{later_due}
-use Rattle.resolver_fetch.specs.Queues.{placed}
+use Rattle.resolver_waiting.specs.Pending.{later_due}
+use Rattle.resolver_waiting.specs.Queues.{placed}
 use Rattle.resolver_trying.specs.Scan.{least, next_due}
 use Rattle.resolver_fetch.specs.Seeking.{first_until, trying_key}
 
 -- what is behind a due past a moment is past it
 later-past : (x y m : ℕ) (more : Ordering) → nat_le x m ≡ false → ordering_then (nat_cmp x y) more ≡ Less → nat_le y m ≡ false
 later-past x y m more past behind = grind (arith, nat_tests, common_steps, past, behind)
-
--- and is due no earlier
-pub later-least : (x y : ℕ) (more : Ordering) → ordering_then (nat_cmp x y) more ≡ Less → least (Some x) (Some y) ≡ Some x
-later-least x y more behind = ap Some (grind (arith, nat_tests, common_steps, behind))
 
 module _ {K : Type 0} (by_key : K → K → Ordering) where
   -- none of those behind one that is past a moment is due then
@@ -66,19 +62,6 @@ from-here d = grind (arith, nat_tests, common_steps)
 pub from-first : {K : Type 0} (queue : List (ℕ × K)) → from nat_cmp 0 queue ≡ queue
 from-first [] = refl
 from-first (p ∷ queue) = rw (from-here p.0) (ap (λ (qs : List (ℕ × _)). p ∷ qs) (from-first queue))
-
-pub least-apart : (x y z : Option ℕ) → least x (least y z) ≡ least (least x y) z
-least-apart None y z = refl
-least-apart (Some a) None z = refl
-least-apart (Some a) (Some b) None = refl
-least-apart (Some a) (Some b) (Some c) = ap Some (grind (arith, nat_tests))
-
--- the next due of two lists is the lesser
-pub later-append : {K : Type 0} (m : ℕ) (ps qs : List (Place × K)) → later_due m (ps ++ qs) ≡ least (later_due m ps) (later_due m qs)
-later-append m [] qs = refl
-later-append m (p ∷ ps) qs =
-    ap (least (if nat_le p.0.due m then None else Some p.0.due)) (later-append m ps qs)
-    ∙ least-apart (if nat_le p.0.due m then None else Some p.0.due) (later_due m ps) (later_due m qs)
 
 -- the next due of a scan is that of the waiting keys
 pub next-due : {K P : Type 0} (o : Orders K P) (f : Fetcher K P) (m : ℕ) (ps : List (Place × K)) → next_due m (map (waiting_of o f) ps) ≡ later_due m ps

@@ -10,11 +10,8 @@ pub mod DrawCounts
 pub mod Askable
 pub mod Among
 pub mod Passing
-pub mod Queues
 pub mod Dues
-pub mod Pending
 pub mod Seeking
-pub mod Entries
 pub mod Stepping
 pub mod Nexts
 pub mod Continues

@@ -7,7 +7,7 @@ use Rattle.resolver_trying.specs.declared.trying.Next.TheVariants.{Try as Tries,
 use Rattle.resolver_request.specs.Times.{never}
 use Rattle.resolver_fetch.specs.Fetcher.{Fetcher, snapshot, turned}
 use Rattle.resolver_trying.specs.Orders.{Orders}
-use Rattle.resolver_fetch.specs.Pending.{waits_until}
+use Rattle.resolver_waiting.specs.Pending.{waits_until}
 use Rattle.resolver_trying.specs.Scan.{goes_on_with, least, next}
 use Rattle.resolver_fetch.specs.Seeking.{next_for, next_of, scan_at, tried_again, tried_next}
 use Rattle.resolver_fetch.specs.Stepping.{after_all}

@@ -13,13 +13,13 @@ use Rattle.resolver_trying.specs.declared.place.Place.{Place}
 use Rattle.resolver_trying.specs.declared.trail.Try.{Try}
 use Rattle.resolver_fetch.specs.Fetcher.{Fetcher, snapshot, waiting_of}
 use Rattle.resolver_trying.specs.Orders.{Orders}
-use Rattle.resolver_fetch.specs.Queues.{IsQueued, fresh_queue, placed, retry_queue}
+use Rattle.resolver_waiting.specs.Queues.{IsQueued, fresh_queue, placed, retry_queue}
 use Rattle.resolver_trying.specs.Scan.{can_be_tried, left}
 use Rattle.resolver_request.specs.Scores.{weight_of}
 use Rattle.resolver_fetch.specs.Seeking.{first_until, scan_at, tried_behind, tried_next, trying_key}
 use Rattle.resolver_trying.specs.Trying.{Trying, trying_for, weighed}
 use Rattle.resolver_trying.specs.Waiting.{fresh_at, place_order, retry_at}
-use Rattle.resolver_fetch.proofs.Queues.{after-fresh, after-retry}
+use Rattle.resolver_waiting.proofs.Joined.{after-fresh, after-retry}
 
 module _ {P : Type 0} where
   -- a test of names keeps the same peers before and after they are weighed

@@ -1,5 +1,5 @@
 -- What the peers weigh that may be asked.
-use Rattle.std.proofs.Common.{◌≡◌, refl, ap, sym, ◌∙◌, ℕ, zero, suc, ◌≤◌, drop, length, get_or, ◌+◌, ◌*◌, ◌-◌, ◌/◌, ◌^◌, ◌<◌, Bool, true, false, not, ◌&&◌, ◌||◌, List, [], ◌∷◌, filter, map, Option, None, Some, option_map, cond, arith}
+use Rattle.std.proofs.Common.{◌≡◌, refl, ap, sym, ◌∙◌, ℕ, zero, suc, ◌≤◌, drop, length, get_or, ◌+◌, ◌*◌, ◌-◌, ◌/◌, ◌^◌, ◌<◌, Bool, true, false, not, List, [], ◌∷◌, filter, Option, None, Some, option_map, arith}
 use Rattle.std.specs.BTreeMap.{is_at}
 use Rattle.std.specs.Cmp.{IsTotalOrder}
 use Rattle.std.specs.List.{AllByRecursion}
@@ -29,7 +29,7 @@ use Rattle.resolver_trying.specs.Snapshot as snapshots
 use Rattle.resolver_trying.specs.Tried.{peers_tried}
 use Rattle.resolver_trying.specs.Trying.{Trying, apart_from, weighed, weights_of}
 use Rattle.resolver_trying.specs.declared.place.Place.{Place}
-use Rattle.resolver_fetch.proofs.Entries.{set_value-none}
+use Rattle.resolver_trying.proofs.Entries.{set_value-none}
 use Rattle.resolver_trying.proofs.Pools.{some-weighs}
 use Rattle.resolver_fetch.proofs.Seeking.{seeks-in, weighed-filter}
 use Rattle.resolver_trying.proofs.Tried.{equal-is, tried-one-of}

@@ -9,7 +9,7 @@ use Rattle.resolver_trying.specs.declared.scan.Answer.TheVariants.{Drawn, Checke
 use Rattle.resolver_trying.specs.declared.scan.Ask.{Ask}
 use Rattle.resolver_trying.specs.declared.scan.Ask.TheVariants as asks
 use Rattle.resolver_trying.specs.Orders.{Orders, orders}
-use Rattle.resolver_fetch.specs.Queues.{fresh_queue, retry_queue}
+use Rattle.resolver_waiting.specs.Queues.{fresh_queue, retry_queue}
 use Rattle.resolver_asked.specs.Ids.{next_id}
 use Rattle.resolver_fetch.specs.Fetcher.{Fetcher, opening, reconcile, set_blocked, add_ready, add_retry, add_targets, scan_begin, scan_answer, question, pending_deadline, active_deadline, pop_response, pop_missing, weight}
 

@@ -1,5 +1,3 @@
-pub mod Queues
-pub mod Pending
 pub mod Fetcher
 pub mod Seeking
 pub mod Stepping

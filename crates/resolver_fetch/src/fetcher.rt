@@ -7,30 +7,22 @@
 mod fetching;
 pub mod laws;
 mod peers;
-mod pending;
-mod queues;
 mod scanning;
 
-ghost use Rattle.std.specs.Prelude.{◌≡◌, Bool, false, ◌<◌, ◌^◌, [], length, is_some, option_map, unwrap_or, IfErr, IfSome, OnErr, OnOk};
+ghost use Rattle.std.specs.Prelude.{◌≡◌, Bool, None, false, ◌<◌, ◌^◌, length, is_some, option_map, IfErr, IfSome, OnErr, OnOk};
 ghost use Rattle.std.specs.Option.{option_copied};
-ghost use Rattle.std.specs.BTreeMap.{insert_entry, is_at};
 ghost use Rattle.std.specs.Fn.{FnReturnsAt};
-ghost use Rattle.std.specs.Map.{lookup};
 ghost use Rattle.resolver_base.specs.Answering.{AnswersBy};
 ghost use Rattle.resolver_priorities.specs.Priorities.{has_item};
 ghost use Rattle.resolver_base.specs.declared.base.fault.Fault.TheVariants.{OutOfMemory};
 ghost use Rattle.resolver_fetch.specs.Fetcher as calls;
 ghost use Rattle.resolver_fetch.specs.Fetcher.{EachOnce, IsTimely, opening};
 ghost use Rattle.resolver_trying.specs.Orders.{orders};
-ghost use Rattle.resolver_trying.specs.Peers.{with_targets};
-ghost use Rattle.resolver_fetch.specs.Pending.{with_key};
-ghost use Rattle.resolver_fetch.specs.Queues.{IsQueued, fresh_queue, retry_queue};
+ghost use Rattle.resolver_waiting.specs.Queues.{IsQueued, fresh_queue, retry_queue};
 ghost use Rattle.resolver_asked.specs.Requests.{is_asked, request_for};
 ghost use Rattle.resolver_request.specs.Times.{charged, elapsed_since};
-ghost use Rattle.resolver_trying.specs.Waiting.{once_more};
 
 use crate::fetcher::peers::Peers;
-use crate::fetcher::pending::Pending;
 use resolver_asked::requests::Requests;
 pub use resolver_asked::requests::{ID, Request};
 use resolver_base::base::Fault;
@@ -41,9 +33,11 @@ pub use resolver_trying::config::Config;
 use resolver_trying::cursor::Cursor;
 pub use resolver_trying::place::Place;
 pub use resolver_trying::scan::{Answer, Ask};
-use resolver_trying::targets::Targets;
+use resolver_trying::targets::{Targets, join_targets};
 pub use resolver_trying::{config, place, scan};
-use std::alloc::{AllocError, Global};
+use resolver_waiting::pending::Pending;
+use resolver_waiting::retrying::count_retry;
+use std::alloc::Global;
 use std::collections::BTreeMap;
 use std::fmt;
 use std::fmt::{Formatter, Write};
@@ -492,61 +486,6 @@ impl<K: Ord + Drop, P: Ord + Drop> Fetcher<K, P> {
         self.peers.record(&request.peer, time, 0);
         Some(request.key)
     }
-}
-
-/// Has a key wait at this place, and counts that it is tried once more.
-fn count_retry<K: Ord + Clone + Drop>(
-    retries: &mut BTreeMap<K, u32>,
-    pending: &mut Pending<K>,
-    key: K,
-    place: Place,
-) -> Result<(), Fault>
-    requires not_waiting { has_item K.cmp pending.old.keys key ≡ false }
-    requires keys_clone { (x y : K) → K.is_clone x y → y ≡ x }
-    ensures ok { OnOk result (pending.new ≡ with_key K.cmp (place, key) pending.old) }
-    ensures counted { OnOk result (retries.new.entries
-        ≡ insert_entry K.cmp retries.old.entries key
-        (once_more (unwrap_or (lookup (is_at (K.cmp key)) retries.old.entries) 0))) }
-    ensures err { OnErr result (pending.new ≡ pending.old) }
-    ensures as_before { OnErr result (retries.new.entries ≡ retries.old.entries) }
-    ensures only { IfErr result (λ fault. fault ≡ OutOfMemory) }
-{
-    if let Some(count) = retries.get_mut(&key) {
-        pending.put(key, place)?;
-        *count = count.saturating_add(1);
-        return Ok(());
-    }
-    let waits = key.clone()?;
-    let counted = key.clone()?;
-    retries.insert(counted, 1)?;
-    if let Err(fault) = pending.put(waits, place) {
-        retries.remove(&key);
-        return Err(fault);
-    }
-    Ok(())
-}
-
-/// Adds targets of a key.
-fn join_targets<K: Ord + Drop, P: Ord + Clone + Drop>(
-    alloc: Global,
-    targets: &mut BTreeMap<K, Targets<P>>,
-    key: K,
-    peers: Vec<P>,
-) -> Result<(), AllocError>
-    requires peers_clone { (x y : P) → P.is_clone x y → y ≡ x }
-    ensures ok { OnOk result (targets.new.entries
-        ≡ insert_entry K.cmp targets.old.entries key (with_targets P.cmp
-        (unwrap_or (lookup (is_at (K.cmp key)) targets.old.entries) []) peers.items)) }
-    ensures err { OnErr result (targets.new.entries ≡ targets.old.entries) }
-{
-    if let Some(there) = targets.get_mut(&key) {
-        there.join(peers)?;
-        return Ok(());
-    }
-    let mut first = Targets::new(alloc);
-    first.join(peers)?;
-    targets.insert(key, first)?;
-    Ok(())
 }
 
 /// How many nanoseconds ago something began, at most `DURATION_MAX`; nothing where the clock went

@@ -1,3 +1,4 @@
+pub mod Entries
 pub mod Outcomes
 pub mod Tried
 pub mod Pools

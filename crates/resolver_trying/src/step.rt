@@ -1,12 +1,12 @@
-//! What an answer means to a scan.
+//! What a scan asks, and what an answer means to it.
 
 ghost use Rattle.std.specs.Prelude.{◌≡◌, ◌≢◌, true, Ok, Err, is_ok, IfErr, IfOk};
 ghost use Rattle.resolver_base.specs.declared.base.fault.Fault.TheVariants.{OutOfMemory};
 ghost use Rattle.std.specs.Option.{option_copied};
 ghost use Rattle.resolver_trying.specs.declared.scan.Answer.TheVariants.{Drawn};
-ghost use Rattle.resolver_trying.specs.Steps.{id_of, step_checked, step_chosen, step_mode, step_of, step_sent};
+ghost use Rattle.resolver_trying.specs.Steps.{ask_for, id_of, step_checked, step_chosen, step_mode, step_of, step_sent};
 
-use crate::scan::Answer;
+use crate::scan::{Answer, Ask};
 use crate::trail::{Expected, Reason};
 use crate::trying::Trying;
 use resolver_asked::requests::ID;
@@ -138,4 +138,30 @@ fn id_of(number: u128) -> Result<ID, Fault>
         return Err(Fault::OutOfRange);
     }
     Ok(number as u64)
+}
+
+/// What a scan asks that tries a key and expects something.
+pub fn ask_for<K: Clone + Drop, P: Ord + Clone + Drop>(
+    priority: bool,
+    trying: &Trying<K, P>,
+    expected: &Expected<P>,
+) -> Result<Ask<K, P>, Fault>
+    requires keys_clone { (x y : K) → K.is_clone x y → y ≡ x }
+    requires peers_clone { (x y : P) → P.is_clone x y → y ≡ x }
+    ensures ok { IfOk result (λ ask. ask ≡ ask_for priority trying.now expected.now) }
+    ensures only { IfErr result (λ fault. fault ≡ OutOfMemory) }
+{
+    match expected {
+        Expected::Mode => Ok(Ask::Draw(u128::from(trying.retries) + 4)),
+        Expected::ByWeight => Ok(Ask::Draw(trying.total())),
+        Expected::ByPlace => Ok(Ask::Draw(trying.count())),
+        Expected::Checking(peer) => Ok(Ask::Check(peer.clone()?)),
+        Expected::FirstId(_) => Ok(Ask::Draw(1 << 64)),
+        Expected::Sending(peer, id) => Ok(Ask::Request {
+            peer: peer.clone()?,
+            id: *id,
+            key: trying.pair.1.clone()?,
+            priority,
+        }),
+    }
 }

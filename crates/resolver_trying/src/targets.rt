@@ -1,7 +1,9 @@
 //! The peers that may be asked for a key.
 
-ghost use Rattle.std.specs.Prelude.{◌≡◌, [], length, IfOk, OnErr, OnOk};
+ghost use Rattle.std.specs.Prelude.{◌≡◌, [], length, unwrap_or, IfOk, OnErr, OnOk};
+ghost use Rattle.std.specs.BTreeMap.{insert_entry, is_at};
 ghost use Rattle.std.specs.List.Sorted.{IsStrictlySortedBy};
+ghost use Rattle.std.specs.Map.{lookup};
 ghost use Rattle.std.specs.Map.Iter.{ShowsInOrder, deref};
 ghost use Rattle.std.specs.BTreeSet.{contains};
 ghost use Rattle.resolver_root.specs.Joined.{joined_one};
@@ -9,8 +11,8 @@ ghost use Rattle.resolver_trying.specs.Orders.{is_one_of};
 ghost use Rattle.resolver_trying.specs.Peers.{is_target_of, with_targets};
 
 use std::alloc::{AllocError, Global};
-use std::collections::BTreeSet;
 use std::collections::btree_set::Iter;
+use std::collections::{BTreeMap, BTreeSet};
 use std::marker::Model;
 
 /// The peers that may be asked for a key, each once, in the order in which they were added.
@@ -101,6 +103,23 @@ impl<P: Ord + Drop> Targets<P> {
         Ok(())
     }
 
+    /// Those of these peers, in their order, each once.
+    fn of(alloc: Global, peers: Vec<P>) -> Result<Self, AllocError>
+    where
+        P: Clone,
+        requires peers_clone { (x y : P) → P.is_clone x y → y ≡ x }
+        ensures { IfOk result (λ targets. targets ≡ with_targets P.cmp [] peers.items) }
+    {
+        let mut targets = Targets::new(alloc);
+        match targets.join(peers) {
+            Ok(()) => Ok(targets),
+            Err(failed) => {
+                drop(targets);
+                Err(failed)
+            }
+        }
+    }
+
     /// Puts this peer last if it isn't there yet.
     fn add(&mut self, peer: P) -> Result<(), AllocError>
     where
@@ -129,4 +148,25 @@ impl<P: Ord + Drop> Targets<P> {
             names: self.names.clone()?,
         })
     }
+}
+
+/// Adds targets of a key.
+pub fn join_targets<K: Ord + Drop, P: Ord + Clone + Drop>(
+    alloc: Global,
+    targets: &mut BTreeMap<K, Targets<P>>,
+    key: K,
+    peers: Vec<P>,
+) -> Result<(), AllocError>
+    requires peers_clone { (x y : P) → P.is_clone x y → y ≡ x }
+    ensures ok { OnOk result (targets.new.entries
+        ≡ insert_entry K.cmp targets.old.entries key (with_targets P.cmp
+        (unwrap_or (lookup (is_at (K.cmp key)) targets.old.entries) []) peers.items)) }
+    ensures err { OnErr result (targets.new.entries ≡ targets.old.entries) }
+{
+    if let Some(there) = targets.get_mut(&key) {
+        return there.join(peers);
+    }
+    let first = Targets::of(alloc, peers)?;
+    targets.insert(key, first)?;
+    Ok(())
 }

@@ -1,7 +1,7 @@
 //! The scans of a fetcher.
 
 ghost use Rattle.std.specs.Prelude.{◌≡◌, ◌≢◌, ◌+◌, ◌<◌, ◌^◌, ℕ, true, false, Ok, Err, Some, None, [], is_some, length, IfErr, IfOk, OnErr, OnOk};
-ghost use Rattle.std.specs.BTreeMap.{insert_entry, is_at};
+ghost use Rattle.std.specs.BTreeMap.{is_at};
 ghost use Rattle.std.specs.List.Sorted.{IsStrictlySortedBy};
 ghost use Rattle.std.specs.Map.{lookup};
 ghost use Rattle.std.specs.Map.Iter.{ShowsInOrder, deref};
@@ -13,24 +13,22 @@ ghost use Rattle.resolver_trying.specs.declared.step.Step.TheVariants.{Accept, C
 ghost use Rattle.resolver_fetch.specs.Fetcher as calls;
 ghost use Rattle.std.specs.Ordering.{nat_cmp};
 ghost use Rattle.resolver_asked.specs.Ids.{is_held};
-ghost use Rattle.resolver_asked.specs.Requests.{is_asked};
 ghost use Rattle.resolver_fetch.specs.Cursor.{ExpectsNewId, IsRight, TakesNewId, opened, scan_of};
 ghost use Rattle.resolver_fetch.specs.Fetcher.{AsksNewId, question};
 ghost use Rattle.resolver_fetch.specs.Left.{IsAtHand, pool_for, whole_for};
 ghost use Rattle.resolver_trying.specs.Orders.{orders};
-ghost use Rattle.resolver_fetch.specs.Queues.{placed, retry_queue};
+ghost use Rattle.resolver_waiting.specs.Queues.{placed, retry_queue};
 ghost use Rattle.resolver_fetch.specs.Seeking.{first_until, next_behind, next_of, scan_at, tried_behind, tried_next, trying_key};
 ghost use Rattle.resolver_trying.specs.Waiting.{place_order};
 ghost use Rattle.resolver_fetch.specs.Stepping.{after_all, after_step, expecting};
 ghost use Rattle.resolver_trying.specs.Steps.{ask_for};
 
 use crate::fetcher::peers::Peers;
-use crate::fetcher::{Answer, Ask, Fetcher, ID, Request};
-use resolver_asked::requests::Requests;
+use crate::fetcher::{Answer, Ask, Fetcher, ID};
 use resolver_base::base::Fault;
-use resolver_trying::cursor::{Cursor, keep};
+use resolver_trying::cursor::{Cursor, keep, put_request};
 use resolver_trying::pool::Pool;
-use resolver_trying::step::{Step, step_of};
+use resolver_trying::step::{Step, ask_for, step_of};
 use resolver_trying::targets::Targets;
 use resolver_trying::trail::{Expected, Reason, Trail};
 use resolver_trying::trying::{Next, Trying};
@@ -212,13 +210,8 @@ impl<K: Ord + Clone + Drop, P: Ord + Clone + Drop> Fetcher<K, P> {
             keep(&mut self.cursor, cursor);
             return Err(fault);
         }
-        let Cursor {
-            moment,
-            trail,
-            trying,
-            expects,
-        } = cursor;
-        drop(expects);
+        let moment = cursor.moment;
+        let (trail, trying) = cursor.into_tries();
         let rest = Next::Try(trying);
         Ok(self.go_on(moment, trail, rest))
     }
@@ -251,15 +244,8 @@ impl<K: Ord + Clone + Drop, P: Ord + Clone + Drop> Fetcher<K, P> {
         }
         match self.find_behind(&cursor) {
             Ok(next) => {
-                let Cursor {
-                    moment,
-                    trail,
-                    trying,
-                    expects,
-                } = cursor;
-                drop(trying);
-                drop(expects);
-                Ok(self.go_on(moment, trail, next))
+                let moment = cursor.moment;
+                Ok(self.go_on(moment, cursor.into_trail(), next))
             }
             Err(fault) => {
                 cursor.trail.pop();
@@ -330,14 +316,7 @@ impl<K: Ord + Clone + Drop, P: Ord + Clone + Drop> Fetcher<K, P> {
     {
         match put_request(&mut self.requests, &cursor, peer, id, self.fetch_timeout) {
             Ok(()) => {
-                let Cursor {
-                    trail,
-                    trying,
-                    expects,
-                    ..
-                } = cursor;
-                drop(trail);
-                drop(expects);
+                let trying = cursor.into_trying();
                 self.pending.remove(&trying.pair.1, trying.is_retry);
                 keep_pool(&self.targets, &mut self.peers, trying);
                 Ok(None)
@@ -602,37 +581,6 @@ impl<K: Ord + Clone + Drop, P: Ord + Clone + Drop> Fetcher<K, P> {
     }
 }
 
-/// Puts the request that a scan sent. Where memory is wanting, nothing changes.
-fn put_request<K: Ord + Clone + Drop, P: Ord + Drop>(
-    requests: &mut Requests<K, P>,
-    cursor: &Cursor<K, P>,
-    peer: P,
-    id: ID,
-    timeout: u128,
-) -> Result<(), Fault>
-    requires moment { cursor.now.moment < 2 ^ 94 }
-    requires timeout { timeout < 2 ^ 94 }
-    requires keys_clone { (x y : K) → K.is_clone x y → y ≡ x }
-    requires new_id { is_held requests.old id ≡ false }
-    requires new_key { is_asked K.cmp requests.old cursor.now.trying.key ≡ false }
-    ensures ok { OnOk result (requests.new ≡ insert_entry nat_cmp requests.old id (record {
-      key = cursor.now.trying.key;
-      peer = peer;
-      start = cursor.now.moment;
-      deadline = cursor.now.moment + timeout;
-    })) }
-    ensures err { OnErr result (requests.new ≡ requests.old) }
-    ensures only { IfErr result (λ fault. fault ≡ OutOfMemory) }
-{
-    let request = Request {
-        key: cursor.trying.pair.1.clone()?,
-        peer,
-        start: cursor.moment,
-        deadline: cursor.moment + timeout,
-    };
-    requests.insert(id, request)
-}
-
 /// Keeps the peers that a key was tried with which any key without targets may be asked of.
 fn keep_pool<K: Ord + Drop, P: Ord + Drop>(
     targets: &BTreeMap<K, Targets<P>>,
@@ -651,30 +599,4 @@ fn keep_pool<K: Ord + Drop, P: Ord + Drop>(
     drop(pair);
     pool.restore();
     peers.put_pool(Some(pool));
-}
-
-/// What a scan asks that tries a key and expects something.
-fn ask_for<K: Clone + Drop, P: Ord + Clone + Drop>(
-    priority: bool,
-    trying: &Trying<K, P>,
-    expected: &Expected<P>,
-) -> Result<Ask<K, P>, Fault>
-    requires keys_clone { (x y : K) → K.is_clone x y → y ≡ x }
-    requires peers_clone { (x y : P) → P.is_clone x y → y ≡ x }
-    ensures ok { IfOk result (λ ask. ask ≡ ask_for priority trying.now expected.now) }
-    ensures only { IfErr result (λ fault. fault ≡ OutOfMemory) }
-{
-    match expected {
-        Expected::Mode => Ok(Ask::Draw(u128::from(trying.retries) + 4)),
-        Expected::ByWeight => Ok(Ask::Draw(trying.total())),
-        Expected::ByPlace => Ok(Ask::Draw(trying.count())),
-        Expected::Checking(peer) => Ok(Ask::Check(peer.clone()?)),
-        Expected::FirstId(_) => Ok(Ask::Draw(1 << 64)),
-        Expected::Sending(peer, id) => Ok(Ask::Request {
-            peer: peer.clone()?,
-            id: *id,
-            key: trying.pair.1.clone()?,
-            priority,
-        }),
-    }
 }

@@ -18,8 +18,9 @@ put_request-requires-clause-new_key g c =
 pub remove-requires : goal.remove-requires
 remove-requires g c =
     let kind = rw (← c.self.view_is) at (tried-kind (orders g.K.Ord.cmp g.P.Ord.cmp) g.met.K.Ord.total c.args.self.now c.args.cursor.moment c.args.cursor.trail c.args.cursor.trying c.requires.right.tries (rw (← c.self.view_is) c.self.invariant.0.once)) in
-    let key = ap (λ (t : Trying g.row.K.Denot g.row.P.Denot). t.key) c.trying.view_is in
-    let is_retry = ap (λ (t : Trying g.row.K.Denot g.row.P.Denot). t.place.is_retry) c.trying.view_is in
+    let is = c.trying.view_is ∙ c.into_trying-trying.ensures in
+    let key = ap (λ (t : Trying g.row.K.Denot g.row.P.Denot). t.key) is in
+    let is_retry = ap (λ (t : Trying g.row.K.Denot g.row.P.Denot). t.place.is_retry) is in
     rw (key, is_retry) (record { waits = kind })
 
 pub invariant_of-self : goal.invariant_of-self
@@ -29,16 +30,16 @@ invariant_of-self g c =
     let idle = rw (← c.self.view_is) at (tried-apart (orders g.K.Ord.cmp g.P.Ord.cmp) g.met.K.Ord.total c.args.self.now c.args.cursor.moment c.args.cursor.trail c.args.cursor.trying c.requires.right.tries (rw (← c.self.view_is) c.self.invariant.0.once)) in
     let new = rw (← c.self.view_is) at c.requires.new_id in
     let taken = rw (← c.self.view_is) at c.requires.taken in
-    let key = ap (λ (t : Trying g.row.K.Denot g.row.P.Denot). t.key) c.trying.view_is in
+    let key = ap (λ (t : Trying g.row.K.Denot g.row.P.Denot). t.key) (c.trying.view_is ∙ c.into_trying-trying.ensures) in
     let request : Request g.row.K.Denot g.row.P.Denot =
     record { key = c.args.cursor.trying.key; peer = c.args.peer; start = c.args.cursor.moment; deadline = c.args.cursor.moment + a.fetch_timeout } in
     rw (c.remove.ensures, c.in-Ok.ensures.ok, key)
     (kept-sent g.met.K.Ord.total a.fetch_timeout a.retry_delay a.last_id a.pending.keys a.requests c.self.invariant.0 c.args.id request new idle taken, closed-any a.cursor shut _)
 
 pub keep_pool-requires : goal.keep_pool-requires
-keep_pool-requires g c = record {
-  all = rw (← c.self.view_is) at (all-tried (orders g.K.Ord.cmp g.P.Ord.cmp) c.args.self.now c.args.cursor.moment c.args.cursor.trail c.args.cursor.trying c.requires.right.tries);
-}
+keep_pool-requires g c =
+    rw c.into_trying-trying.ensures
+    (record { all = rw (← c.self.view_is) at (all-tried (orders g.K.Ord.cmp g.P.Ord.cmp) c.args.self.now c.args.cursor.moment c.args.cursor.trail c.args.cursor.trying c.requires.right.tries) })
 
 pub invariant_of-self-in-Err : goal.invariant_of-self-in-Err
 invariant_of-self-in-Err g c =
@@ -55,7 +56,7 @@ pub returns-in-Ok-clause-ok : goal.returns-in-Ok-clause-ok
 returns-in-Ok-clause-ok g c =
     let o = orders g.K.Ord.cmp g.P.Ord.cmp in
     let shut = ap is_some (ap (λ (f : Fetcher g.row.K.Denot g.row.P.Denot). f.scan) c.self.view_is) ∙ c.requires.closed in
-    let key = ap (λ (t : Trying g.row.K.Denot g.row.P.Denot). t.key) c.trying.view_is in
+    let key = ap (λ (t : Trying g.row.K.Denot g.row.P.Denot). t.key) (c.trying.view_is ∙ c.into_trying-trying.ensures) in
     rw (c.keep_pool.ensures, c.remove.ensures, c.in-Ok.ensures.ok, key, closed-none c.self.inside.cursor shut)
     (ap (after_step o (scan_of c.args.cursor) c.args.cursor.trying.key (Accept c.args.peer c.args.id)) c.self.view_is)
 

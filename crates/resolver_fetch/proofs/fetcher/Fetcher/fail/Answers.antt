@@ -23,7 +23,7 @@ go_on-requires-clause-next g c =
     let some : 0 < length (apart_from g.P.Ord.cmp c.args.peer t.trying.left) = omega (arith, others) in
     let tried : Try g.row.K.Denot g.row.P.Denot = record { key = t.trying.key; peer = c.args.peer; reason = c.args.reason } in
     let is = goes-on-with-key o (snapshot o f) t.moment t.trail tried g.met.K.Ord.total t.trying refl some c.requires.right.tries in
-    rw failed (sym (tries-next o f t.moment (t.trail ++ tried ∷ []) _ is))
+    rw (c.into_tries-trail.ensures, failed) (sym (tries-next o f t.moment (t.trail ++ tried ∷ []) _ is))
 
 pub invariant_of-self : goal.invariant_of-self
 invariant_of-self g c =
@@ -44,7 +44,7 @@ pass-requires-clause-right g c = record {
 }
 
 pub returns-clause-ok : goal.returns-clause-ok
-returns-clause-ok g c = rw c.in_default.ensures.ok at c.go_on.ensures.after
+returns-clause-ok g c = rw (c.into_tries-trail.ensures, c.in_default.ensures.ok) at c.go_on.ensures.after
 
 pub returns-in-Err-clause-err : goal.returns-in-Err-clause-err
 returns-in-Err-clause-err g c = rw (c.keep.ensures, c.in-Err.ensures.err) (ap (opened c.args.cursor) c.self.view_is)

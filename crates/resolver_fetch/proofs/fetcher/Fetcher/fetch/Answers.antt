@@ -2,7 +2,7 @@ use Rattle.std.proofs.Common.{inl, refl, subst, sym}
 use Rattle.resolver_fetch.specs.Fetcher.{Fetcher}
 use Rattle.resolver_trying.specs.Orders.{orders}
 use Rattle.resolver_fetch.specs.Progress.{IsSound}
-use Rattle.resolver_fetch.proofs.Fetching.{on-both, on-err}
+use Rattle.resolver_trying.proofs.Outcomes.{on-both, on-err}
 use Rattle.resolver_fetch.proofs.Progress.{begins-sound}
 use Rattle.resolver_fetch.proofs.fetcher.Fetcher.fetch.Goals as goal
 

@@ -4,7 +4,7 @@ use Rattle.std.specs.Ordering.{nat_cmp}
 use Rattle.resolver_priorities.specs.Priorities.{pair_order}
 use Rattle.resolver_fetch.specs.Left.{IsAtHand}
 use Rattle.resolver_trying.specs.Orders.{orders}
-use Rattle.resolver_fetch.specs.Queues.{placed}
+use Rattle.resolver_waiting.specs.Queues.{placed}
 use Rattle.resolver_fetch.specs.Seeking.{first_until}
 use Rattle.resolver_fetch.proofs.fetcher.Fetcher.first_until.Given as goal
 

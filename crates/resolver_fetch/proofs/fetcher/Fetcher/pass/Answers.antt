@@ -16,7 +16,7 @@ go_on-requires-clause-next g c =
     let tried : Try g.row.K.Denot g.row.P.Denot = record { key = t.trying.key; peer = c.args.peer; reason = c.args.reason } in
     let past = passes o f t.moment t.trail tried g.met.K.Ord.total t.trying refl c.requires.last c.find_behind.ensures.ordered c.requires.right.tries in
     let next = rw noted at c.in-Ok.ensures.ok in
-    rw (c.find_behind.ensures.same, noted) (next ∙ ap (λ found. next_for o found (tried_again o f (scan_at t.moment (t.trail ++ tried ∷ [])))) (sym past))
+    rw (c.into_trail.ensures, c.find_behind.ensures.same, noted) (next ∙ ap (λ found. next_for o found (tried_again o f (scan_at t.moment (t.trail ++ tried ∷ [])))) (sym past))
 
 pub invariant_of-self-in-Err-find_behind : goal.invariant_of-self-in-Err-find_behind
 invariant_of-self-in-Err-find_behind g c =
@@ -35,7 +35,7 @@ invariant_of-self-in-Err-find_behind g c =
 pub returns-in-Ok-clause-ok : goal.returns-in-Ok-clause-ok
 returns-in-Ok-clause-ok g c =
     let noted = c.in_default.ensures.ok in
-    rw (noted, c.find_behind.ensures.same) at c.go_on.ensures.after
+    rw (c.into_trail.ensures, noted, c.find_behind.ensures.same) at c.go_on.ensures.after
 
 pub invariant_of-self : goal.invariant_of-self
 invariant_of-self g c =

@@ -4,7 +4,7 @@ use Rattle.resolver_trying.specs.Orders.{orders}
 use Rattle.resolver_trying.specs.Pools.{Pool}
 use Rattle.resolver_fetch.specs.Fetcher.{snapshot, targets_of}
 use Rattle.resolver_trying.specs.Snapshot.{eligible}
-use Rattle.resolver_fetch.proofs.Fetching.{refused, refused-as}
+use Rattle.resolver_trying.proofs.Outcomes.{refused, refused-as}
 use Rattle.resolver_fetch.proofs.Weighing.{drop-all, drop-first, untried, untried-left, untried-more, untried-none}
 use Rattle.resolver_fetch.proofs.fetcher.Fetcher.pool_for.Goals as goal
 

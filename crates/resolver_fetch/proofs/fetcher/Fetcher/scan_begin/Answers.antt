@@ -1,4 +1,4 @@
-use Rattle.resolver_fetch.proofs.Fetching.{on-err}
+use Rattle.resolver_trying.proofs.Outcomes.{on-err}
 use Rattle.resolver_fetch.proofs.fetcher.Fetcher.scan_begin.Goals as goal
 
 pub go_on-requires-clause-closed : goal.go_on-requires-clause-closed

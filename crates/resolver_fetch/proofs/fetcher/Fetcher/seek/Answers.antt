@@ -2,11 +2,11 @@ use Rattle.std.proofs.Common.{◌≡◌, refl, ap, sym, ◌∙◌, false, None, 
 use Rattle.std.proofs.lemmas.Result.{IfOk-weaker}
 use Rattle.resolver_fetch.specs.Fetcher.{Fetcher}
 use Rattle.resolver_trying.specs.Orders.{orders}
-use Rattle.resolver_fetch.specs.Queues.{IsQueued, fresh_queue, placed}
+use Rattle.resolver_waiting.specs.Queues.{IsQueued, fresh_queue, placed}
 use Rattle.resolver_fetch.specs.Seeking.{first_until}
 use Rattle.resolver_fetch.proofs.Askable.{tries-none}
 use Rattle.resolver_fetch.proofs.Dues.{from-first}
-use Rattle.resolver_fetch.proofs.Fetching.{refused, refused-as}
+use Rattle.resolver_trying.proofs.Outcomes.{refused, refused-as}
 use Rattle.resolver_fetch.proofs.Seeking.{seeks-fresh, seeks-retry}
 use Rattle.resolver_fetch.proofs.fetcher.Fetcher.seek.Goals as goal
 

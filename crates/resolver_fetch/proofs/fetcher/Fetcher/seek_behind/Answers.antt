@@ -5,11 +5,11 @@ use Rattle.resolver_priorities.specs.Priorities.{after}
 use Rattle.resolver_trying.specs.declared.place.Place.{Place}
 use Rattle.resolver_fetch.specs.Fetcher.{Fetcher}
 use Rattle.resolver_trying.specs.Orders.{orders}
-use Rattle.resolver_fetch.specs.Queues.{IsQueued, fresh_queue, placed, retry_queue}
+use Rattle.resolver_waiting.specs.Queues.{IsQueued, fresh_queue, placed, retry_queue}
 use Rattle.resolver_fetch.specs.Seeking.{first_until, scan_at, tried_behind}
 use Rattle.resolver_trying.specs.Trying.{Trying}
 use Rattle.resolver_trying.specs.Waiting.{fresh_at, retry_at}
-use Rattle.resolver_fetch.proofs.Fetching.{refused-as}
+use Rattle.resolver_trying.proofs.Outcomes.{refused-as}
 use Rattle.resolver_fetch.proofs.Seeking.{behind-fresh, behind-fresh-retry, behind-retry}
 use Rattle.resolver_fetch.proofs.fetcher.Fetcher.seek_behind.Goals as goal
 
