@@ -1,13 +1,12 @@
 -- The parts once a response was handed out.
-use Rattle.std.proofs.Common.{◌≡◌, refl, ap, sym, ◌∙◌, subst, ℕ, ◌+◌, ◌-◌, ◌<◌, ◌^◌, Bool, true, false, cond, List, [], ◌∷◌, ◌++◌, map, Option, None, Some, Result, Ok, Err, append-nil}
-use Rattle.std.specs.Prelude.{IsTrue, is_some, length, min, nat_lt}
+use Rattle.std.proofs.Common.{◌≡◌, refl, ap, sym, ◌∙◌, subst, ℕ, ◌+◌, ◌-◌, ◌<◌, ◌^◌, Bool, true, false, List, [], ◌∷◌, ◌++◌, map, Option, None, Some, Result, Ok, Err, append-nil}
+use Rattle.std.specs.Prelude.{is_some, length, nat_lt}
 use Rattle.std.proofs.lemmas.Bool.{lt-ltb}
-use Rattle.std.proofs.lemmas.Cmp.{eq_by_cmp_equiv}
 use Rattle.std.proofs.lemmas.Map.Made.{lookup-map_values}
 use Rattle.std.specs.Option.{option_map, option_and_then}
 use Rattle.std.specs.Result.{IfErr, OnOk}
 use Rattle.std.specs.Cmp.{IsTotalOrder}
-use Rattle.std.specs.List.{AllByRecursion, IsDistinct, cons_option, filter_map}
+use Rattle.std.specs.List.{IsDistinct, cons_option, filter_map}
 use Rattle.std.specs.List.Sorted.{IsStrictlySortedBy}
 use Rattle.std.specs.Map.{keys_of, lookup, set_value}
 use Rattle.std.specs.BTreeMap.{insert_entry, is_at}
@@ -19,19 +18,20 @@ use Rattle.resolver_demand.specs.declared.delivery.entry.Entry.{Entry}
 use Rattle.resolver_demand.specs.declared.delivery.entry.Response.{Response}
 use Rattle.resolver_demand.specs.Entries.{changed_at, delivered, is_tracked, number_of, numbered, with_response}
 use Rattle.resolver_asked.specs.declared.requests.request.Request.{Request}
-use Rattle.resolver_asked.specs.Requests.{by_id, matching, without_request}
+use Rattle.resolver_asked.specs.Requests.{by_id, without_request}
 use Rattle.resolver_request.specs.Times.{elapsed_since}
 use Rattle.resolver_fetch.specs.Fetcher as fetchers
 use Rattle.resolver_fetch.specs.Fetcher.{Fetcher}
 use Rattle.resolver_machine.proofs.Mapped.{insert_entry-seen, set_value-seen}
 use Rattle.resolver_peer.specs.declared.named.Source.{Source}
 use Rattle.resolver_peer.specs.Parties.{Parties, names_of, orders_of}
-use Rattle.resolver_peer.specs.PeerRows.{Row, Asked, Judged, Judging, change_entry, request_in, request_of}
-use Rattle.resolver_peer.specs.Peer.{Deliver, Done, Machine, Open, answered, hand_out, handed_as, is_key, responds, row_of, snapshot}
+use Rattle.resolver_peer.specs.PeerRows.{Row, Judged, Judging, change_entry, request_in, request_of}
+use Rattle.resolver_peer.specs.Peer.{Deliver, Done, Machine, Open, answered, hand_out, handed_as, is_key, responds, row_of}
 use Rattle.resolver_peer.specs.declared.effects.Effect.{Effect as Told}
 use Rattle.resolver_peer.specs.declared.effects.Effect.TheVariants as told
 use Rattle.resolver_parts.specs.declared.parts.Parts.{Parts}
-use Rattle.resolver_parts.specs.Going.{Goes, IsRefusal, Went}
+use Rattle.resolver_acts.specs.Again.{IsRefusal}
+use Rattle.resolver_parts.specs.Going.{Goes, Went}
 use Rattle.resolver_parts.specs.Said.{Codec}
 use Rattle.resolver_parts.specs.Tied.{Agrees, AreOwn, Holds, IsSound, demand_of, fetcher_of, held_of, holds_in, holds_of, open_of, place_in, place_of, retries_in, same_id, sorted, targets_in}
 use Rattle.resolver_parts.proofs.Numbered.{below-grown, lookup-new, own-grown}

@@ -19,7 +19,5 @@ mod Sorting
 mod Supplied
 mod Turns
 mod Wanted
-mod Cached
 mod Rulings
 mod Verdicts
-pub mod Refusals

@@ -1,8 +1,8 @@
 -- The parts once a ruling on a closed delivery was carried out.
-use Rattle.std.proofs.Common.{◌≡◌, refl, ap, sym, ◌∙◌, subst, ℕ, ◌+◌, ◌<◌, ◌^◌, Bool, true, false, cond, List, [], ◌∷◌, ◌++◌, map, Option, None, Some, Result, Ok, Err, append-nil}
-use Rattle.std.specs.Prelude.{IsSome, nat_lt, unwrap_or}
+use Rattle.std.proofs.Common.{◌≡◌, refl, ap, sym, ◌∙◌, subst, ℕ, ◌+◌, ◌<◌, ◌^◌, Bool, true, false, List, [], ◌∷◌, ◌++◌, map, Option, None, Some, Result, Ok, Err, append-nil}
+use Rattle.std.specs.Prelude.{nat_lt}
 use Rattle.std.proofs.lemmas.Bool.{lt-ltb}
-use Rattle.std.specs.Option.{option_map, option_and_then, IfSome}
+use Rattle.std.specs.Option.{option_and_then, IfSome}
 use Rattle.std.specs.Result.{IfErr, OnOk}
 use Rattle.std.specs.Cmp.{IsTotalOrder}
 use Rattle.std.specs.List.{IsDistinct, cons_option, filter_map}
@@ -20,10 +20,8 @@ use Rattle.resolver_priorities.specs.Priorities.{has_item}
 use Rattle.resolver_root.specs.Subscribers.{without}
 use Rattle.resolver_root.specs.Table.{rest_of, some_of, subscribers_of, without_key, without_named}
 use Rattle.resolver_root.specs.Table as tables
-use Rattle.resolver_demand.specs.declared.delivery.entry.Entry.{Entry}
 use Rattle.resolver_demand.specs.declared.delivery.entry.Response.{Response}
-use Rattle.resolver_demand.specs.Entries.{Numbered, accepted, begun_again, changed, changed_at, entry_of, number_of, numbered, redelivered, removed, response_of, with_response}
-use Rattle.resolver_asked.specs.declared.requests.request.Request.{Request}
+use Rattle.resolver_demand.specs.Entries.{Numbered, accepted, begun_again, changed, changed_at, number_of, numbered, removed, response_of, with_response}
 use Rattle.resolver_asked.specs.Requests.{by_id, is_asked}
 use Rattle.resolver_fetch.specs.Fetcher as fetchers
 use Rattle.resolver_fetch.specs.Fetcher.{Fetcher}
@@ -39,15 +37,17 @@ use Rattle.resolver_peer.specs.Peer.{Deliver, Done, Machine, Open, hand_out, han
 use Rattle.resolver_peer.specs.declared.effects.Effect.{Effect as Told}
 use Rattle.resolver_peer.specs.declared.effects.Effect.TheVariants as told
 use Rattle.resolver_parts.specs.declared.parts.Parts.{Parts}
-use Rattle.resolver_parts.specs.Going.{Goes, IsRefusal, Went}
-use Rattle.resolver_parts.specs.Ruled.{IsClosed, Names, flagged, handed_again}
+use Rattle.resolver_acts.specs.Again.{IsRefusal}
+use Rattle.resolver_parts.specs.Going.{Goes, Went}
+use Rattle.resolver_acts.specs.Again.{flagged, handed_again}
+use Rattle.resolver_parts.specs.Ruled.{IsClosed, Names}
 use Rattle.resolver_parts.specs.Said.{Codec}
 use Rattle.resolver_parts.specs.Tied.{Agrees, Holds, IsSound, AreOwn, demand_of, fetcher_of, held_of, holds_in, holds_of, open_of, place_of, retries_in, same_id, sorted, targets_in}
-use Rattle.resolver_parts.proofs.Cached.{Caches, accepts-is, flagged-found, flagged-going, flagged-next, flagged-response, flagged_entry, noted, response-is}
+use Rattle.resolver_acts.proofs.Cached.{Caches, accepts-is, flagged-found, flagged-going, flagged-next, flagged-response, flagged_entry, noted, response-is}
 use Rattle.resolver_parts.proofs.Handed.{Entered, entered, goes-refused}
 use Rattle.resolver_parts.proofs.Numbered.{below-grown, lookup-new, own-grown}
 use Rattle.resolver_parts.proofs.Places.{demand-at, holds-at, idle-asked, idle-waiting, none-asked, own-slot, place_at, request_at, requests-at, retries-at, targets-at, waiting-at}
-use Rattle.resolver_parts.proofs.Retrying.{Retries, retried, retried_rows, retries}
+use Rattle.resolver_parts.proofs.Retrying.{Retries, retried, retries}
 use Rattle.resolver_parts.proofs.Slots.{Around, IsAround, around-given, around-map, around-own, change-slot, lookup-slot, ordered-slot, remove-slot, set-slot, slot}
 
 module _ {K S P : Type 0} (a : Parties K S P) (o : IsTotalOrder a.key) (e : Parts K P S) (m : Machine K S P) (h : Open K S P) (x : IsClosed a e m h) where

@@ -1,10 +1,10 @@
 -- The parts once a key was fetched.
-use Rattle.std.proofs.Common.{◌≡◌, refl, ap, sym, ◌∙◌, subst, ℕ, Bool, true, false, List, [], ◌∷◌, map, Option, None, Some, cond}
-use Rattle.std.specs.Prelude.{is_some, not, unwrap_or}
+use Rattle.std.proofs.Common.{◌≡◌, refl, ap, sym, ◌∙◌, subst, ℕ, true, false, List, [], ◌∷◌, map, Option, None, Some}
+use Rattle.std.specs.Prelude.{is_some, not}
 use Rattle.std.proofs.lemmas.Map.Made.{lookup-map_values}
 use Rattle.std.specs.Option.{option_map}
 use Rattle.std.specs.Cmp.{IsTotalOrder}
-use Rattle.std.specs.List.{IsDistinct, cons_option, filter_map}
+use Rattle.std.specs.List.{IsDistinct, filter_map}
 use Rattle.std.specs.List.Sorted.{IsStrictlySortedBy}
 use Rattle.std.specs.Map.{keys_of, lookup, remove_entry, set_value}
 use Rattle.std.specs.BTreeMap.{insert_entry, is_at}
@@ -22,13 +22,13 @@ use Rattle.resolver_trying.specs.Waiting.{fresh_at, place_order}
 use Rattle.resolver_machine.proofs.Mapped.{insert_entry-seen}
 use Rattle.resolver_peer.specs.Parties.{Parties, names_of, orders_of}
 use Rattle.resolver_peer.specs.PeerRows.{Row, Waits, change_entry, request_of}
-use Rattle.resolver_peer.specs.Peer.{Item, Machine, fetch, fetch_one, is_key, row_of, targets_with, waiter_with, with_new_row, with_row}
+use Rattle.resolver_peer.specs.Peer.{Item, Machine, fetch, fetch_one, is_key, row_of, targets_with, waiter_with}
 use Rattle.resolver_parts.specs.declared.parts.Parts.{Parts}
-use Rattle.resolver_parts.specs.Aiming.{aimed, readied}
+use Rattle.resolver_acts.specs.Aiming.{aimed, readied}
 use Rattle.resolver_parts.specs.Tied.{Agrees, AreOwn, IsSound, demand_of, fetcher_of, held_of, holds_in, holds_of, open_of, place_of, retries_in, same_id, sorted, targets_in}
-use Rattle.resolver_parts.proofs.Places.{OwnAt, apart-places-first, apart-places-last, demand-at, holds-at, idle-asked, idle-waiting, none-asked, own-after, own-before, own-here, own-slot, requests-at, retries-at, targets-at, waiting-at}
+use Rattle.resolver_parts.proofs.Places.{apart-places-first, apart-places-last, demand-at, holds-at, idle-asked, idle-waiting, none-asked, own-after, own-before, own-here, own-slot, requests-at, retries-at, targets-at, waiting-at}
 use Rattle.resolver_parts.proofs.Queues.{put-waits}
-use Rattle.resolver_parts.proofs.Slots.{Around, Found, IsAround, around-equal, around-given, around-map, around-none, around-some, change-found, insert-found, insert-slot, lookup-found, lookup-slot, ordered-slot, remove-found, set-found, slot}
+use Rattle.resolver_parts.proofs.Slots.{Around, Found, IsAround, around-given, around-map, around-none, around-some, change-found, insert-found, insert-slot, lookup-found, lookup-slot, ordered-slot, remove-found, set-found, slot}
 
 none-under : {X Y : Type 0} (g : X → Y) (x : Option X) → option_map g x ≡ None → x ≡ None
 none-under g None is = refl

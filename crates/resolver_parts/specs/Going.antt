@@ -1,5 +1,5 @@
 -- What a part of a step does to the parts of an engine, and to its effects.
-use Rattle.std.specs.Prelude.{◌≡◌, ◌^◌, ◌++◌, ℕ, false, nat_lt, List, map, Option, None, Some, Result, Ok, Err, ⊤}
+use Rattle.std.specs.Prelude.{◌≡◌, ◌++◌, List, map, Option, None, Some, Result, Ok, Err, ⊤}
 use Rattle.resolver_base.specs.declared.base.fault.Fault.{Fault}
 use Rattle.resolver_base.specs.declared.base.fault.Fault.TheVariants as faults
 use Rattle.resolver_peer.specs.declared.effects.Effect.{Effect as Told}
@@ -8,12 +8,6 @@ use Rattle.resolver_parts.specs.Said.{Codec, written}
 use Rattle.resolver_parts.specs.Tied.{Agrees}
 use Rattle.resolver_peer.specs.Parties.{Parties}
 use Rattle.resolver_peer.specs.Peer.{Done, Machine}
-
--- why something is not handed out: memory is wanting, or no number is left
-abbrev pub IsRefusal : (next : ℕ) → Fault → Type 0
-IsRefusal next faults.OutOfMemory = ⊤
-IsRefusal next faults.Exhausted = nat_lt next (2 ^ 64) ≡ false
-IsRefusal next fault = ⊥
 
 module _ {K S P : Type 0} (a : Parties K S P) (c : Codec K) where
   -- the machine went this way, and told this

@@ -1,6 +1,4 @@
-pub mod Aiming
 pub mod Answering
-pub mod Canceled
 pub mod EngineSteps
 pub mod Going
 pub mod Said

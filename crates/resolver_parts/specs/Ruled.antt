@@ -1,13 +1,12 @@
 -- A delivery that is closed, and what a ruling on it makes of the parts.
-use Rattle.std.specs.Prelude.{◌≡◌, ◌<◌, ℕ, Bool, true, false, List, [], ◌∷◌, ◌++◌, map, Option, None, Some, if◌then◌else◌}
+use Rattle.std.specs.Prelude.{◌≡◌, ◌<◌, ℕ, Bool, false, List, [], ◌∷◌, ◌++◌, map, Option, None, Some}
 use Rattle.std.specs.List.{AllByRecursion, IsDistinct, filter_map}
 use Rattle.std.specs.List.Sorted.{IsStrictlySortedBy}
 use Rattle.std.specs.Map.{keys_of}
-use Rattle.std.specs.declared.cmp.Ordering.{Ordering}
 use Rattle.resolver_root.specs.declared.root.Delivery.{Delivery}
 use Rattle.resolver_root.specs.declared.root.Outcome.{Outcome}
 use Rattle.resolver_root.specs.declared.root.Outcome.TheVariants.{Invalid, Resolved}
-use Rattle.resolver_demand.specs.Entries.{Numbered, accepted, redelivered, response_changed}
+use Rattle.resolver_demand.specs.Entries.{accepted}
 use Rattle.resolver_fetch.specs.Fetcher.{Fetcher, record_response}
 use Rattle.resolver_trying.specs.Orders.{Orders}
 use Rattle.resolver_peer.specs.declared.named.Source.{Source}
@@ -31,15 +30,6 @@ module _ {K P : Type 0} (o : Orders K P) where
   abbrev pub paid : Source P → (accepted : Bool) → Option Outcome → Fetcher K P → Fetcher K P
   paid source false (Some (Resolved resolution)) f = record_response o source.peer source.elapsed source.bytes f
   paid source accepted outcome f = f
-
-module _ {K S V C State : Type 0} (cmp : K → K → Ordering) where
-  -- the cached response is noted to be right, if it is
-  abbrev pub flagged : Bool → K → Numbered K S V C State → Numbered K S V C State
-  flagged accepts key d = if accepts then response_changed cmp key accepted d else d
-
-  -- the cached response once more, accepted or as it was
-  abbrev pub handed_again : Delivery K S → Bool → Numbered K S V C State → Numbered K S V C State
-  handed_again delivery accepts d = redelivered cmp delivery (flagged accepts delivery.key d)
 
 -- This delivery is closed, and its key waits for the ruling: its entry has the response, and no number.
 pub record IsClosed {K S P : Type 0} (a : Parties K S P) (e : Parts K P S) (m : Machine K S P) (h : Open K S P) : Type 0 where

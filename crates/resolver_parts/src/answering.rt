@@ -1,19 +1,20 @@
 //! What a peer's response does to the parts.
 
-ghost use Rattle.std.specs.Prelude.{◌≡◌, ◌<◌, ◌^◌, ◌++◌, ◌∷◌, [], None, false, is_some, IfErr, IfOk, IsTrue, OnOk};
-ghost use Rattle.resolver_base.specs.declared.base.fault.Fault.TheVariants.{OutOfMemory};
+ghost use Rattle.std.specs.Prelude.{◌≡◌, ◌<◌, ◌^◌, ◌++◌, ◌∷◌, [], None, false, is_some, IfErr, IsTrue, OnOk};
 ghost use Rattle.std.specs.Option.{option_and_then};
 ghost use Rattle.resolver_demand.specs.Entries.{delivered, is_tracked, number_of};
 ghost use Rattle.resolver_peer.specs.Parties.{parties};
 ghost use Rattle.resolver_peer.specs.Peer.{Machine, answered, responds, row_of};
-ghost use Rattle.resolver_parts.specs.Going.{Goes, IsRefusal, IsTied};
+ghost use Rattle.resolver_acts.specs.Again.{IsRefusal};
+ghost use Rattle.resolver_parts.specs.Going.{Goes, IsTied};
 ghost use Rattle.resolver_parts.specs.Said.{Codec};
 ghost use Rattle.resolver_parts.specs.Tied.{Agrees};
 ghost use Rattle.resolver_peer.specs.declared.effects.Effect.TheVariants.{Deliver};
 
-use crate::inflight::Inflight;
 use crate::parts::Parts;
 use bytes::Bytes;
+use resolver_acts::handing::copies;
+use resolver_acts::inflight::Inflight;
 use resolver_base::base::Fault;
 use resolver_fetch::fetcher::{Request, elapsed_since};
 use resolver_peer::effects::Effect;
@@ -113,23 +114,4 @@ fn hand_out<K: Ord + Clone + Drop, P: Clone + Drop, S: Clone + Drop>(
         value,
     })?;
     Ok(())
-}
-
-/// Copies of what is handed out.
-pub(crate) fn copies<K: Clone + Drop, S: Clone + Drop>(
-    delivery: &Delivery<K, S>,
-    value: &Bytes,
-) -> Result<(Delivery<K, S>, Bytes), Fault>
-    requires keys_clone { (x y : K) → K.is_clone x y → y ≡ x }
-    requires subscribers_clone { (x y : S) → S.is_clone x y → y ≡ x }
-    ensures delivery { IfOk result (λ copies. copies.0 ≡ delivery.now) }
-    ensures value { IfOk result (λ copies. copies.1 ≡ value.now) }
-    ensures only { IfErr result (λ fault. fault ≡ OutOfMemory) }
-{
-    let value = value.clone()?;
-    let Ok(delivery) = delivery.clone() else {
-        drop(value);
-        return Err(Fault::OutOfMemory);
-    };
-    Ok((delivery, value))
 }

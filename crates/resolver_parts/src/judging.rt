@@ -1,26 +1,23 @@
 //! What a verdict does to the parts.
 
-ghost use Rattle.std.specs.Prelude.{◌≡◌, ◌<◌, ◌^◌, ◌++◌, ◌∷◌, ◌==◌, [], Err, None, false, is_none, is_some, IfErr, IfSome, IsSome, OnOk};
+ghost use Rattle.std.specs.Prelude.{◌≡◌, ◌<◌, ◌^◌, ◌++◌, ◌==◌, Err, false, is_none, is_some, IfErr, OnOk};
 ghost use Rattle.std.specs.Map.{lookup};
 ghost use Rattle.resolver_priorities.specs.Priorities.{has_item};
 ghost use Rattle.resolver_base.specs.declared.base.fault.Fault.TheVariants.{OutOfMemory};
 ghost use Rattle.resolver_asked.specs.Requests.{is_asked};
-ghost use Rattle.resolver_demand.specs.Entries.{number_of, removed, response_of};
+ghost use Rattle.resolver_demand.specs.Entries.{removed};
 ghost use Rattle.resolver_fetch.specs.Fetcher as calls;
 ghost use Rattle.resolver_trying.specs.Orders.{orders};
 ghost use Rattle.resolver_machine.specs.Verdicts.{ruling};
 ghost use Rattle.resolver_peer.specs.Parties.{parties};
-ghost use Rattle.resolver_peer.specs.PeerRows.{Row};
 ghost use Rattle.resolver_peer.specs.Peer.{Machine, Open, ruled, verdict};
-ghost use Rattle.resolver_parts.specs.Going.{Goes, IsRefusal, IsTied};
-ghost use Rattle.resolver_parts.specs.Ruled.{IsClosed, Names, earned, flagged, handed_again, paid};
+ghost use Rattle.resolver_parts.specs.Going.{Goes, IsTied};
+ghost use Rattle.resolver_parts.specs.Ruled.{IsClosed, Names, earned, paid};
 ghost use Rattle.resolver_parts.specs.Said.{Codec};
 ghost use Rattle.resolver_parts.specs.Tied.{Agrees};
-ghost use Rattle.resolver_peer.specs.declared.effects.Effect.TheVariants.{Deliver};
 
-use crate::answering::copies;
-use crate::inflight::Inflight;
 use crate::parts::Parts;
+use resolver_acts::handing::hand_out_again;
 use resolver_base::base::Fault;
 use resolver_demand::delivery::Completion;
 use resolver_fetch::fetcher::Fetcher;
@@ -187,67 +184,5 @@ fn account<K: Ord + Drop, P: Ord + Drop, S: Drop>(
         }
         Outcome::Unresolved => Ok(()),
         Outcome::Ignored => Ok(()),
-    }
-}
-
-/// Hands the cached response out once more, accepted or as it was.
-fn hand_out_again<K: Ord + Clone + Drop, P: Clone + Drop, S: Clone + Drop>(
-    entries: &mut Inflight<K, P, S>,
-    delivery: Delivery<K, S>,
-    accepted: bool,
-    effects: &mut Vec<Effect<K, P, S>>,
-) -> Result<(), Fault>
-    requires cached { IsSome (response_of K.cmp entries.old delivery.key) }
-    requires idle { number_of K.cmp entries.old delivery.key ≡ None }
-    requires keys_clone { (x y : K) → K.is_clone x y → y ≡ x }
-    requires peers_clone { (x y : P) → P.is_clone x y → y ≡ x }
-    requires subscribers_clone { (x y : S) → S.is_clone x y → y ≡ x }
-    ensures told { OnOk result (IfSome (response_of K.cmp entries.old delivery.key) (λ r.
-        effects.new.items ≡ effects.old.items
-        ++ Deliver entries.old.next r.name delivery r.value ∷ [])) }
-    ensures ok { OnOk result
-        (entries.new ≡ handed_again K.cmp delivery accepted entries.old) }
-    ensures room { OnOk result (entries.old.next < 2 ^ 64) }
-    ensures only { IfErr result (IsRefusal entries.old.next) }
-{
-    note_accepted(entries, &delivery.key, accepted);
-    let Some(response) = entries.response(&delivery.key) else {
-        unreachable!()
-    };
-    let name = response.name;
-    let (told, value) = match copies(&delivery, &response.value) {
-        Ok(copies) => copies,
-        Err(fault) => {
-            drop(delivery);
-            return Err(fault);
-        }
-    };
-    let number = match entries.redeliver(delivery) {
-        Ok(number) => number,
-        Err(fault) => {
-            drop((told, value));
-            return Err(fault);
-        }
-    };
-    effects.push(Effect::Deliver {
-        number,
-        response: name,
-        delivery: told,
-        value,
-    })?;
-    Ok(())
-}
-
-/// Notes that a key's cached response is right, if it is.
-fn note_accepted<K: Ord + Drop, P: Drop, S: Drop>(
-    entries: &mut Inflight<K, P, S>,
-    key: &K,
-    accepted: bool,
-)
-    requires cached { IsSome (response_of K.cmp entries.old key.now) }
-    ensures { entries.new ≡ flagged K.cmp accepted key.now entries.old }
-{
-    if accepted {
-        entries.accept_response(key);
     }
 }

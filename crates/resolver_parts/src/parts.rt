@@ -1,14 +1,14 @@
 //! The parts of the engine: who wants what, what is judged, and what is asked for.
 
-ghost use Rattle.std.specs.Prelude.{◌≡◌, None, false, is_some, IfErr, OnOk, OnErr};
+ghost use Rattle.std.specs.Prelude.{◌≡◌, None, false, is_some, IfErr, OnOk};
 ghost use Rattle.resolver_base.specs.declared.base.fault.Fault.TheVariants.{OutOfMemory};
 ghost use Rattle.resolver_fetch.specs.Fetcher.{IsTimely};
 ghost use Rattle.resolver_peer.specs.Parties.{parties};
 ghost use Rattle.resolver_peer.specs.Peer.{Machine, opening, peer_set, block};
 ghost use Rattle.resolver_parts.specs.Tied.{Agrees};
 
-use crate::inflight::Inflight;
-use crate::serving::OpenServe;
+use resolver_acts::inflight::Inflight;
+use resolver_acts::serving::OpenServe;
 use resolver_base::base::{Fault, Numbers};
 use resolver_demand::delivery::Entries;
 use resolver_demand::subscribers::Tracker;

@@ -1,20 +1,19 @@
 //! What a scan does to the parts.
 
-ghost use Rattle.std.specs.Prelude.{◌≡◌, ◌<◌, ◌^◌, ◌++◌, false, true, not, None, Ok, Err, Some, is_some, map, option_map, IfErr, OnOk};
-ghost use Rattle.std.specs.Option.{option_to_list};
+ghost use Rattle.std.specs.Prelude.{◌≡◌, ◌<◌, ◌^◌, false, true, not, None, Ok, Err, Some, is_some, IfErr};
 ghost use Rattle.resolver_base.specs.declared.base.fault.Fault.TheVariants.{OutOfMemory};
 ghost use Rattle.resolver_trying.specs.Scan.{is_over};
 ghost use Rattle.resolver_peer.specs.Parties.{parties};
 ghost use Rattle.resolver_peer.specs.Peer.{Machine, active_deadline, is_due, scanned, wake_up};
-ghost use Rattle.resolver_peer.specs.declared.effects.Effect.TheVariants as told;
 ghost use Rattle.resolver_parts.specs.Answering.{Answered};
 ghost use Rattle.resolver_parts.specs.Going.{Goes};
 ghost use Rattle.resolver_parts.specs.Said.{codec};
 ghost use Rattle.resolver_parts.specs.Tied.{Agrees};
 
 use crate::parts::Parts;
+use resolver_acts::asking::tell_asked;
 use resolver_base::base::{Fault, Span};
-use resolver_fetch::fetcher::{Answer, Ask};
+use resolver_fetch::fetcher::Answer;
 use resolver_peer::effects::Effect;
 
 impl<K: Ord + Drop, P: Ord + Drop, S: Ord + Drop> Parts<K, P, S> {
@@ -90,19 +89,4 @@ impl<K: Span + Drop, P: Ord + Clone + Drop, S: Ord + Drop> Parts<K, P, S> {
         let asked = self.fetcher.scan_answer(answer)?;
         tell_asked(effects, asked)
     }
-}
-
-/// Tells what a scan asks, if it asks something.
-fn tell_asked<K: Drop, P: Drop, S: Drop>(
-    effects: &mut Vec<Effect<K, P, S>>,
-    asked: Option<Ask<K, P>>,
-) -> Result<(), Fault>
-    ensures ok { OnOk result (effects.new.items
-        ≡ effects.old.items ++ option_to_list (option_map told.Ask asked)) }
-    ensures only { IfErr result (λ fault. fault ≡ OutOfMemory) }
-{
-    if let Some(ask) = asked {
-        effects.push(Effect::Ask(ask))?;
-    }
-    Ok(())
 }

@@ -1,66 +1,20 @@
 //! What peers ask for: their requests go to the producer, and what it has goes back to them.
 
-ghost use Rattle.std.specs.Prelude.{◌≡◌, ◌==◌, Some, Err, false, is_none, IfErr, IfOk};
+ghost use Rattle.std.specs.Prelude.{◌≡◌, ◌==◌, Some, Err, false, is_none, IfErr};
 ghost use Rattle.std.specs.Map.{lookup};
 ghost use Rattle.resolver_base.specs.declared.base.fault.Fault.TheVariants.{OutOfMemory};
-ghost use Rattle.resolver_request.specs.Spelling.{IsShort, spelling};
 ghost use Rattle.resolver_peer.specs.Parties.{parties};
-ghost use Rattle.resolver_peer.specs.Peer.{Machine, payload_of, produce, served};
+ghost use Rattle.resolver_peer.specs.Peer.{Machine, produce, served};
 ghost use Rattle.resolver_parts.specs.Going.{Goes};
 ghost use Rattle.resolver_parts.specs.Said.{codec};
 ghost use Rattle.resolver_parts.specs.Tied.{Agrees};
 
 use crate::parts::Parts;
-use bytes::{Bytes, BytesMut};
+use bytes::Bytes;
+use resolver_acts::serving::{OpenServe, reply};
 use resolver_base::base::{Fault, Span};
-use resolver_fetch::fetcher::elapsed_since;
 use resolver_peer::effects::Effect;
 use resolver_peer::named::Serve;
-use resolver_request::wire::{Message, Payload};
-use std::alloc::Global;
-use std::marker::Model;
-
-/// A peer's request that the producer has, and when it came. Contracts see the request alone.
-pub struct OpenServe<P> {
-    serve: Serve<P>,
-    start: u128,
-}
-
-impl<P> Model for OpenServe<P> {
-    ghost use Rattle.resolver_peer.specs.declared.named.Serve.{Serve};
-
-    ghost Value = { Serve P };
-
-    ghost view = { λ a. a.serve };
-}
-
-impl<P: Drop> Drop for OpenServe<P> {
-    fn drop(self) {
-        let Self { serve: _, start: _ } = self;
-    }
-}
-
-impl<P: Drop> OpenServe<P> {
-    /// The request came now.
-    fn new(serve: Serve<P>, now: u128) -> Self
-        ensures { result ≡ serve }
-    {
-        OpenServe { serve, start: now }
-    }
-
-    /// The request.
-    fn into_serve(self) -> Serve<P>
-        ensures { result ≡ self }
-    {
-        let Self { serve, start: _ } = self;
-        serve
-    }
-
-    /// How many nanoseconds ago it came.
-    pub fn elapsed_until(&self, now: u128) -> u128 {
-        elapsed_since(self.start, now)
-    }
-}
 
 impl<K: Span + Drop, P: Ord + Drop, S: Ord + Drop> Parts<K, P, S> {
     /// Hands a peer's request to the producer, under the next number. There is none once
@@ -112,31 +66,5 @@ impl<K: Span + Drop, P: Ord + Drop, S: Ord + Drop> Parts<K, P, S> {
             priority: self.priority_responses,
         })?;
         Ok(())
-    }
-}
-
-/// The bytes of a reply to the request with this id.
-fn reply<K: Span + Drop>(alloc: Global, id: u64, value: Option<Bytes>) -> Result<Bytes, Fault>
-    ensures bytes { IfOk result
-        (λ bytes. bytes ≡ spelling K.bytes_of (record { id = id; payload = payload_of value })) }
-    ensures only { IfErr result (λ fault. fault ≡ OutOfMemory) }
-{
-    let message = Message::<K> {
-        id,
-        payload: payload_of(value),
-    };
-    let mut out = BytesMut::with_capacity(alloc, message.encode_size())?;
-    message.write(&mut out)?;
-    Ok(out.freeze()?)
-}
-
-/// The bytes, or word that there are none, also where they are too many for one message.
-fn payload_of<K: Drop>(value: Option<Bytes>) -> Payload<K>
-    ensures payload { result ≡ payload_of value }
-    ensures short { IsShort result }
-{
-    match value {
-        Some(bytes) if bytes.len() <= u32::MAX as usize => Payload::Response(bytes),
-        _ => Payload::Error,
     }
 }

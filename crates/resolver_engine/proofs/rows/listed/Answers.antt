@@ -4,7 +4,7 @@ use Rattle.resolver_peer.specs.Parties.{orders_of, parties}
 use Rattle.resolver_peer.specs.Peer.{row_of}
 use Rattle.resolver_engine.specs.declared.rows.Row.{Row as ListedRow}
 use Rattle.resolver_engine.specs.Listed.{listed, listed_phase}
-use Rattle.resolver_parts.proofs.Refusals.{refused, refused-as}
+use Rattle.resolver_acts.proofs.Refusals.{refused, refused-as}
 use Rattle.resolver_engine.proofs.Shown.{if-some, retries-shown, some-at}
 use Rattle.resolver_engine.proofs.rows.listed.Goals as goal
 

@@ -3,7 +3,7 @@ use Rattle.resolver_demand.specs.Rows.{AreListed}
 use Rattle.resolver_peer.specs.Parties.{parties}
 use Rattle.resolver_peer.specs.Peer.{row_of}
 use Rattle.resolver_engine.specs.Listed.{listed}
-use Rattle.resolver_parts.proofs.Refusals.{refused, refused-as}
+use Rattle.resolver_acts.proofs.Refusals.{refused, refused-as}
 use Rattle.resolver_engine.proofs.Shown.{Lists, listed-once, listed-ordered, lists-all, lists-none, next-of, some-at, there-wanted}
 use Rattle.resolver_engine.proofs.rows.rows.Goals as goal
 

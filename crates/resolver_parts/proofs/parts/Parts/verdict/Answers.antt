@@ -1,4 +1,4 @@
-use Rattle.std.proofs.Common.{◌≡◌, refl, ap, sym, ◌∙◌, subst, ◌++◌, true, false}
+use Rattle.std.proofs.Common.{refl, ap, sym, ◌∙◌, subst, ◌++◌, true, false}
 use Rattle.std.specs.Prelude.{not}
 use Rattle.resolver_root.specs.declared.root.Delivery.{Delivery}
 use Rattle.resolver_machine.specs.Verdicts.{ruling}
@@ -7,8 +7,8 @@ use Rattle.resolver_peer.specs.Peer.{Open, ruled}
 use Rattle.resolver_parts.specs.Going.{Goes}
 use Rattle.resolver_parts.specs.Ruled.{Names, earned, paid}
 use Rattle.resolver_parts.proofs.Fails.{over}
-use Rattle.resolver_parts.proofs.Verdicts.{Opened, aborted-goes, accounted, dead-goes, handed, live-goes, live-tied, opened, opened-some, paid-closed}
-use Rattle.resolver_parts.proofs.Refusals.{done, refused-with}
+use Rattle.resolver_parts.proofs.Verdicts.{aborted-goes, accounted, dead-goes, handed, live-goes, live-tied, opened, opened-some, paid-closed}
+use Rattle.resolver_acts.proofs.Refusals.{done, refused-with}
 use Rattle.resolver_parts.proofs.parts.Parts.verdict.Goals as goal
 
 pub returns-in_default-clause-goes : goal.returns-in_default-clause-goes

@@ -1,6 +1,6 @@
 use Rattle.std.proofs.Common.{◌≡◌, ◌++◌}
-use Rattle.resolver_parts.specs.Canceled.{all_canceled}
-use Rattle.resolver_parts.proofs.retaining.cancel_all.Given as goal
+use Rattle.resolver_acts.specs.Canceled.{all_canceled}
+use Rattle.resolver_acts.proofs.canceling.cancel_all.Given as goal
 
 -- the effects so far, with what the keys that are left call off
 abbrev pub invariant-loop-entry : goal.invariant-loop-entry

@@ -1,6 +1,6 @@
 use Rattle.std.proofs.Common.{◌≡◌, ◌++◌, drop}
-use Rattle.resolver_parts.specs.Canceled.{each_canceled}
-use Rattle.resolver_parts.proofs.retaining.cancel_each.Given as goal
+use Rattle.resolver_acts.specs.Canceled.{each_canceled}
+use Rattle.resolver_acts.proofs.canceling.cancel_each.Given as goal
 
 -- the effects so far, with what the keys that are left call off
 abbrev pub invariant-loop-key : goal.invariant-loop-key

@@ -3,7 +3,7 @@ use Rattle.std.proofs.Common.{◌≡◌, refl, ap, ℕ, ◌^◌, Bool, true, fal
 use Rattle.std.specs.Prelude.{IfErr, IfOk, IsErrAnd, nat_lt}
 use Rattle.resolver_base.specs.declared.base.fault.Fault.TheVariants.{OutOfMemory, Exhausted}
 use Rattle.resolver_demand.specs.Entries.{refusal_at}
-use Rattle.resolver_parts.specs.Going.{IsRefusal}
+use Rattle.resolver_acts.specs.Again.{IsRefusal}
 
 module _ {T E : Type 0} where
   -- whatever is said of a value holds where there is none

@@ -1,16 +1,14 @@
 -- What entries have of a key whose response is cached.
-use Rattle.std.proofs.Common.{◌≡◌, refl, ap, sym, ◌∙◌, ℕ, ◌+◌, Bool, true, false, cond, List, [], ◌∷◌, Option, None, Some}
+use Rattle.std.proofs.Common.{◌≡◌, refl, ap, sym, ◌∙◌, Bool, true, false, cond, List, [], ◌∷◌, Option, None, Some}
 use Rattle.std.specs.Prelude.{IsSome, if◌then◌else◌}
 use Rattle.std.specs.Option.{option_map, option_and_then}
 use Rattle.std.specs.Map.{lookup, set_value}
-use Rattle.std.specs.BTreeMap.{insert_entry, is_at}
-use Rattle.std.specs.Ordering.{nat_cmp}
+use Rattle.std.specs.BTreeMap.{is_at}
 use Rattle.std.specs.declared.cmp.Ordering.{Ordering}
-use Rattle.resolver_root.specs.declared.root.Delivery.{Delivery}
 use Rattle.resolver_demand.specs.declared.delivery.entry.Entry.{Entry}
 use Rattle.resolver_demand.specs.declared.delivery.entry.Response.{Response}
-use Rattle.resolver_demand.specs.Entries.{Numbered, accepted, begun_again, changed_at, entry_of, number_of, numbered, redelivered, response_changed, response_of, with_response}
-use Rattle.resolver_parts.specs.Ruled.{flagged, handed_again}
+use Rattle.resolver_demand.specs.Entries.{Numbered, accepted, changed_at, entry_of, number_of, response_changed, response_of, with_response}
+use Rattle.resolver_acts.specs.Again.{flagged}
 
 lookup-set : {K X : Type 0} (test : K → Bool) (es : List (K × X)) (v w : X) → lookup test es ≡ Some v → lookup test (set_value test es w) ≡ Some w
 lookup-set test [] v w found = absurd cc

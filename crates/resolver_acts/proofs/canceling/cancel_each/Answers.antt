@@ -2,10 +2,10 @@ use Rattle.std.proofs.Common.{◌≡◌, ◌∙◌, ap, refl, sym, ℕ, ◌+◌,
 use Rattle.std.proofs.lemmas.List.{drop_all}
 use Rattle.std.specs.List.{cons_option, filter_map}
 use Rattle.resolver_demand.specs.Entries.{number_of}
-use Rattle.resolver_parts.specs.Canceled.{canceled, each_canceled}
-use Rattle.resolver_parts.proofs.Refusals.{refused, refused-as}
-use Rattle.resolver_parts.proofs.retaining.cancel_each.Goals as goal
-use Rattle.resolver_parts.proofs.retaining.cancel_each.Goals.{in-Some+in_ok-push, in_default}
+use Rattle.resolver_acts.specs.Canceled.{canceled, each_canceled}
+use Rattle.resolver_acts.proofs.Refusals.{refused, refused-as}
+use Rattle.resolver_acts.proofs.canceling.cancel_each.Goals as goal
+use Rattle.resolver_acts.proofs.canceling.cancel_each.Goals.{in-Some+in_ok-push, in_default}
 
 -- what is told of the next of some is told before what is told of the others
 told-next : {X Y : Type 0} (f : X → Option Y) (xs : List X) (i : ℕ) (x : X) (before after all : List Y) → i < length xs → x ≡ get_or xs i x

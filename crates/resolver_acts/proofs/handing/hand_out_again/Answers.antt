@@ -1,9 +1,9 @@
 use Rattle.std.proofs.Common.{◌≡◌, refl, ap, ◌∙◌, subst, ◌<◌, ◌^◌, None, Some, rules}
 use Rattle.std.specs.Prelude.{IsSome}
 use Rattle.resolver_demand.specs.Entries.{redelivered, refusal_at, response_of}
-use Rattle.resolver_parts.proofs.Cached.{caches-some, flagged-next, flagged-number, flagged-response, noted, noted-name, noted-value, response-is}
-use Rattle.resolver_parts.proofs.Refusals.{refusal-is, refused, refused-as}
-use Rattle.resolver_parts.proofs.judging.hand_out_again.Goals as goal
+use Rattle.resolver_acts.proofs.Cached.{caches-some, flagged-next, flagged-number, flagged-response, noted, noted-name, noted-value, response-is}
+use Rattle.resolver_acts.proofs.Refusals.{refused, refused-as, refusal-is}
+use Rattle.resolver_acts.proofs.handing.hand_out_again.Goals as goal
 
 none-some : {X : Type 0} (x : X) → None ≡ Some x → ⊥
 none-some x same = cc

@@ -1,8 +1,8 @@
 use Rattle.std.proofs.Common.{◌≡◌, ◌∙◌, ap, sym, List, [], ◌∷◌, ◌++◌, append-nil, append_assoc, Option, None, Some}
 use Rattle.std.specs.List.{cons_option}
-use Rattle.resolver_parts.specs.Canceled.{all_canceled, canceled}
-use Rattle.resolver_parts.proofs.Refusals.{refused, refused-as}
-use Rattle.resolver_parts.proofs.retaining.cancel_all.Goals as goal
+use Rattle.resolver_acts.specs.Canceled.{all_canceled, canceled}
+use Rattle.resolver_acts.proofs.Refusals.{refused, refused-as}
+use Rattle.resolver_acts.proofs.canceling.cancel_all.Goals as goal
 
 -- what is told of the next key is told before what is told of the others
 told-next : {Y : Type 0} (o : Option Y) (before after rest all : List Y) → before ++ cons_option o rest ≡ all → after ≡ before ++ cons_option o [] → after ++ rest ≡ all

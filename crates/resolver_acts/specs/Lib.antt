@@ -1,0 +1,3 @@
+pub mod Aiming
+pub mod Again
+pub mod Canceled
