@@ -1,10 +1,9 @@
 //! The opaque actor with many keys: each is fetched for four subscribers, answered, and completed.
 
 use crate::fault::Fault;
-use crate::spent::{Driven, Kind, take_each};
-use crate::workload::{All, alone, listed, scattered};
+use crate::spent::{Driven, Kind, Load, Steps, Times, drive};
+use crate::workload::{All, fetch, listed, scattered};
 use resolver_actor::opaque::{Actor, Event, Input};
-use resolver_ingress::ingress::FetchKey;
 use resolver_root::{Outcome, Resolution};
 use std::alloc::Global;
 use std::rt::Clock;
@@ -12,34 +11,21 @@ use std::rt::Clock;
 /// The subscribers of each key.
 const SUBSCRIBERS: u16 = 4;
 
-/// The steps that are taken for each key.
-const KINDS: &[Kind] = &[Kind::Fetch, Kind::Answer, Kind::Complete];
+/// The steps that are taken for each key, and the end.
+const STEPS: &[Steps] = &[
+    Steps(Kind::Fetch, Times::Keys, "fetch", "effects"),
+    Steps(Kind::Answer, Times::Keys, "answer", "effects"),
+    Steps(Kind::Complete, Times::Keys, "complete", "effects"),
+    Steps(Kind::End, Times::Just(1), "end", "effects"),
+];
 
 type Worker = Actor<u64, u64, u16, All>;
 
 type Step = Event<u64, u64, u16, All>;
 
 /// Takes every key through the actor, and ends it.
-pub fn run(
-    rt: &(impl AllocGlobal + Clock + Print),
-    size: u64,
-    with_time: bool,
-) -> Result<(), Fault> {
-    let mut actor = Actor::new(rt.alloc(), 0);
-    let taken = take_every(rt, &mut actor, size, with_time);
-    drop(actor);
-    taken
-}
-
-/// Takes steps of every kind.
-fn take_every(
-    rt: &(impl AllocGlobal + Clock + Print),
-    actor: &mut Worker,
-    size: u64,
-    with_time: bool,
-) -> Result<(), Fault> {
-    take_each(rt, actor, KINDS, size, with_time)?;
-    take_each(rt, actor, &[Kind::End], 1, with_time)
+pub fn run(rt: &(impl AllocGlobal + Clock + Print), load: &Load) -> Result<(), Fault> {
+    drive(rt, Actor::new(rt.alloc(), 0), STEPS, load)
 }
 
 impl Driven for Worker {
@@ -61,12 +47,8 @@ impl Driven for Worker {
 fn event_of(alloc: Global, kind: Kind, i: u64) -> Result<Step, Fault> {
     Ok(match kind {
         Kind::Fetch => {
-            let fetch = FetchKey {
-                key: scattered(i),
-                subscribers: listed(alloc, SUBSCRIBERS)?,
-                metadata: (),
-            };
-            Event::Fetch(alone(alloc, fetch)?)
+            let subscribers = listed(alloc, SUBSCRIBERS)?;
+            Event::Fetch(fetch(alloc, scattered(i), subscribers, ())?)
         }
         Kind::Answer => Event::Fetched {
             attempt: i,

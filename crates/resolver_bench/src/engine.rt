@@ -3,15 +3,14 @@
 
 use crate::fault::Fault;
 use crate::name::Name;
-use crate::spent::{Driven, Kind, take_each};
-use crate::workload::{All, CONFIG, alone, listed, named};
+use crate::spent::{Driven, Kind, Load, Steps, Times, drive};
+use crate::workload::{All, CONFIG, Peer, fetch, listed, named};
 use bytes::Bytes;
 use resolver_base::base::Check;
 use resolver_engine::effects::Effect;
 use resolver_engine::engine::Core;
 use resolver_engine::inputs::{Event, Happening, Input};
 use resolver_fetch::fetcher::{Answer, Ask};
-use resolver_ingress::ingress::FetchKey;
 use resolver_root::{Outcome, Resolution};
 use std::alloc::Global;
 use std::rt::Clock;
@@ -19,66 +18,44 @@ use std::rt::Clock;
 /// The subscribers of each key.
 const SUBSCRIBERS: u16 = 4;
 
-/// The steps that are taken for each key once no peer is blocked.
-const KINDS: &[Kind] = &[Kind::Ask, Kind::Answer, Kind::Complete];
+/// The steps that are taken for each key.
+const STEPS: &[Steps] = &[
+    Steps(Kind::Wait, Times::Keys, "wait", "effects"),
+    Steps(Kind::Ask, Times::Keys, "ask", "effects"),
+    Steps(Kind::Answer, Times::Keys, "answer", "effects"),
+    Steps(Kind::Complete, Times::Keys, "complete", "effects"),
+];
 
 /// More than a scan asks before its first request is taken.
 const ASKS: u64 = 8;
 
-type Engine = Core<Name, u16, u16, All>;
+type Engine = Core<Name, Peer, u16, All>;
 
-type Step = Event<Name, u16, u16, All>;
+type Step = Event<Name, Peer, u16, All>;
 
-type Told = Vec<Effect<Name, u16, u16>>;
+type Told = Vec<Effect<Name, Peer, u16>>;
 
-/// Takes every key through an engine that knows this many peers.
-pub fn run(
-    rt: &(impl AllocGlobal + Clock + Print),
-    size: u64,
-    peers: u16,
-    with_time: bool,
-) -> Result<(), Fault> {
-    let mut engine = Core::new(rt.alloc(), CONFIG, false);
-    let taken = take_every(rt, &mut engine, size, peers, with_time);
-    drop(engine);
-    taken
-}
-
-/// Takes events of every kind through an engine: while all its peers are blocked the keys only wait.
-fn take_every(
-    rt: &(impl AllocGlobal + Clock + Print),
-    engine: &mut Engine,
-    size: u64,
-    peers: u16,
-    with_time: bool,
-) -> Result<(), Fault> {
-    block_all(rt.alloc(), engine, peers)?;
-    take_each(rt, engine, &[Kind::Wait], size, with_time)?;
-    block(engine, Vec::new(rt.alloc()))?;
-    take_each(rt, engine, KINDS, size, with_time)
-}
-
-/// The engine knows this many peers, and all are blocked.
-fn block_all(alloc: Global, engine: &mut Engine, peers: u16) -> Result<(), Fault> {
-    let known = named(alloc, peers)?;
-    know(engine, known)?;
-    let blocked = named(alloc, peers)?;
-    block(engine, blocked)
-}
-
-/// The engine knows these peers.
-fn know(engine: &mut Engine, peers: Vec<u16>) -> Result<(), Fault> {
-    take(engine, Event::PeerSet { index: 0, peers })?;
-    Ok(())
-}
-
-/// These peers are blocked, and no other.
-fn block(engine: &mut Engine, peers: Vec<u16>) -> Result<(), Fault> {
-    take(engine, Event::Blocked(peers))?;
-    Ok(())
+/// Takes every key through an engine.
+pub fn run(rt: &(impl AllocGlobal + Clock + Print), load: &Load) -> Result<(), Fault> {
+    drive(rt, Core::new(rt.alloc(), CONFIG, false), STEPS, load)
 }
 
 impl Driven for Engine {
+    /// The engine knows all peers, and all are blocked while the keys wait. Then none is.
+    fn prepare(&mut self, alloc: Global, kind: Kind, load: &Load) -> Result<(), Fault> {
+        let blocked = match kind {
+            Kind::Wait => {
+                let peers = named(alloc, 0, load.peers)?;
+                take(self, Event::PeerSet { index: 0, peers })?;
+                named(alloc, 0, load.peers)?
+            }
+            Kind::Ask => Vec::new(alloc),
+            _ => return Ok(()),
+        };
+        take(self, Event::Blocked(blocked))?;
+        Ok(())
+    }
+
     /// It counts the effects.
     fn take(&mut self, alloc: Global, kind: Kind, i: u64) -> Result<u64, Fault> {
         take(self, event_of(alloc, kind, i)?)
@@ -103,7 +80,7 @@ fn take(engine: &mut Engine, event: Step) -> Result<u64, Fault> {
 /// Takes one input. It counts the effects, and has the answer to what they ask.
 fn step(
     engine: &mut Engine,
-    input: Input<Name, u16, u16, All>,
+    input: Input<Name, Peer, u16, All>,
 ) -> Result<(u64, Option<Answer>), Fault> {
     match engine.step(input) {
         Ok(told) => {
@@ -130,16 +107,12 @@ fn answer_to(told: &Told) -> Option<Answer> {
 fn event_of(alloc: Global, kind: Kind, i: u64) -> Result<Step, Fault> {
     Ok(match kind {
         Kind::Wait => {
-            let fetch = FetchKey {
-                key: Name::scattered(i),
-                subscribers: listed(alloc, SUBSCRIBERS)?,
-                metadata: None,
-            };
-            Event::Fetch(alone(alloc, fetch)?)
+            let subscribers = listed(alloc, SUBSCRIBERS)?;
+            Event::Fetch(fetch(alloc, Name::scattered(i), subscribers, None)?)
         }
         Kind::Ask => Event::PendingDue,
         Kind::Answer => Event::Net {
-            peer: 0,
+            peer: Peer(0),
             bytes: response(alloc, i)?,
         },
         _ => Event::Verdict {
@@ -151,8 +124,7 @@ fn event_of(alloc: Global, kind: Kind, i: u64) -> Result<Step, Fault> {
 
 /// A response of one byte to the request of this id.
 fn response(alloc: Global, id: u64) -> Result<Bytes, Fault> {
-    let mut bytes = Vec::with_capacity(alloc, 11)?;
-    bytes.extend_from_slice(&id.to_be_bytes())?;
-    bytes.extend_from_slice(&[1, 1, 0])?;
+    let [a, b, c, d, e, f, g, h] = id.to_be_bytes();
+    let bytes = Vec::from_slice(alloc, &[a, b, c, d, e, f, g, h, 1, 1, 0])?;
     Ok(Bytes::from_vec(bytes)?)
 }

@@ -55,3 +55,11 @@ impl From<resolver_base::base::Fault> for Fault {
         Fault::Refused
     }
 }
+
+/// The same of what a part answers.
+pub fn done(answered: Result<(), resolver_base::base::Fault>) -> Result<(), Fault> {
+    match answered {
+        Ok(()) => Ok(()),
+        Err(fault) => Err(fault.into()),
+    }
+}

@@ -1,14 +1,18 @@
 //! An index of as many weights as there are peers: it is made, places are drawn, and weights are set.
 
 use crate::fault::Fault;
-use crate::spent::{Driven, Kind, take_each};
+use crate::spent::{Driven, Kind, Load, Steps, Times, drive};
 use crate::workload::scattered;
 use resolver_request::sampling::WeightedIndex;
 use std::alloc::Global;
 use std::rt::Clock;
 
-/// How often the index is made.
-const MADE: u64 = 16;
+/// The steps that are taken.
+const STEPS: &[Steps] = &[
+    Steps(Kind::Index, Times::Just(16), "index", "places"),
+    Steps(Kind::Pick, Times::Keys, "pick", "places"),
+    Steps(Kind::Set, Times::Keys, "set", "places"),
+];
 
 /// An index, and the weights that it was made of.
 struct Choices {
@@ -25,34 +29,13 @@ impl Drop for Choices {
     }
 }
 
-/// Takes an index of so many places through so many draws and weights.
-pub fn run(
-    rt: &(impl AllocGlobal + Clock + Print),
-    size: u64,
-    places: u16,
-    with_time: bool,
-) -> Result<(), Fault> {
-    let weights = weights(rt.alloc(), places)?;
+/// Takes an index of as many places as there are peers through draws and weights.
+pub fn run(rt: &(impl AllocGlobal + Clock + Print), load: &Load) -> Result<(), Fault> {
+    let weights = weights(rt.alloc(), load.peers)?;
     match WeightedIndex::new(rt.alloc(), &weights) {
-        Ok(index) => {
-            let mut choices = Choices { weights, index };
-            let taken = take_every(rt, &mut choices, size, with_time);
-            drop(choices);
-            taken
-        }
+        Ok(index) => drive(rt, Choices { weights, index }, STEPS, load),
         Err(fault) => Err(fault.into()),
     }
-}
-
-/// The same of an index that is lent.
-fn take_every(
-    rt: &(impl AllocGlobal + Clock + Print),
-    choices: &mut Choices,
-    size: u64,
-    with_time: bool,
-) -> Result<(), Fault> {
-    take_each(rt, choices, &[Kind::Index], MADE, with_time)?;
-    take_each(rt, choices, &[Kind::Pick, Kind::Set], size, with_time)
 }
 
 /// So many weights that differ.

@@ -2,32 +2,37 @@
 //! and then all that waits is taken.
 
 use crate::fault::Fault;
-use crate::spent::{Driven, Kind, Spent, take_each};
-use crate::workload::{All, alone, listed, scattered};
-use futures::StreamExt;
-use futures::executor::block_on;
+use crate::spent::{Driven, Kind, Load, Steps, Times, take_each, tell};
+use crate::workload::{All, fetch, scattered};
+use futures::{FutureExt, StreamExt};
+use resolver_base::base;
 use resolver_base::base::Feedback;
-use resolver_ingress::ingress::{FetchKey, Message};
-use resolver_mailbox::mailbox::{self, Receiver, Sender, Unrecorded};
+use resolver_ingress::ingress::Message;
+use resolver_mailbox::mailbox::{self, Naming, Receiver, Sender, Unrecorded};
+use resolver_root::NonEmptyVec;
 use std::alloc::Global;
 use std::random::RandomSource;
 use std::rt::Clock;
 use std::sync::Wait;
 use std::time::Instant;
 
-type Putter<R> = Sender<u64, u16, (), All, Unrecorded, R>;
+/// The steps that are taken. What waits then is taken by itself.
+const STEPS: &[Steps] = &[Steps(Kind::Put, Times::Keys, "put", "fetches")];
 
-type Taker<R> = Receiver<u64, u16, (), All, Unrecorded, R>;
+/// A handle that puts: `N` names the mailbox.
+pub type Putter<N, R> = Sender<u64, u16, (), All, N, R>;
+
+/// The end that takes.
+pub type Taker<N, R> = Receiver<u64, u16, (), All, N, R>;
 
 /// Puts a fetch of each key, closes the mailbox, and takes what waits.
 pub fn run<R: AllocGlobal + Clock + Print + Wait + RandomSource + Copy + Drop>(
     rt: R,
-    size: u64,
-    with_time: bool,
+    load: &Load,
 ) -> Result<(), Fault> {
     match mailbox::new(rt, rt.alloc(), 1) {
         Ok((mut sender, mut receiver)) => {
-            let taken = put_and_take(&rt, &mut sender, &mut receiver, size, with_time);
+            let taken = put_and_take(&rt, &mut sender, &mut receiver, load);
             drop(sender);
             drop(receiver);
             taken
@@ -39,61 +44,65 @@ pub fn run<R: AllocGlobal + Clock + Print + Wait + RandomSource + Copy + Drop>(
 /// The same of a mailbox that is lent.
 fn put_and_take<R: AllocGlobal + Clock + Print + Wait + RandomSource + Drop>(
     rt: &R,
-    sender: &mut Putter<R>,
-    receiver: &mut Taker<R>,
-    size: u64,
-    with_time: bool,
+    sender: &mut Putter<Unrecorded, R>,
+    receiver: &mut Taker<Unrecorded, R>,
+    load: &Load,
 ) -> Result<(), Fault> {
-    take_each(rt, sender, &[Kind::Put], size, with_time)?;
+    take_each(rt, sender, STEPS, load)?;
     sender.close();
-    take_waiting(rt, receiver)?.print(rt, with_time)
+    let began = Instant::now(rt).ok();
+    let taken = take_waiting(rt, receiver)?;
+    tell(rt, load, began, ("take", "fetches"), taken)
 }
 
-impl<R: Wait + Drop> Driven for Putter<R> {
+impl<R: Wait + Drop> Driven for Putter<Unrecorded, R> {
     /// Puts a fetch of a key. It counts a put that was not refused.
     fn take(&mut self, alloc: Global, _: Kind, i: u64) -> Result<u64, Fault> {
-        let fetch = FetchKey {
-            key: scattered(i),
-            subscribers: listed(alloc, 1)?,
-            metadata: (),
-        };
-        let feedback = self.enqueue(Message::Fetch(alone(alloc, fetch)?))?;
+        let feedback = put(alloc, self, scattered(i), (0, 0))?;
         Ok(u64::from(feedback != Feedback::Closed))
     }
 }
 
-/// Takes all messages, and counts their fetches.
-fn take_waiting<R: AllocGlobal + Clock + Wait + RandomSource + Drop>(
+/// Puts a fetch of a key for a subscriber with its mark.
+pub fn put<N: Naming, R: Wait>(
+    alloc: Global,
+    handle: &mut Putter<N, R>,
+    key: u64,
+    subscriber: (u16, u64),
+) -> Result<Feedback, base::Fault> {
+    let subscribers = NonEmptyVec::new(alloc, subscriber)?;
+    let items = fetch(alloc, key, subscribers, ())?;
+    handle.enqueue(Message::Fetch(items))
+}
+
+/// Takes all messages, and counts them and their fetches.
+#[inline(never)]
+fn take_waiting<R: AllocGlobal + Wait + RandomSource + Drop>(
     rt: &R,
-    receiver: &mut Taker<R>,
-) -> Result<Spent, Fault> {
-    let began = Instant::now(rt)?;
+    receiver: &mut Taker<Unrecorded, R>,
+) -> Result<(u64, u64), Fault> {
     let mut steps: u64 = 0;
     let mut counted: u64 = 0;
     for _ in rt.forever() {
-        let Some(count) = take_next(rt, receiver)? else {
-            break;
-        };
+        match taken(rt, receiver)? {
+            Some(message) => counted = counted.saturating_add(fetches(message)),
+            None => break,
+        }
         steps = steps.saturating_add(1);
-        counted = counted.saturating_add(count);
     }
-    Ok(Spent {
-        kind: Kind::Take,
-        steps,
-        counted,
-        nanoseconds: began.elapsed(rt)?.as_nanos(),
-    })
+    Ok((steps, counted))
 }
 
-/// Takes a message, and counts its fetches; nothing once the mailbox has ended.
-fn take_next<R: AllocGlobal + Wait + RandomSource + Drop>(
+/// Takes a message; none where the mailbox has ended, or none is ready.
+pub fn taken<N: Naming, R: AllocGlobal + Wait + RandomSource + Drop>(
     rt: &R,
-    receiver: &mut Taker<R>,
-) -> Result<Option<u64>, Fault> {
-    match block_on(rt, receiver.next())? {
-        Some(Ok(message)) => Ok(Some(fetches(message))),
-        Some(Err(fault)) => Err(fault.into()),
-        None => Ok(None),
+    receiver: &mut Taker<N, R>,
+) -> Result<Option<Message<u64, u16, (), All>>, base::Fault> {
+    match receiver.next().now_or_never(rt) {
+        Ok(Some(Some(Ok(message)))) => Ok(Some(message)),
+        Ok(Some(Some(Err(fault)))) => Err(fault),
+        Ok(_) => Ok(None),
+        Err(_) => Err(base::Fault::OutOfMemory),
     }
 }
 

@@ -21,6 +21,7 @@ mod tracker;
 mod workload;
 
 use fault::Fault;
+use spent::Load;
 use std::env;
 use std::env::Env;
 use std::process::ExitCode;
@@ -36,15 +37,12 @@ const FEW: u64 = 100;
 const PEERS: &[u16] = &[16, 256, 4_096];
 
 /// What is done, by the arguments.
-enum Work {
-    /// The rows, and a few keys through all.
-    Everything,
-    /// The rows alone.
-    Rows,
-    /// So many keys through all.
-    Keys(u64),
-    /// So many keys through what knows peers, with so many of them.
-    Peers(u64, u16),
+struct Work {
+    /// Whether the rows are taken.
+    with_rows: bool,
+    /// What is driven, if anything is: with no peers all that there is, and what knows peers in turn with few and
+    /// with many of them.
+    load: Option<Load>,
 }
 
 fn main(rt: HostRuntime) -> ExitCode {
@@ -60,43 +58,43 @@ fn main(rt: HostRuntime) -> ExitCode {
 fn run<R: AllocGlobal + Clock + Env + Print + Wait + RandomSource + Copy + Drop>(
     rt: &R,
 ) -> Result<(), Fault> {
-    match asked(rt)? {
-        Work::Everything => {
-            refused::run(rt)?;
-            run_all(rt, FEW, false)
-        }
-        Work::Rows => refused::run(rt),
-        Work::Keys(keys) => run_all(rt, keys, true),
-        Work::Peers(keys, peers) => run_peers(rt, keys, peers, true),
+    let Work { with_rows, load } = asked(rt)?;
+    if with_rows {
+        refused::run(rt)?;
+    }
+    match load {
+        None => Ok(()),
+        Some(load) if load.peers > 0 => run_peers(rt, &load),
+        Some(load) => run_all(rt, &load),
     }
 }
 
 /// Drives all, and what knows peers with few and with many of them.
 fn run_all<R: AllocGlobal + Clock + Print + Wait + RandomSource + Copy + Drop>(
     rt: &R,
-    keys: u64,
-    with_time: bool,
+    load: &Load,
 ) -> Result<(), Fault> {
-    actor::run(rt, keys, with_time)?;
-    mailbox::run(*rt, keys, with_time)?;
-    tracker::run(rt, keys, with_time)?;
-    for count in PEERS {
-        run_peers(rt, keys, *count, with_time)?;
+    actor::run(rt, load)?;
+    mailbox::run(*rt, load)?;
+    tracker::run(rt, load)?;
+    for peers in PEERS {
+        run_peers(
+            rt,
+            &Load {
+                peers: *peers,
+                ..*load
+            },
+        )?;
     }
     Ok(())
 }
 
-/// Drives what knows peers, with so many of them.
-fn run_peers(
-    rt: &(impl AllocGlobal + Clock + Print),
-    keys: u64,
-    peers: u16,
-    with_time: bool,
-) -> Result<(), Fault> {
-    println!(rt; "with {peers} peers:")?;
-    engine::run(rt, keys, peers, with_time)?;
-    scans::run(rt, keys, peers, with_time)?;
-    index::run(rt, keys, peers, with_time)
+/// Drives what knows peers.
+fn run_peers(rt: &(impl AllocGlobal + Clock + Print), load: &Load) -> Result<(), Fault> {
+    println!(rt; "with {} peers:", load.peers)?;
+    engine::run(rt, load)?;
+    scans::run(rt, load)?;
+    index::run(rt, load)
 }
 
 /// The work that the arguments ask for.
@@ -106,22 +104,40 @@ fn asked(rt: &(impl AllocGlobal + Env)) -> Result<Work, Fault> {
     let first = arguments.next();
     let second = arguments.next();
     drop(arguments);
-    match first {
-        Some(word) => asked_by(&word, second.as_deref()),
-        None => Ok(Work::Everything),
-    }
+    let work = asked_by(first.as_deref(), second.as_deref());
+    drop(first);
+    drop(second);
+    work
 }
 
-/// The work that a first argument asks for, with the second one where there is one.
-fn asked_by(word: &str, second: Option<&str>) -> Result<Work, Fault> {
+/// The work that the first argument and the second one ask for.
+fn asked_by(first: Option<&str>, second: Option<&str>) -> Result<Work, Fault> {
+    let Some(word) = first else {
+        let load = Load {
+            keys: FEW,
+            peers: 0,
+            with_time: false,
+        };
+        return Ok(Work {
+            with_rows: true,
+            load: Some(load),
+        });
+    };
     if word == "rows" {
-        return Ok(Work::Rows);
+        return Ok(Work {
+            with_rows: true,
+            load: None,
+        });
     }
-    let keys = number(word)?;
-    match second {
-        Some(digits) => Ok(Work::Peers(keys, number(digits)?)),
-        None => Ok(Work::Keys(keys)),
-    }
+    let load = Load {
+        keys: number(word)?,
+        peers: number(second.unwrap_or("0"))?,
+        with_time: true,
+    };
+    Ok(Work {
+        with_rows: false,
+        load: Some(load),
+    })
 }
 
 /// The number that an argument writes.

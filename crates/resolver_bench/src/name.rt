@@ -10,7 +10,7 @@ use resolver_base::base::Span;
 use std::alloc::AllocError;
 
 /// A key of four bytes.
-#[derive(Clone, Copy, PartialEq, Eq, PartialOrd, Ord, Hash)]
+#[derive(Clone, Copy, Debug, PartialEq, Eq, PartialOrd, Ord, Hash)]
 pub struct Name {
     first: u8,
     second: u8,
@@ -39,11 +39,6 @@ impl Name {
             third,
             fourth,
         }
-    }
-
-    /// The number that its bytes are.
-    pub fn number(&self) -> u32 {
-        u32::from_be_bytes([self.first, self.second, self.third, self.fourth])
     }
 }
 

@@ -12,7 +12,6 @@ mod index;
 mod overflow;
 mod part;
 mod post;
-mod spelled;
 
 use crate::fault::Fault;
 use demand::Demand;
@@ -34,43 +33,81 @@ where
     R: AllocGlobal + Print + Wait + RandomSource + Copy + Drop,
 {
     for way in [Way::Compared, Way::GoneOn] {
-        take_parts(rt, rt.alloc(), way)?;
-        take_mailbox(rt, rt.alloc(), way, Pages::new())?;
+        let mut rows = Rows::new(rt, way);
+        take_parts(&mut rows, rt.alloc());
+        take_mailbox(&mut rows, rt.alloc(), Pages::new());
+        rows.printed?;
     }
     Ok(())
 }
 
-/// Takes the rows of the parts that take calls.
-fn take_parts(rt: &impl Print, alloc: Global, way: Way) -> Result<(), Fault> {
-    let ending = taken::<Demand>(alloc, way, demand::TRACKER);
-    print(rt, "tracker", way, ending)?;
-    let ending = taken::<Deliveries>(alloc, way, entries::ENTRIES);
-    print(rt, "entries", way, ending)?;
-    let ending = taken::<Overflow>(alloc, way, overflow::REJECTED_DRAIN);
-    print(rt, "overflow_rejected_drain", way, ending)?;
-    let ending = overflow::retain(alloc, way);
-    print(rt, "overflow_retain", way, ending)?;
-    let ending = taken::<Overflow>(alloc, way, overflow::TARGETS);
-    print(rt, "overflow_targets", way, ending)?;
-    let ending = taken::<Index>(alloc, way, index::CHOICES);
-    print(rt, "index_choices", way, ending)?;
-    let ending = taken::<Asker>(alloc, way, fetcher::WAKE_UP);
-    print(rt, "fetcher_wake_up", way, ending)?;
-    let ending = taken::<Asker>(alloc, way, fetcher::FIRST_REQUEST);
-    print(rt, "fetcher_first_request", way, ending)
+/// Takes the rows of the parts that make no use of the runtime.
+fn take_parts(rows: &mut Rows<impl Print>, alloc: Global) {
+    let way = rows.way;
+    rows.print("tracker", taken::<_, Demand>(alloc, way, demand::TRACKER));
+    rows.print(
+        "entries",
+        taken::<_, Deliveries>(alloc, way, entries::ENTRIES),
+    );
+    rows.print(
+        "overflow_rejected_drain",
+        taken::<_, Overflow>(alloc, way, overflow::REJECTED_DRAIN),
+    );
+    rows.print("overflow_retain", overflow::retain(alloc, way));
+    rows.print(
+        "overflow_targets",
+        taken::<_, Overflow>(alloc, way, overflow::TARGETS),
+    );
+    rows.print(
+        "index_choices",
+        taken::<_, Index>(alloc, way, index::CHOICES),
+    );
+    rows.print(
+        "fetcher_wake_up",
+        taken::<_, Asker>(alloc, way, fetcher::WAKE_UP),
+    );
+    rows.print(
+        "fetcher_first_request",
+        taken::<_, Asker>(alloc, way, fetcher::FIRST_REQUEST),
+    );
 }
 
 /// Takes the row of a recorded mailbox.
-fn take_mailbox<R>(rt: &R, alloc: Global, way: Way, pages: Pages) -> Result<(), Fault>
+fn take_mailbox<R>(rows: &mut Rows<R>, alloc: Global, pages: Pages)
 where
     R: AllocGlobal + Print + Wait + RandomSource + Copy + Drop,
 {
-    let ending = mailbox_book::<Brand, R>(rt, alloc, way, pages);
-    print(rt, "mailbox_book", way, ending)
+    let ending = mailbox_book::<Brand, R>(rows.rt, alloc, rows.way, pages);
+    rows.print("mailbox_book", ending);
+}
+
+/// Prints rows that are taken one way, up to one that changed what it was refused for.
+#[derive(Drop)]
+struct Rows<'a, R> {
+    rt: &'a R,
+    way: Way,
+    printed: Result<(), Fault>,
+}
+
+impl<'a, R: Print> Rows<'a, R> {
+    fn new(rt: &'a R, way: Way) -> Self {
+        Rows {
+            rt,
+            way,
+            printed: Ok(()),
+        }
+    }
+
+    /// Prints a row's name with its ending.
+    fn print(&mut self, name: &str, ending: Ending) {
+        if self.printed.is_ok() {
+            self.printed = printed(self.rt, name, self.way, ending);
+        }
+    }
 }
 
 /// Prints a row's name with its ending. One that changed what it was refused for is a fault.
-fn print(rt: &impl Print, name: &str, way: Way, ending: Ending) -> Result<(), Fault> {
+fn printed(rt: &impl Print, name: &str, way: Way, ending: Ending) -> Result<(), Fault> {
     println!(rt; "{name}{}: {}", way.text(), ending.text())?;
     match ending {
         Ending::Changed => Err(Fault::Changed),

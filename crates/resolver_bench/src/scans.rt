@@ -3,9 +3,9 @@
 
 use crate::fault::Fault;
 use crate::fetcher::{
-    Node, aim, begin, block, know, limit, may_wait, record, request_of, respond, scan, wait, wakes,
+    Node, aim, answer_to, begin, block, know, limit, may_wait, record, respond, scan, wait, wakes,
 };
-use crate::spent::{Driven, Kind, take_each};
+use crate::spent::{Driven, Kind, Load, Steps, Times, drive};
 use crate::workload::{CONFIG, named, scattered};
 use resolver_fetch::fetcher::Fetcher;
 use std::alloc::Global;
@@ -17,82 +17,56 @@ const TARGETS: u16 = 4;
 /// How many scans go over new peers.
 const ANEW: u64 = 16;
 
-/// The steps that a fetcher takes in turn, and each of those that has one of its own.
-const TURNS: &[&[Kind]] = &[
+/// The steps that one fetcher takes in turn, and those that have a fetcher of their own.
+const TURNS: &[&[Steps]] = &[
     &[
-        Kind::Ready,
-        Kind::Idle,
-        Kind::Wake,
-        Kind::Scan,
-        Kind::Respond,
+        Steps(Kind::Ready, Times::Keys, "ready", "keys"),
+        Steps(Kind::Idle, Times::Keys, "scan, all blocked", "questions"),
+        Steps(Kind::Wake, Times::Keys, "wake-up", "keys"),
+        Steps(Kind::Scan, Times::Keys, "scan", "requests"),
+        Steps(Kind::Respond, Times::Keys, "respond", "requests"),
     ],
-    &[Kind::Round],
-    &[Kind::Aimed],
-    &[Kind::Limit],
-    &[Kind::Anew],
+    &[Steps(Kind::Round, Times::Keys, "round", "requests")],
+    &[Steps(
+        Kind::Aimed,
+        Times::Keys,
+        "scan for a key with targets",
+        "requests",
+    )],
+    &[Steps(Kind::Limit, Times::Peers, "peer in vain", "questions")],
+    &[Steps(
+        Kind::Anew,
+        Times::Just(ANEW),
+        "scan of new peers",
+        "requests",
+    )],
 ];
 
-/// Takes so many keys through fetchers that know this many peers.
-pub fn run(
-    rt: &(impl AllocGlobal + Clock + Print),
-    size: u64,
-    peers: u16,
-    with_time: bool,
-) -> Result<(), Fault> {
-    for kinds in TURNS {
-        let mut fetcher = Fetcher::new(rt.alloc(), CONFIG);
-        let taken = take_in_turn(rt, &mut fetcher, kinds, (size, peers), with_time);
-        drop(fetcher);
-        taken?;
+/// Takes keys through fetchers that know the peers.
+pub fn run(rt: &(impl AllocGlobal + Clock + Print), load: &Load) -> Result<(), Fault> {
+    for table in TURNS {
+        drive(rt, Fetcher::new(rt.alloc(), CONFIG), table, load)?;
     }
     Ok(())
 }
 
-/// The same of one fetcher that is lent.
-fn take_in_turn(
-    rt: &(impl AllocGlobal + Clock + Print),
-    fetcher: &mut Node,
-    kinds: &[Kind],
-    (size, peers): (u64, u16),
-    with_time: bool,
-) -> Result<(), Fault> {
-    know(rt.alloc(), fetcher, peers)?;
-    for kind in kinds {
-        prepare(rt.alloc(), fetcher, *kind, (size, peers))?;
-        let steps = match kind {
-            Kind::Limit => u64::from(peers),
-            Kind::Anew => ANEW,
-            _ => size,
-        };
-        take_each(rt, fetcher, &[*kind], steps, with_time)?;
-    }
-    Ok(())
-}
-
-/// What a fetcher needs before the steps of a kind: keys wait while every peer is blocked, and then each is asked
-/// for; in a round keys wait, and so they do for new peers; keys with targets have a few each; and one key is
-/// tried with each peer in vain.
-fn prepare(
-    alloc: Global,
-    fetcher: &mut Node,
-    kind: Kind,
-    (size, peers): (u64, u16),
-) -> Result<(), Fault> {
+/// What a fetcher that knows the peers needs before the steps of a kind: keys wait while every peer is blocked, and
+/// then each is asked for; in a round keys wait, and so they do for new peers; keys with targets have a few each; and
+/// one key is tried with each peer in vain.
+fn prepare(alloc: Global, fetcher: &mut Node, kind: Kind, load: &Load) -> Result<(), Fault> {
     match kind {
-        Kind::Ready => block(fetcher, named(alloc, peers)?),
-        Kind::Scan => block(fetcher, Vec::new(alloc)),
-        Kind::Round => wait_all(fetcher, size),
-        Kind::Anew => wait_all(fetcher, ANEW),
+        Kind::Ready => block(fetcher, named(alloc, 0, load.peers)?),
         Kind::Aimed => {
-            aim_all(alloc, fetcher, size, peers)?;
-            wait_all(fetcher, size)
+            aim_all(alloc, fetcher, load.keys, load.peers)?;
+            wait_all(fetcher, load.keys)
         }
         Kind::Limit => {
             wait_all(fetcher, 1)?;
             begin(fetcher)?;
             Ok(())
         }
-        _ => Ok(()),
+        Kind::Anew => wait_all(fetcher, ANEW),
+        _ => wait_all(fetcher, load.keys),
     }
 }
 
@@ -108,12 +82,24 @@ fn wait_all(fetcher: &mut Node, size: u64) -> Result<(), Fault> {
 fn aim_all(alloc: Global, fetcher: &mut Node, size: u64, peers: u16) -> Result<(), Fault> {
     for i in 0..size {
         let first = i % u64::from(peers.max(1));
-        aim(alloc, fetcher, scattered(i), first as u16, TARGETS)?;
+        aim(fetcher, scattered(i), named(alloc, first as u16, TARGETS)?)?;
     }
     Ok(())
 }
 
 impl Driven for Node {
+    /// The fetcher knows the peers before its first steps, and none is blocked when it scans.
+    fn prepare(&mut self, alloc: Global, kind: Kind, load: &Load) -> Result<(), Fault> {
+        match kind {
+            Kind::Idle | Kind::Wake | Kind::Respond => Ok(()),
+            Kind::Scan => block(self, Vec::new(alloc)),
+            _ => {
+                know(alloc, self, load.peers)?;
+                prepare(alloc, self, kind, load)
+            }
+        }
+    }
+
     /// It counts a key that waits then, is asked for or answered, or a scan that goes on.
     fn take(&mut self, alloc: Global, kind: Kind, i: u64) -> Result<u64, Fault> {
         Ok(u64::from(take(alloc, self, kind, i)?))
@@ -131,7 +117,7 @@ fn take(alloc: Global, fetcher: &mut Node, kind: Kind, i: u64) -> Result<bool, F
         }
         Kind::Idle => return begin(fetcher),
         Kind::Wake => return Ok(wakes(fetcher)),
-        Kind::Respond => return Ok(answer(fetcher, scattered(i))),
+        Kind::Respond => return Ok(answer_to(fetcher, scattered(i))),
         Kind::Round => return round(fetcher, i),
         Kind::Limit => return limit(fetcher, i),
         Kind::Anew => {
@@ -151,12 +137,4 @@ fn round(fetcher: &mut Node, seed: u64) -> Result<bool, Fault> {
     let answered = respond(fetcher, id, peer);
     record(fetcher, peer, id);
     Ok(answered)
-}
-
-/// Answers the request for a key, and says whether there is one.
-fn answer(fetcher: &mut Node, key: u64) -> bool {
-    match request_of(fetcher, key) {
-        Some((id, peer)) => respond(fetcher, id, peer),
-        None => false,
-    }
 }

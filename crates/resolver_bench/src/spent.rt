@@ -5,6 +5,17 @@ use std::alloc::Global;
 use std::rt::Clock;
 use std::time::Instant;
 
+/// How much is driven, and what is printed of it.
+#[derive(Clone, Copy)]
+pub struct Load {
+    /// How many keys there are.
+    pub keys: u64,
+    /// How many peers there are.
+    pub peers: u16,
+    /// Whether the time of a step is printed, too.
+    pub with_time: bool,
+}
+
 /// Which steps are taken.
 #[derive(Clone, Copy)]
 pub enum Kind {
@@ -13,7 +24,6 @@ pub enum Kind {
     Complete,
     End,
     Put,
-    Take,
     Wait,
     Ask,
     Attach,
@@ -33,119 +43,114 @@ pub enum Kind {
     Set,
 }
 
-impl Kind {
-    /// What is counted in its steps.
-    pub fn counts(self) -> &'static str {
-        match self {
-            Kind::Fetch | Kind::Answer | Kind::Complete | Kind::End => "effects",
-            Kind::Wait | Kind::Ask => "effects",
-            Kind::Put | Kind::Take => "fetches",
-            Kind::Attach | Kind::Together | Kind::Merge => "subscribers",
-            Kind::Ready | Kind::Wake => "keys",
-            Kind::Idle | Kind::Limit => "questions",
-            Kind::Scan | Kind::Respond | Kind::Round | Kind::Aimed | Kind::Anew => "requests",
-            Kind::Index | Kind::Pick | Kind::Set => "places",
-        }
-    }
+/// How many steps are taken.
+#[derive(Clone, Copy)]
+pub enum Times {
+    /// One for each key.
+    Keys,
+    /// One for each peer.
+    Peers,
+    /// So many, whatever there is.
+    Just(u64),
+}
 
-    /// What it is called in the output.
-    pub fn name(self) -> &'static str {
-        match self {
-            Kind::Fetch => "fetch",
-            Kind::Answer => "answer",
-            Kind::Complete => "complete",
-            Kind::End => "end",
-            Kind::Put => "put",
-            Kind::Take => "take",
-            Kind::Wait => "wait",
-            Kind::Ask => "ask",
-            Kind::Attach => "attach",
-            Kind::Together => "attach together",
-            Kind::Merge => "merge",
-            Kind::Ready => "ready",
-            Kind::Idle => "scan, all blocked",
-            Kind::Wake => "wake-up",
-            Kind::Scan => "scan",
-            Kind::Respond => "respond",
-            Kind::Round => "round",
-            Kind::Aimed => "scan for a key with targets",
-            Kind::Limit => "peer in vain",
-            Kind::Anew => "scan of new peers",
-            Kind::Index => "index",
-            Kind::Pick => "pick",
-            Kind::Set => "set",
+/// Steps of one kind, in a table: what they are called in the output, and what is counted in them.
+pub struct Steps(pub Kind, pub Times, pub &'static str, pub &'static str);
+
+impl Steps {
+    /// How many they are.
+    pub fn count(&self, load: &Load) -> u64 {
+        match self.1 {
+            Times::Keys => load.keys,
+            Times::Peers => u64::from(load.peers),
+            Times::Just(count) => count,
         }
     }
 }
 
 /// What takes steps, one after another.
-pub trait Driven {
+pub trait Driven: Drop {
+    /// Gets what it needs before the steps of a kind.
+    fn prepare(&mut self, _: Global, _: Kind, _: &Load) -> Result<(), Fault> {
+        Ok(())
+    }
+
     /// Takes the step of this kind and of this number. It counts what its kind counts.
     fn take(&mut self, alloc: Global, kind: Kind, i: u64) -> Result<u64, Fault>;
 }
 
-/// Takes so many steps of each kind, and prints what they took.
+/// Takes the steps of a table, and lets go what took them.
+pub fn drive<T: Driven>(
+    rt: &(impl AllocGlobal + Clock + Print),
+    mut driven: T,
+    table: &[Steps],
+    load: &Load,
+) -> Result<(), Fault> {
+    take_each(rt, &mut driven, table, load)
+}
+
+/// Takes the steps of a table, and prints what they took.
 pub fn take_each<T: Driven>(
     rt: &(impl AllocGlobal + Clock + Print),
     driven: &mut T,
-    kinds: &[Kind],
-    steps: u64,
-    with_time: bool,
+    table: &[Steps],
+    load: &Load,
 ) -> Result<(), Fault> {
-    for kind in kinds {
-        take_all(rt, driven, *kind, steps)?.print(rt, with_time)?;
+    for steps in table {
+        driven.prepare(rt.alloc(), steps.0, load)?;
+        let count = steps.count(load);
+        let began = Instant::now(rt).ok();
+        let counted = take_all(driven, rt.alloc(), steps.0, count)?;
+        tell(rt, load, began, (steps.2, steps.3), (count, counted))?;
     }
     Ok(())
 }
 
-/// Takes steps of one kind, and measures them.
+/// Takes so many steps of one kind, and counts how many effects, subscribers of a key, or whatever else its kind
+/// counts they had.
 #[inline(never)]
 pub fn take_all<T: Driven>(
-    rt: &(impl AllocGlobal + Clock),
     driven: &mut T,
+    alloc: Global,
     kind: Kind,
     steps: u64,
-) -> Result<Spent, Fault> {
-    let began = Instant::now(rt)?;
+) -> Result<u64, Fault> {
     let mut counted: u64 = 0;
     for i in 0..steps {
-        counted = counted.saturating_add(driven.take(rt.alloc(), kind, i)?);
+        counted = counted.saturating_add(driven.take(alloc, kind, i)?);
     }
-    Ok(Spent {
-        kind,
-        steps,
-        counted,
-        nanoseconds: began.elapsed(rt)?.as_nanos(),
-    })
+    Ok(counted)
 }
 
-/// What the steps of one kind took, and how many effects, fetches of the mailbox, subscribers of a key, or
-/// whatever else its kind counts they had.
-#[derive(Clone, Copy)]
-pub struct Spent {
-    pub kind: Kind,
-    pub steps: u64,
-    pub counted: u64,
-    pub nanoseconds: u128,
+/// Prints what steps are called, how many there were and what they counted, with the time of a step or without.
+pub fn tell(
+    rt: &(impl Clock + Print),
+    load: &Load,
+    began: Option<Instant>,
+    names: (&str, &str),
+    counts: (u64, u64),
+) -> Result<(), Fault> {
+    let Some(began) = began else {
+        return Err(Fault::Host);
+    };
+    let nanoseconds = began.elapsed(rt)?.as_nanos();
+    let each = nanoseconds.checked_div(u128::from(counts.0));
+    match load.with_time {
+        true => print(rt, names, counts, Some(each.unwrap_or(0))),
+        false => print(rt, names, counts, None),
+    }
 }
 
-impl Spent {
-    /// Prints it, with the time of a step or without.
-    pub fn print(&self, rt: &impl Print, with_time: bool) -> Result<(), Fault> {
-        let (name, what) = (self.kind.name(), self.kind.counts());
-        print!(rt; "{name}: {} steps, {} {what}", self.steps, self.counted)?;
-        if with_time {
-            print!(rt; ", {} ns a step", self.nanoseconds_a_step())?;
-        }
-        println!(rt)?;
-        Ok(())
+/// Prints it with the nanoseconds of a step, if they are given.
+fn print(
+    rt: &impl Print,
+    (name, what): (&str, &str),
+    (steps, counted): (u64, u64),
+    each: Option<u128>,
+) -> Result<(), Fault> {
+    print!(rt; "{name}: {steps} steps, {counted} {what}")?;
+    if let Some(each) = each {
+        print!(rt; ", {each} ns a step")?;
     }
-
-    /// What one step took on average; 0 without steps.
-    fn nanoseconds_a_step(&self) -> u128 {
-        match self.steps {
-            0 => 0,
-            steps => self.nanoseconds / u128::from(steps),
-        }
-    }
+    Ok(println!(rt)?)
 }

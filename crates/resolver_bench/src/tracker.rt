@@ -2,159 +2,121 @@
 //! waits in an overflow, as many others join it.
 
 use crate::fault::Fault;
-use crate::spent::{Kind, Spent};
-use crate::workload::{All, scattered};
+use crate::spent::{Driven, Kind, Load, Steps, Times, drive};
+use crate::workload::{All, fetch, scattered};
 use resolver_backlog::Pending;
 use resolver_demand::subscribers::Tracker;
-use resolver_ingress::ingress::{FetchKey, Message};
+use resolver_ingress::ingress::Message;
 use resolver_root::NonEmptyVec;
 use std::alloc::Global;
 use std::rt::Clock;
-use std::time::Instant;
 
 /// The key that all of them want.
 const KEY: u64 = 0;
 
+/// The steps that are taken: for each subscriber, and with all of them.
+const STEPS: &[Steps] = &[
+    Steps(Kind::Attach, Times::Keys, "attach", "subscribers"),
+    Steps(
+        Kind::Together,
+        Times::Just(1),
+        "attach together",
+        "subscribers",
+    ),
+    Steps(Kind::Merge, Times::Just(2), "merge", "subscribers"),
+];
+
+type Subscribers = NonEmptyVec<(u64, u64)>;
+
+/// What the subscribers come to.
+struct Crowd {
+    tracker: Tracker<u64, u64>,
+    pending: Pending<u64, u64, (), All>,
+    /// Those that come at once, the last ones first.
+    coming: Vec<Subscribers>,
+    /// The step behind which they are counted.
+    last: u64,
+}
+
+impl Drop for Crowd {
+    fn drop(self) {
+        let Self {
+            tracker: _,
+            pending: _,
+            coming: _,
+            last: _,
+        } = self;
+    }
+}
+
 /// Takes the subscribers through the tracker and through an overflow.
-pub fn run(
-    rt: &(impl AllocGlobal + Clock + Print),
-    size: u64,
-    with_time: bool,
-) -> Result<(), Fault> {
-    attach_each(rt, size)?.print(rt, with_time)?;
-    if let Ok(subscribers) = NonEmptyVec::try_from(named(rt.alloc(), 0, size)?) {
-        attach_together(rt, subscribers)?.print(rt, with_time)?;
-    }
-    merge(rt, size)?.print(rt, with_time)
-}
-
-/// Subscribers one by one.
-fn attach_each(rt: &(impl AllocGlobal + Clock), size: u64) -> Result<Spent, Fault> {
-    let mut tracker = Tracker::new(rt.alloc());
-    let spent = attach(rt, &mut tracker, size);
-    drop(tracker);
-    spent
-}
-
-/// The same of a tracker that is lent.
-fn attach(
-    rt: &(impl AllocGlobal + Clock),
-    tracker: &mut Tracker<u64, u64>,
-    size: u64,
-) -> Result<Spent, Fault> {
-    let began = Instant::now(rt)?;
-    for i in 0..size {
-        tracker.insert(KEY, NonEmptyVec::new(rt.alloc(), (scattered(i), 0))?)?;
-    }
-    Ok(Spent {
-        kind: Kind::Attach,
-        steps: size,
-        counted: there(tracker),
-        nanoseconds: began.elapsed(rt)?.as_nanos(),
-    })
-}
-
-/// Subscribers all at once.
-fn attach_together(
-    rt: &(impl AllocGlobal + Clock),
-    subscribers: NonEmptyVec<(u64, u64)>,
-) -> Result<Spent, Fault> {
-    let mut tracker = Tracker::new(rt.alloc());
-    let spent = attach_at_once(rt, &mut tracker, subscribers);
-    drop(tracker);
-    spent
-}
-
-/// The same of a tracker that is lent.
-fn attach_at_once(
-    rt: &(impl AllocGlobal + Clock),
-    tracker: &mut Tracker<u64, u64>,
-    subscribers: NonEmptyVec<(u64, u64)>,
-) -> Result<Spent, Fault> {
-    let began = Instant::now(rt)?;
-    tracker.insert(KEY, subscribers)?;
-    Ok(Spent {
-        kind: Kind::Together,
-        steps: 1,
-        counted: there(tracker),
-        nanoseconds: began.elapsed(rt)?.as_nanos(),
-    })
-}
-
-/// Two fetches in an overflow.
-fn merge(rt: &(impl AllocGlobal + Clock), size: u64) -> Result<Spent, Fault> {
-    let first = fetch(rt.alloc(), 0, size)?;
-    let second = fetch(rt.alloc(), size / 2, size)?;
-    let mut pending = Pending::new(rt.alloc());
-    let spent = merge_into(rt, &mut pending, first, second);
-    drop(pending);
-    spent
-}
-
-/// The same in an overflow that is lent.
-fn merge_into(
-    rt: &(impl AllocGlobal + Clock),
-    pending: &mut Pending<u64, u64, (), All>,
-    first: Vec<FetchKey<u64, u64, ()>>,
-    second: Vec<FetchKey<u64, u64, ()>>,
-) -> Result<Spent, Fault> {
-    let began = Instant::now(rt)?;
-    pending.handle(Message::Fetch(first))?;
-    pending.handle(Message::Fetch(second))?;
-    let nanoseconds = began.elapsed(rt)?.as_nanos();
-    Ok(Spent {
-        kind: Kind::Merge,
-        steps: 2,
-        counted: waiting(pending),
-        nanoseconds,
-    })
-}
-
-/// How many subscribers a tracker's key has.
-fn there(tracker: &Tracker<u64, u64>) -> u64 {
-    match tracker.get(&KEY) {
-        Some(subscribers) => subscribers.len() as u64,
-        None => 0,
-    }
-}
-
-/// How many subscribers wait in an overflow. It is empty then.
-fn waiting(pending: &mut Pending<u64, u64, (), All>) -> u64 {
-    let popped = pending.pop();
-    let count = match &popped {
-        Some(Message::Fetch(items)) => subscribers_of(items),
-        _ => 0,
+pub fn run(rt: &(impl AllocGlobal + Clock + Print), load: &Load) -> Result<(), Fault> {
+    let crowd = Crowd {
+        tracker: Tracker::new(rt.alloc()),
+        pending: Pending::new(rt.alloc()),
+        coming: Vec::new(rt.alloc()),
+        last: 0,
     };
-    drop(popped);
-    count
+    drive(rt, crowd, STEPS, load)
 }
 
-/// How many subscribers fetches have.
-fn subscribers_of(items: &[FetchKey<u64, u64, ()>]) -> u64 {
-    let mut count: u64 = 0;
-    for item in items {
-        count = count.saturating_add(item.subscribers.len() as u64);
+impl Driven for Crowd {
+    /// Nobody is there, and those are named that come at once.
+    fn prepare(&mut self, alloc: Global, kind: Kind, load: &Load) -> Result<(), Fault> {
+        self.tracker.clear();
+        let (lists, last) = match kind {
+            Kind::Attach => (0, load.keys.saturating_sub(1)),
+            Kind::Together => (1, 0),
+            _ => (2, 1),
+        };
+        self.last = last;
+        for list in (0..lists).rev() {
+            let first = (load.keys / 2).wrapping_mul(list);
+            self.coming.push(named(alloc, first, load.keys)?)?;
+        }
+        Ok(())
     }
-    count
+
+    /// Behind the last step it counts the subscribers.
+    fn take(&mut self, alloc: Global, kind: Kind, i: u64) -> Result<u64, Fault> {
+        let subscribers = match kind {
+            Kind::Attach => NonEmptyVec::new(alloc, (scattered(i), 0))?,
+            _ => self.coming.pop().ok_or(Fault::Refused)?,
+        };
+        if let Kind::Merge = kind {
+            let items = fetch(alloc, KEY, subscribers, ())?;
+            self.pending.handle(Message::Fetch(items))?;
+        } else {
+            self.tracker.insert(KEY, subscribers)?;
+        }
+        if i < self.last {
+            Ok(0)
+        } else {
+            Ok(self.count())
+        }
+    }
 }
 
-/// A fetch for so many subscribers, from this one on; no fetch for none.
-fn fetch(alloc: Global, first: u64, size: u64) -> Result<Vec<FetchKey<u64, u64, ()>>, Fault> {
-    let mut items = Vec::with_capacity(alloc, 1)?;
-    if let Ok(subscribers) = NonEmptyVec::try_from(named(alloc, first, size)?) {
-        items.push(FetchKey {
-            key: KEY,
-            subscribers,
-            metadata: (),
-        })?;
+impl Crowd {
+    /// How many subscribers the key has, or else its fetch in the overflow, which is empty then.
+    fn count(&mut self) -> u64 {
+        if let Some(subscribers) = self.tracker.get(&KEY) {
+            return subscribers.len() as u64;
+        }
+        let popped = self.pending.pop();
+        let waiting = match &popped {
+            Some(Message::Fetch(items)) => items.first().map_or(0, |it| it.subscribers.len()),
+            _ => 0,
+        };
+        drop(popped);
+        waiting as u64
     }
-    Ok(items)
 }
 
 /// So many subscribers, from this one on, not in their order.
-fn named(alloc: Global, first: u64, size: u64) -> Result<Vec<(u64, u64)>, Fault> {
-    let mut subscribers = Vec::new(alloc);
-    for i in 0..size {
+fn named(alloc: Global, first: u64, size: u64) -> Result<Subscribers, Fault> {
+    let mut subscribers = NonEmptyVec::new(alloc, (scattered(first), 0))?;
+    for i in 1..size {
         subscribers.push((scattered(first.wrapping_add(i)), 0))?;
     }
     Ok(subscribers)

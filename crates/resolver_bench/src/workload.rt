@@ -4,13 +4,15 @@ ghost use Rattle.std.specs.Prelude.{true};
 ghost use Rattle.std.proofs.Common.{rules};
 
 use crate::fault::Fault;
-use resolver_base::base::Faithful;
+use resolver_base::base::{Faithful, PublicKey};
 use resolver_fetch::fetcher::Config;
+use resolver_ingress::ingress::FetchKey;
+use resolver_mailbox::mailbox::Exact;
 use resolver_root::{NonEmptyVec, Predicate};
 use std::alloc::{AllocError, Global};
 
 /// Keeps every subscriber. No workload has a retain.
-#[derive(Clone, Copy)]
+#[derive(Clone, Copy, Debug)]
 pub struct All;
 
 impl<K: Eq, S: Eq> Predicate<K, S> for All {
@@ -27,18 +29,39 @@ impl Faithful for All {
     ghost clones = { λ x y is. Prim.search rules };
 }
 
+impl Exact for All {
+    fn is_same(&self, _: &All) -> bool {
+        true
+    }
+}
+
+/// A name of a peer.
+#[derive(Clone, Copy, Debug, PartialEq, Eq, PartialOrd, Ord, Hash)]
+pub struct Peer(pub u16);
+
+impl PublicKey for Peer {}
+
 /// What a fetcher and an engine are made with.
-pub const CONFIG: Config<u16> = Config {
+pub const CONFIG: Config<Peer> = Config {
     me: None,
     fetch_timeout: 1,
     retry_delay: 1,
     priority_requests: false,
 };
 
-/// A list of one item, and with room for no other.
-pub fn alone<T: Drop>(alloc: Global, item: T) -> Result<Vec<T>, AllocError> {
+/// A fetch of one key, in a list with room for no other.
+pub fn fetch<K: Drop, S: Drop, M: Drop>(
+    alloc: Global,
+    key: K,
+    subscribers: NonEmptyVec<(S, u64)>,
+    metadata: M,
+) -> Result<Vec<FetchKey<K, S, M>>, AllocError> {
     let mut items = Vec::with_capacity(alloc, 1)?;
-    items.push(item)?;
+    items.push(FetchKey {
+        key,
+        subscribers,
+        metadata,
+    })?;
     Ok(items)
 }
 
@@ -51,11 +74,11 @@ pub fn listed(alloc: Global, count: u16) -> Result<NonEmptyVec<(u16, u64)>, Faul
     Ok(subscribers)
 }
 
-/// So many peers, in their order.
-pub fn named(alloc: Global, count: u16) -> Result<Vec<u16>, Fault> {
+/// So many peers in their order, from this one on.
+pub fn named(alloc: Global, first: u16, count: u16) -> Result<Vec<Peer>, Fault> {
     let mut peers = Vec::with_capacity(alloc, usize::from(count))?;
     for peer in 0..count {
-        peers.push(peer)?;
+        peers.push(Peer(first.wrapping_add(peer)))?;
     }
     Ok(peers)
 }

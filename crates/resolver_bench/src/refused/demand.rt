@@ -3,7 +3,7 @@
 ghost use Rattle.std.specs.Prelude.{◌==◌, ◌%◌};
 ghost use Rattle.std.proofs.Common.{rules};
 
-use crate::refused::part::{Part, Way, done, note};
+use crate::refused::part::{Fresh, Notes, Part, Way, done};
 use resolver_base::base::Fault;
 use resolver_demand::subscribers::Tracker;
 use resolver_root::{NonEmptyVec, Predicate};
@@ -12,10 +12,10 @@ use std::alloc::Global;
 /// Keeps the subscribers with even names.
 struct Even;
 
-impl Predicate<u8, u16> for Even {
+impl Predicate<u64, u64> for Even {
     ghost keeps = { λ _ _ s. s % 2 == 0 };
 
-    fn keep(&self, _: &u8, subscriber: &u16) -> bool {
+    fn keep(&self, _: &u64, subscriber: &u64) -> bool {
         *subscriber % 2 == 0
     }
 
@@ -24,11 +24,11 @@ impl Predicate<u8, u16> for Even {
 
 /// A call of a tracker.
 pub enum Call {
-    Insert(u8, &'static [(u16, u64)]),
-    Pending(u8),
+    Insert(u64, &'static [(u64, u64)]),
+    Pending(u64),
     RetainEven,
-    RemoveDelivered(u8, &'static [(u16, u64)]),
-    Remove(u8),
+    RemoveDelivered(u64, &'static [(u64, u64)]),
+    Remove(u64),
 }
 
 /// The worked row of the tracker.
@@ -45,77 +45,44 @@ pub const TRACKER: &[Call] = &[
 ];
 
 /// A tracker.
-pub struct Demand {
-    tracker: Tracker<u8, u16>,
-    alloc: Global,
-}
+pub type Demand = Tracker<u64, u64>;
 
-impl Drop for Demand {
-    fn drop(self) {
-        let Self {
-            tracker: _,
-            alloc: _,
-        } = self;
+impl Fresh for Demand {
+    fn fresh(alloc: Global) -> Self {
+        Tracker::new(alloc)
     }
 }
 
-impl Part for Demand {
-    type Call = Call;
-
-    fn new(alloc: Global) -> Self {
-        Demand {
-            tracker: Tracker::new(alloc),
-            alloc,
-        }
-    }
-
-    fn take(&mut self, call: &Call) -> Result<(), Fault> {
+impl Part<Call> for Demand {
+    fn take(&mut self, alloc: Global, call: &Call) -> Result<(), Fault> {
         match call {
-            Call::Insert(key, named) => {
-                let subscribers = listed(self.alloc, named)?;
-                done(self.tracker.insert(*key, subscribers))
-            }
-            Call::Pending(key) => done(self.tracker.pending(key)),
-            Call::RetainEven => done(self.tracker.retain(&Even)),
+            Call::Insert(key, named) => match listed(alloc, named) {
+                Ok(subscribers) => done(self.insert(*key, subscribers)),
+                Err(fault) => Err(fault),
+            },
+            Call::Pending(key) => done(self.pending(key)),
+            Call::RetainEven => done(self.retain(&Even)),
             Call::RemoveDelivered(key, named) => {
-                let delivered = listed(self.alloc, named)?;
-                let left = self.tracker.remove_delivered(key, &delivered);
+                let Ok(delivered) = listed(alloc, named) else {
+                    return Err(Fault::OutOfMemory);
+                };
+                let left = self.remove_delivered(key, &delivered);
                 drop(delivered);
                 done(left)
             }
             Call::Remove(key) => {
-                self.tracker.remove(key);
+                self.remove(key);
                 Ok(())
             }
         }
     }
 
-    fn show(&mut self, _: Way, text: &mut String) -> Result<(), Fault> {
-        for (key, subscribers) in self.tracker.iter() {
-            note(text, u128::from(*key))?;
-            note_copied(text, subscribers.copied(self.alloc)?)?;
-        }
-        Ok(())
+    fn show(&mut self, _: Global, _: Way, notes: &mut Notes) {
+        notes.add(&*self);
     }
-}
-
-/// Writes subscribers with their marks, and lets them go.
-fn note_copied(text: &mut String, subscribers: Vec<(u16, u64)>) -> Result<(), Fault> {
-    let noted = note_subscribers(text, subscribers.as_slice());
-    drop(subscribers);
-    noted
-}
-
-/// Writes subscribers with their marks.
-pub fn note_subscribers(text: &mut String, named: &[(u16, u64)]) -> Result<(), Fault> {
-    for (subscriber, mark) in named {
-        note(text, u128::from(*subscriber))?;
-        note(text, u128::from(*mark))?;
-    }
-    Ok(())
 }
 
 /// The subscribers with their marks, as a list that isn't empty.
-pub fn listed(alloc: Global, named: &[(u16, u64)]) -> Result<NonEmptyVec<(u16, u64)>, Fault> {
+pub fn listed(alloc: Global, named: &[(u64, u64)]) -> Result<NonEmptyVec<(u64, u64)>, Fault> {
     NonEmptyVec::try_from(named.to_vec(alloc)?).map_err(|_| Fault::EndOfBuffer)
 }

@@ -1,21 +1,21 @@
 //! Deliveries by their numbers.
 
-use crate::refused::demand::{listed, note_subscribers};
-use crate::refused::part::{Part, Way, done, note, note_all, note_if_any};
+use crate::refused::demand::listed;
+use crate::refused::part::{Fresh, Notes, Part, Way, done};
 use resolver_base::base::Fault;
-use resolver_demand::delivery::{Entries, Entry, Open, Response};
+use resolver_demand::delivery::Entries;
 use resolver_root::{Delivery, Outcome};
 use std::alloc::Global;
 
 /// Who wants each key, with their marks.
-const NAMED: &[(u16, u64)] = &[(10, 7), (11, 8)];
+const NAMED: &[(u64, u64)] = &[(10, 7), (11, 8)];
 
 /// A call of the entries.
 pub enum Call {
-    Insert(u8),
-    Remove(u8),
-    Deliver(u8),
-    Redeliver(u8),
+    Insert(u64),
+    Remove(u64),
+    Deliver(u64),
+    Redeliver(u64),
     Complete(u64),
 }
 
@@ -34,115 +34,58 @@ pub const ENTRIES: &[Call] = &[
 ];
 
 /// Numbered deliveries of numbers.
-pub struct Deliveries {
-    entries: Entries<u8, u16, u64, (), ()>,
-    alloc: Global,
-}
+pub type Deliveries = Entries<u64, u64, u64, (), ()>;
 
-impl Drop for Deliveries {
-    fn drop(self) {
-        let Self {
-            entries: _,
-            alloc: _,
-        } = self;
+impl Fresh for Deliveries {
+    fn fresh(alloc: Global) -> Self {
+        Entries::new(alloc)
     }
 }
 
-impl Part for Deliveries {
-    type Call = Call;
-
-    fn new(alloc: Global) -> Self {
-        Deliveries {
-            entries: Entries::new(alloc),
-            alloc,
-        }
-    }
-
-    fn take(&mut self, call: &Call) -> Result<(), Fault> {
+impl Part<Call> for Deliveries {
+    fn take(&mut self, alloc: Global, call: &Call) -> Result<(), Fault> {
         match call {
-            Call::Insert(key) => done(self.entries.insert(*key)),
+            Call::Insert(key) => done(self.insert(*key)),
             Call::Remove(key) => {
-                self.entries.remove(key);
+                self.remove(key);
                 Ok(())
             }
-            Call::Deliver(key) => self.deliver(*key),
-            Call::Redeliver(key) => self.redeliver(*key),
+            Call::Deliver(key) => deliver(self, named(alloc, *key)?),
+            Call::Redeliver(key) => redeliver(self, named(alloc, *key)?),
             Call::Complete(number) => {
-                drop(self.entries.completed(*number, Some(Outcome::Unresolved)));
+                drop(self.completed(*number, Some(Outcome::Unresolved)));
                 Ok(())
             }
         }
     }
 
-    fn show(&mut self, _: Way, text: &mut String) -> Result<(), Fault> {
-        for (key, entry) in self.entries.iter() {
-            note_entry(text, *key, entry)?;
-        }
-        for number in 0..4_u64 {
-            note_open(text, self.entries.open(number))?;
-        }
+    fn show(&mut self, _: Global, _: Way, notes: &mut Notes) {
+        notes.add(&*self);
+    }
+}
+
+/// A key, and who wants it.
+fn named(alloc: Global, key: u64) -> Result<Delivery<u64, u64>, Fault> {
+    let subscribers = listed(alloc, NAMED)?;
+    Ok(Delivery { key, subscribers })
+}
+
+/// Hands a value out, where a delivery of the key may begin.
+fn deliver(entries: &mut Deliveries, delivery: Delivery<u64, u64>) -> Result<(), Fault> {
+    if entries.contains(&delivery.key) && entries.number(&delivery.key).is_none() {
+        done(entries.deliver(delivery, (), 7))
+    } else {
+        drop(delivery);
         Ok(())
     }
 }
 
-/// Writes a key, its delivery in progress and its cached response.
-fn note_entry(text: &mut String, key: u8, entry: &Entry<u64, (), ()>) -> Result<(), Fault> {
-    note(text, u128::from(key))?;
-    note_if_any(text, entry.number.map(u128::from))?;
-    note_response(text, entry.response.as_ref())
-}
-
-/// Writes a cached response: its name, its value, and whether it was accepted.
-fn note_response(text: &mut String, response: Option<&Response<u64, ()>>) -> Result<(), Fault> {
-    match response {
-        Some(it) => note_all(
-            text,
-            &[
-                u128::from(it.name),
-                u128::from(it.value),
-                u128::from(it.accepted),
-            ],
-        ),
-        None => note_if_any(text, None),
-    }
-}
-
-/// Writes an open delivery: its response, whether that was accepted, its key and its subscribers.
-fn note_open(text: &mut String, open: Option<&Open<u8, u16, ()>>) -> Result<(), Fault> {
-    let Some(open) = open else {
-        return note_if_any(text, None);
-    };
-    let numbers = [
-        u128::from(open.response),
-        u128::from(open.accepted),
-        u128::from(open.delivery.key),
-    ];
-    note_all(text, &numbers)?;
-    note_subscribers(text, open.delivery.subscribers.as_slice())
-}
-
-impl Deliveries {
-    /// Hands a value out, where a delivery of the key may begin.
-    fn deliver(&mut self, key: u8) -> Result<(), Fault> {
-        let subscribers = listed(self.alloc, NAMED)?;
-        let delivery = Delivery { key, subscribers };
-        if self.entries.contains(&key) && self.entries.number(&key).is_none() {
-            done(self.entries.deliver(delivery, (), 7))
-        } else {
-            drop(delivery);
-            Ok(())
-        }
-    }
-
-    /// Hands the cached value out once more, where that may begin.
-    fn redeliver(&mut self, key: u8) -> Result<(), Fault> {
-        let subscribers = listed(self.alloc, NAMED)?;
-        let delivery = Delivery { key, subscribers };
-        if self.entries.response(&key).is_some() && self.entries.number(&key).is_none() {
-            done(self.entries.redeliver(delivery))
-        } else {
-            drop(delivery);
-            Ok(())
-        }
+/// Hands the cached value out once more, where that may begin.
+fn redeliver(entries: &mut Deliveries, delivery: Delivery<u64, u64>) -> Result<(), Fault> {
+    if entries.response(&delivery.key).is_some() && entries.number(&delivery.key).is_none() {
+        done(entries.redeliver(delivery))
+    } else {
+        drop(delivery);
+        Ok(())
     }
 }

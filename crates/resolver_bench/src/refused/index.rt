@@ -1,6 +1,6 @@
 //! A weighted index.
 
-use crate::refused::part::{Part, Way, note};
+use crate::refused::part::{Fresh, Notes, Part, Way};
 use resolver_base::base::Fault;
 use resolver_request::sampling::WeightedIndex;
 use std::alloc::Global;
@@ -16,60 +16,44 @@ pub enum Call {
 pub const CHOICES: &[Call] = &[Call::New(&[3, 0, 2]), Call::Select];
 
 /// An index, once it is made.
-pub struct Index {
-    index: Option<WeightedIndex>,
-    alloc: Global,
-}
+pub type Index = Option<WeightedIndex>;
 
-impl Drop for Index {
-    fn drop(self) {
-        let Self { index: _, alloc: _ } = self;
+impl Fresh for Index {
+    fn fresh(_: Global) -> Self {
+        None
     }
 }
 
-impl Part for Index {
-    type Call = Call;
-
-    fn new(alloc: Global) -> Self {
-        Index { index: None, alloc }
-    }
-
-    fn take(&mut self, call: &Call) -> Result<(), Fault> {
+impl Part<Call> for Index {
+    fn take(&mut self, alloc: Global, call: &Call) -> Result<(), Fault> {
         match call {
             Call::New(weights) => {
-                self.index = Some(WeightedIndex::new(self.alloc, weights)?);
+                let made = WeightedIndex::new(alloc, weights)?;
+                drop(self.replace(made));
                 Ok(())
             }
-            Call::Select => self.select(),
+            Call::Select => select(self),
         }
     }
 
-    fn show(&mut self, _: Way, text: &mut String) -> Result<(), Fault> {
-        let Some(index) = &self.index else {
-            return Ok(());
-        };
-        note(text, index.total())?;
-        for place in 0..index.count() {
-            note(text, u128::from(index.weight(place)))?;
-        }
-        Ok(())
+    fn show(&mut self, _: Global, _: Way, notes: &mut Notes) {
+        notes.add(&*self);
     }
 }
 
-impl Index {
-    fn select(&mut self) -> Result<(), Fault> {
-        let Some(index) = self.index.take() else {
-            return Ok(());
-        };
-        match index.without_replacement() {
-            Ok(selection) => {
-                self.index = Some(selection.end());
-                Ok(())
-            }
-            Err(refused) => {
-                self.index = Some(refused.value);
-                Err(Fault::OutOfMemory)
-            }
+/// Begins a selection of what an index has, and ends it.
+fn select(kept: &mut Index) -> Result<(), Fault> {
+    let Some(index) = kept.take() else {
+        return Ok(());
+    };
+    match index.without_replacement() {
+        Ok(selection) => {
+            drop(kept.replace(selection.end()));
+            Ok(())
+        }
+        Err(refused) => {
+            drop(kept.replace(refused.value));
+            Err(Fault::OutOfMemory)
         }
     }
 }

@@ -3,25 +3,24 @@
 ghost use Rattle.std.specs.Prelude.{nat_le};
 ghost use Rattle.std.proofs.Common.{rules};
 
-use crate::refused::demand::note_subscribers;
-use crate::refused::part::{Ending, Part, Way, note, taken};
-use crate::workload::alone;
+use crate::refused::part::{Ending, Fresh, Notes, Part, Way, taken};
+use crate::workload;
 use resolver_backlog::Pending;
 use resolver_base::base::Fault;
-use resolver_ingress::ingress::{FetchKey, Message, Metadata, Predicate};
+use resolver_ingress::ingress::{Message, Metadata, Predicate};
 use resolver_root::NonEmptyVec;
 use std::alloc::Global;
 
 type Targets = Option<NonEmptyVec<u16>>;
 
 /// Keeps the subscribers of the keys from this one on.
-#[derive(Clone, Copy)]
-pub struct From(u16);
+#[derive(Clone, Copy, Debug)]
+pub struct From(u64);
 
-impl Predicate<u16, u16> for From {
+impl Predicate<u64, u64> for From {
     ghost keeps = { λ first k _. nat_le first.0 k };
 
-    fn keep(&self, key: &u16, _: &u16) -> bool {
+    fn keep(&self, key: &u64, _: &u64) -> bool {
         *key >= self.0
     }
 
@@ -32,9 +31,9 @@ impl Predicate<u16, u16> for From {
 #[derive(Clone, Copy)]
 pub enum Call {
     /// A fetch of a key for a subscriber, of these peers; with none of them any peer may be asked.
-    Fetch(u16, u16, &'static [u16]),
+    Fetch(u64, u64, &'static [u16]),
     /// The keys from this one on are kept.
-    Retain(u16),
+    Retain(u64),
     /// A drain that takes nothing.
     Reject,
     /// A drain that takes the retains alone.
@@ -55,7 +54,7 @@ pub const REJECTED_DRAIN: &[Call] = &[
 /// Takes the worked row of a retain: a hundred keys, of which the last is kept.
 pub fn retain(alloc: Global, way: Way) -> Ending {
     match retain_calls(alloc) {
-        Ok(calls) => taken::<Overflow>(alloc, way, calls.as_slice()),
+        Ok(calls) => taken::<_, Overflow>(alloc, way, &calls),
         Err(_) => Ending::Outside,
     }
 }
@@ -69,7 +68,7 @@ const RETAINED: &[Call] = &[
 
 fn retain_calls(alloc: Global) -> Result<Vec<Call>, Fault> {
     let mut calls = Vec::with_capacity(alloc, 103)?;
-    for key in 0..100_u16 {
+    for key in 0..100_u64 {
         calls.push(Call::Fetch(key, 10, &[]))?;
     }
     calls.extend_from_slice(RETAINED)?;
@@ -86,43 +85,27 @@ pub const TARGETS: &[Call] = &[
 ];
 
 /// An overflow.
-pub struct Overflow {
-    pending: Pending<u16, u16, Targets, From>,
-    alloc: Global,
-}
+pub type Overflow = Pending<u64, u64, Targets, From>;
 
-impl Drop for Overflow {
-    fn drop(self) {
-        let Self {
-            pending: _,
-            alloc: _,
-        } = self;
+impl Fresh for Overflow {
+    fn fresh(alloc: Global) -> Self {
+        Pending::new(alloc)
     }
 }
 
-impl Part for Overflow {
-    type Call = Call;
-
-    fn new(alloc: Global) -> Self {
-        Overflow {
-            pending: Pending::new(alloc),
-            alloc,
-        }
-    }
-
-    fn take(&mut self, call: &Call) -> Result<(), Fault> {
+impl Part<Call> for Overflow {
+    fn take(&mut self, alloc: Global, call: &Call) -> Result<(), Fault> {
         match call {
             Call::Fetch(key, subscriber, peers) => {
-                let message = fetch(self.alloc, *key, *subscriber, peers)?;
-                self.pending.handle(message)
+                self.handle(fetch(alloc, *key, *subscriber, peers)?)
             }
-            Call::Retain(first) => self.pending.handle(Message::Retain(From(*first))),
+            Call::Retain(first) => self.handle(Message::Retain(From(*first))),
             Call::Reject => {
-                self.pending.drain(|message| Some(message));
+                self.drain(|message| Some(message));
                 Ok(())
             }
             Call::TakeRetains => {
-                self.pending.drain(|message| match message {
+                self.drain(|message| match message {
                     Message::Retain(_) => None,
                     Message::Fetch(items) => Some(Message::Fetch(items)),
                 });
@@ -131,62 +114,23 @@ impl Part for Overflow {
         }
     }
 
-    fn show(&mut self, _: Way, text: &mut String) -> Result<(), Fault> {
-        note(text, u128::from(self.pending.is_empty()))?;
+    fn show(&mut self, _: Global, _: Way, notes: &mut Notes) {
+        notes.add(self.is_empty());
         for _ in 0..16 {
-            let Some(message) = self.pending.pop() else {
-                break;
-            };
-            note_message(text, message)?;
+            notes.add(self.pop());
         }
-        Ok(())
     }
 }
 
 /// A fetch of one key for one subscriber.
 fn fetch(
     alloc: Global,
-    key: u16,
-    subscriber: u16,
+    key: u64,
+    subscriber: u64,
     peers: &[u16],
-) -> Result<Message<u16, u16, Targets, From>, Fault> {
-    let subscribers = NonEmptyVec::new(alloc, (subscriber, u64::from(key)))?;
+) -> Result<Message<u64, u64, Targets, From>, Fault> {
+    let subscribers = NonEmptyVec::new(alloc, (subscriber, key))?;
     let metadata = NonEmptyVec::try_from(peers.to_vec(alloc)?).ok();
-    let fetch = FetchKey {
-        key,
-        subscribers,
-        metadata,
-    };
-    Ok(Message::Fetch(alone(alloc, fetch)?))
-}
-
-/// Writes a message whole.
-fn note_message(text: &mut String, message: Message<u16, u16, Targets, From>) -> Result<(), Fault> {
-    let noted = match &message {
-        Message::Retain(first) => note(text, u128::from(first.0)),
-        Message::Fetch(items) => note_items(text, items),
-    };
-    drop(message);
-    noted
-}
-
-/// Writes fetches: their keys, their subscribers and their targets.
-fn note_items(text: &mut String, items: &[FetchKey<u16, u16, Targets>]) -> Result<(), Fault> {
-    for item in items {
-        note(text, u128::from(item.key))?;
-        note_subscribers(text, item.subscribers.as_slice())?;
-        note_targets(text, &item.metadata)?;
-    }
-    Ok(())
-}
-
-/// Writes how many targets there are, and each of them.
-fn note_targets(text: &mut String, targets: &Targets) -> Result<(), Fault> {
-    if let Some(targets) = targets {
-        note(text, targets.len() as u128)?;
-        for peer in targets.as_slice() {
-            note(text, u128::from(*peer))?;
-        }
-    }
-    Ok(())
+    let items = workload::fetch(alloc, key, subscribers, metadata)?;
+    Ok(Message::Fetch(items))
 }

@@ -2,7 +2,7 @@
 
 use resolver_base::base::Fault;
 use std::alloc::Global;
-use std::fmt::Write;
+use std::fmt::{Debug, Write};
 
 /// How a row ended.
 #[derive(Clone, Copy)]
@@ -52,112 +52,130 @@ impl Way {
     }
 }
 
-/// A part that takes calls.
-pub trait Part: Drop {
-    /// A call, with its arguments.
-    type Call;
+/// What a part shows, one value behind the other.
+pub struct Notes {
+    text: String,
+    /// Whether memory was wanting for some of it.
+    is_wanting: bool,
+}
 
-    /// A part that took no call.
-    fn new(alloc: Global) -> Self;
+impl Drop for Notes {
+    fn drop(self) {
+        let Self {
+            text: _,
+            is_wanting: _,
+        } = self;
+    }
+}
 
+impl Notes {
+    /// Nothing is shown so far.
+    pub fn new(alloc: Global) -> Self {
+        Notes {
+            text: String::new(alloc),
+            is_wanting: false,
+        }
+    }
+
+    /// Writes a value, and lets it go.
+    pub fn add<T: Debug + Drop>(&mut self, value: T) {
+        if write!(self.text, "{value:?} ").is_err() {
+            self.is_wanting = true;
+        }
+        drop(value);
+    }
+
+    /// Writes a text as it is.
+    pub fn put(&mut self, text: &str) {
+        if self.text.push_str(text).is_err() {
+            self.is_wanting = true;
+        }
+    }
+
+    /// How a row ended in which a call was refused, where these are the notes of its part, and those the ones
+    /// that are expected.
+    pub fn judged(&self, way: Way, expected: &Notes) -> Ending {
+        if self.is_wanting || expected.is_wanting {
+            return Ending::Outside;
+        }
+        if self.text.as_str() != expected.text.as_str() {
+            return Ending::Changed;
+        }
+        match way {
+            Way::Compared => Ending::AsItWas,
+            Way::GoneOn => Ending::WentOn,
+        }
+    }
+}
+
+/// A part that takes calls of one kind.
+pub trait Part<Call>: Drop {
     /// Takes one call.
-    fn take(&mut self, call: &Self::Call) -> Result<(), Fault>;
+    fn take(&mut self, alloc: Global, call: &Call) -> Result<(), Fault>;
 
     /// Writes all that the part's calls show of it, or, on the way on, what a row leads to, also where one of its
     /// calls was made twice. It may be used up then.
-    fn show(&mut self, way: Way, text: &mut String) -> Result<(), Fault>;
+    fn show(&mut self, alloc: Global, way: Way, notes: &mut Notes);
 }
 
-/// Takes the calls of a row one after another.
-pub fn taken<T: Part>(alloc: Global, way: Way, calls: &[T::Call]) -> Ending {
-    match way {
-        Way::Compared => compared::<T>(alloc, calls),
-        Way::GoneOn => gone_on::<T>(alloc, calls),
-    }
+/// A part to begin a row with.
+pub trait Fresh {
+    /// A part that took no call.
+    fn fresh(alloc: Global) -> Self;
 }
 
-/// The same, up to the first call that is refused. Then the part is compared with one that took the
-/// calls before it.
-fn compared<T: Part>(alloc: Global, calls: &[T::Call]) -> Ending {
-    let mut part = T::new(alloc);
-    for (count, call) in calls.iter().enumerate() {
-        match part.take(call) {
-            Ok(()) => {}
-            Err(Fault::OutOfMemory) => {
-                let same = is_as_after(alloc, Way::Compared, &mut part, &calls[..count]);
-                return judged(Ending::AsItWas, same);
+/// Has a part take the calls of a row one after another. Where one of them is refused, the part is compared with
+/// another one.
+pub fn taken<Call, T: Part<Call> + Fresh>(alloc: Global, way: Way, calls: &[Call]) -> Ending {
+    let mut part = T::fresh(alloc);
+    match walk(alloc, way, calls, calls.len(), &mut part) {
+        Ok(None) => Ending::Whole,
+        Ok(Some(count)) => {
+            let mut twin = T::fresh(alloc);
+            match walk(alloc, way, calls, count, &mut twin) {
+                Ok(None) => compared(alloc, way, &mut part, &mut twin),
+                _ => Ending::Outside,
             }
-            Err(_) => return Ending::Changed,
         }
-    }
-    Ending::Whole
-}
-
-/// The same, and a call that is refused memory once more. Then the part is compared with one that took
-/// all calls.
-fn gone_on<T: Part>(alloc: Global, calls: &[T::Call]) -> Ending {
-    let mut part = T::new(alloc);
-    let mut is_refused = false;
-    for call in calls {
-        match taken_again(&mut part, call) {
-            Ok(again) => is_refused = is_refused || again,
-            Err(_) => return Ending::Changed,
-        }
-    }
-    if is_refused {
-        judged(
-            Ending::WentOn,
-            is_as_after(alloc, Way::GoneOn, &mut part, calls),
-        )
-    } else {
-        Ending::Whole
-    }
-}
-
-/// Takes a call, and once more where it is refused memory. Answers whether it was.
-fn taken_again<T: Part>(part: &mut T, call: &T::Call) -> Result<bool, Fault> {
-    match part.take(call) {
-        Ok(()) => Ok(false),
-        Err(Fault::OutOfMemory) => {
-            part.take(call)?;
-            Ok(true)
-        }
-        Err(fault) => Err(fault),
-    }
-}
-
-/// How a row ended, by what a comparison answered.
-pub fn judged(same: Ending, is_same: Result<bool, Fault>) -> Ending {
-    match is_same {
-        Ok(true) => same,
-        Ok(false) => Ending::Changed,
-        Err(Fault::OutOfMemory) => Ending::Outside,
         Err(_) => Ending::Changed,
     }
 }
 
-/// Whether a part shows what one shows that took these calls.
-fn is_as_after<T: Part>(
+/// Has a part take so many calls, and a call that is refused memory once more on the way on. Where one was refused, it
+/// answers how many were taken.
+pub fn walk<Call, T: Part<Call>>(
     alloc: Global,
     way: Way,
+    calls: &[Call],
+    most: usize,
     part: &mut T,
-    calls: &[T::Call],
-) -> Result<bool, Fault> {
-    let mut twin = twin_after::<T>(alloc, calls)?;
-    let mut seen = String::new(alloc);
-    let mut expected = String::new(alloc);
-    part.show(way, &mut seen)?;
-    twin.show(way, &mut expected)?;
-    Ok(seen.as_str() == expected.as_str())
+) -> Result<Option<usize>, Fault> {
+    let mut is_refused = false;
+    let mut count: usize = 0;
+    for call in calls.iter().take(most) {
+        match part.take(alloc, call) {
+            Ok(()) => {}
+            Err(Fault::OutOfMemory) => {
+                is_refused = true;
+                if let Way::Compared = way {
+                    break;
+                }
+                part.take(alloc, call)?;
+            }
+            Err(fault) => return Err(fault),
+        }
+        count = count.saturating_add(1);
+    }
+    Ok(is_refused.then_some(count))
 }
 
-/// A part that took these calls.
-fn twin_after<T: Part>(alloc: Global, calls: &[T::Call]) -> Result<T, Fault> {
-    let mut twin = T::new(alloc);
-    for call in calls {
-        twin.take(call)?;
-    }
-    Ok(twin)
+/// How a row ended in which a call was refused: whether the part shows what its twin does.
+fn compared<Call, T: Part<Call>>(alloc: Global, way: Way, part: &mut T, twin: &mut T) -> Ending {
+    let mut seen = Notes::new(alloc);
+    let mut expected = Notes::new(alloc);
+    part.show(alloc, way, &mut seen);
+    twin.show(alloc, way, &mut expected);
+    seen.judged(way, &expected)
 }
 
 /// Lets go what a call answers.
@@ -168,26 +186,5 @@ pub fn done<T: Drop>(answered: Result<T, Fault>) -> Result<(), Fault> {
             Ok(())
         }
         Err(fault) => Err(fault),
-    }
-}
-
-/// Writes a number behind the others.
-pub fn note(text: &mut String, number: u128) -> Result<(), Fault> {
-    Ok(write!(text, " {number}")?)
-}
-
-/// Writes numbers behind the others.
-pub fn note_all(text: &mut String, numbers: &[u128]) -> Result<(), Fault> {
-    for number in numbers {
-        note(text, *number)?;
-    }
-    Ok(())
-}
-
-/// Writes a number behind the others, or that there is none.
-pub fn note_if_any(text: &mut String, number: Option<u128>) -> Result<(), Fault> {
-    match number {
-        Some(number) => note(text, number),
-        None => Ok(text.push_str(" none")?),
     }
 }

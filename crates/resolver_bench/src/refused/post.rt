@@ -1,120 +1,113 @@
 //! A recorded mailbox, its handles and its book.
 
 ghost use Rattle.std.specs.Prelude.{◌≡◌, true};
-ghost use Rattle.std.proofs.Common.{rules};
 
-use crate::refused::part::{Ending, Way, judged};
-use crate::refused::spelled::{Told, spell, spell_all, spell_book, spell_share};
-use futures::Stream;
-use futures::task::Poll;
-use futures::test::MockTask;
-use resolver_base::base::{Faithful, Fault};
-use resolver_ingress::ingress::{FetchKey, Message};
+use crate::mailbox::{Putter, Taker, put, taken};
+use crate::refused::part::{Ending, Notes, Part, Way, done, walk};
+use crate::workload::All;
+use resolver_base::base::Fault;
+use resolver_ingress::ingress::Message;
 use resolver_mailbox::mailbox;
-use resolver_mailbox::mailbox::{Entry, Exact, Naming, Pages, Receiver, Sender, Share};
-use resolver_root::{Fetch, Predicate};
+use resolver_mailbox::mailbox::{Entry, Naming, Pages, Share};
 use std::alloc::{AllocGlobal, Global};
-use std::fmt::Write;
 use std::random::RandomSource;
 use std::sync::Wait;
 
-/// Keeps every subscriber.
-#[derive(Clone, Copy)]
-pub struct All;
-
-impl Predicate<u16, u16> for All {
-    ghost keeps = { λ _ _ _. true };
-
-    fn keep(&self, _: &u16, _: &u16) -> bool {
-        true
-    }
-
-    ghost alike = { λ q k l s t same_key same_subscriber. Prim.search rules };
+/// Two handles and the end that takes, which are lent.
+#[derive(Drop)]
+struct Mail<'a, N: Naming, R> {
+    rt: &'a R,
+    first: &'a mut Putter<N, R>,
+    second: &'a mut Putter<N, R>,
+    taker: &'a mut Taker<N, R>,
 }
 
-impl Faithful for All {
-    ghost clones = { Prim.search rules };
-}
-
-impl Exact for All {
-    fn is_same(&self, _: &All) -> bool {
-        true
-    }
-}
-
-type Putter<N, R> = Sender<u16, u16, (), All, N, R>;
-
-type Taker<N, R> = Receiver<u16, u16, (), All, N, R>;
-
-/// Two handles and the end that takes.
-struct Mail<N: Naming, R> {
-    first: Putter<N, R>,
-    second: Putter<N, R>,
-    taker: Taker<N, R>,
-}
-
-impl<N: Naming, R: Drop> Drop for Mail<N, R> {
-    fn drop(self) {
-        let Self {
-            first: _,
-            second: _,
-            taker: _,
-        } = self;
-    }
-}
-
-/// What the mailbox shows: the shares of both handles, what was taken, and how many calls of the row's
-/// book there are.
-type Shown = (&'static str, &'static str, &'static str, usize);
-
-/// The book of the row, a call each.
-const BOOK: &[&str] = &[
-    " put 0 0 true 1/10:7",
-    " put 0 1 false 2/20:8",
-    " put 1 0 false 2/21:9",
-    " take 1/10:7",
-    " take 2/20:8/21:9",
-    " close",
-];
-
-const FIRST: &str = "0 false 1/10:7 2/20:8";
-
-const SECOND: &str = "1 false 2/21:9";
-
-const ONE: &str = " 1/10:7";
-
-const BOTH: &str = " 1/10:7 2/20:8/21:9";
-
-/// The calls of the row, and what is shown before each.
-const CALLS: &[(Call, Shown)] = &[
-    (Call::First(1, 10, 7), ("none", "none", "", 0)),
-    (Call::First(2, 20, 8), ("0 false 1/10:7", "none", "", 1)),
-    (Call::Second(2, 21, 9), (FIRST, "none", "", 2)),
-    (Call::Poll(" 1/10:7"), (FIRST, SECOND, "", 3)),
-    (Call::Poll(" 2/20:8/21:9"), (FIRST, SECOND, ONE, 4)),
-    (Call::Poll(""), (FIRST, SECOND, BOTH, 5)),
-    (Call::Close, (FIRST, SECOND, BOTH, 5)),
-    (Call::First(3, 30, 5), (FIRST, SECOND, BOTH, 6)),
-    (Call::Book, (CLOSED, SECOND, BOTH, 6)),
-];
-
-/// What the first handle's share is once it was answered Closed.
-const CLOSED: &str = "0 true 1/10:7 2/20:8";
-
-/// What is shown at the end of the row.
-const END: Shown = (CLOSED, SECOND, BOTH, 6);
-
-#[derive(Clone, Copy)]
+/// A call of the mailbox.
 enum Call {
     /// The first handle puts a fetch of this key for this subscriber with this mark.
-    First(u16, u16, u64),
+    First(u64, (u16, u64)),
     /// The second one does.
-    Second(u16, u16, u64),
-    /// A poll, which gives this message, or nothing.
-    Poll(&'static str),
+    Second(u64, (u16, u64)),
+    /// A poll, which gives a fetch of this key for these subscribers; for none of them it gives nothing.
+    Poll(u64, &'static [(u16, u64)]),
     Close,
     Book,
 }
+
+/// The calls of the row.
+const CALLS: &[Call] = &[
+    Call::First(1, (10, 7)),
+    Call::First(2, (20, 8)),
+    Call::Second(2, (21, 9)),
+    Call::Poll(1, &[(10, 7)]),
+    Call::Poll(2, &[(20, 8), (21, 9)]),
+    Call::Poll(0, &[]),
+    Call::Close,
+    Call::First(3, (30, 5)),
+    Call::Book,
+];
+
+/// What the mailbox shows: the shares of both handles, what was taken, and how many calls of the row's
+/// book there are.
+struct Shown(&'static str, &'static str, &'static str, usize);
+
+/// What is shown before each call, and at the end.
+const SHOWN: &[Shown] = &[
+    Shown(NONE, NONE, NOTHING, 0),
+    Shown(PUT, NONE, NOTHING, 1),
+    Shown(FIRST, NONE, NOTHING, 2),
+    Shown(FIRST, SECOND, NOTHING, 3),
+    Shown(FIRST, SECOND, ONE, 4),
+    Shown(FIRST, SECOND, BOTH, 5),
+    Shown(FIRST, SECOND, BOTH, 5),
+    Shown(FIRST, SECOND, BOTH, 6),
+    Shown(CLOSED, SECOND, BOTH, 6),
+    Shown(CLOSED, SECOND, BOTH, 6),
+];
+
+/// A handle without a share.
+const NONE: &str = "none ";
+
+/// What the first handle's share is: once it has put a message, once it has put two, and once it was answered Closed.
+const PUT: &str = "0 false \
+    [Fetch([FetchKey { key: 1, subscribers: NonEmptyVec { items: [(10, 7)] }, metadata: () }])] ";
+
+const FIRST: &str = "0 false \
+    [Fetch([FetchKey { key: 1, subscribers: NonEmptyVec { items: [(10, 7)] }, metadata: () }]), \
+    Fetch([FetchKey { key: 2, subscribers: NonEmptyVec { items: [(20, 8)] }, metadata: () }])] ";
+
+const CLOSED: &str = "0 true \
+    [Fetch([FetchKey { key: 1, subscribers: NonEmptyVec { items: [(10, 7)] }, metadata: () }]), \
+    Fetch([FetchKey { key: 2, subscribers: NonEmptyVec { items: [(20, 8)] }, metadata: () }])] ";
+
+/// What the second handle's share is once it has put a message.
+const SECOND: &str = "1 false \
+    [Fetch([FetchKey { key: 2, subscribers: NonEmptyVec { items: [(21, 9)] }, metadata: () }])] ";
+
+/// What was taken.
+const NOTHING: &str = "[] ";
+
+const ONE: &str =
+    "[Fetch([FetchKey { key: 1, subscribers: NonEmptyVec { items: [(10, 7)] }, metadata: () }])] ";
+
+const BOTH: &str =
+    "[Fetch([FetchKey { key: 1, subscribers: NonEmptyVec { items: [(10, 7)] }, metadata: () }]), \
+    Fetch([FetchKey { key: 2, subscribers: NonEmptyVec { items: [(20, 8), (21, 9)] }, metadata: () }])] ";
+
+/// The book of the row, a call each.
+const BOOK: &[&str] = &[
+    "Put(Posted { handle: 0, place: 0, message: \
+    Fetch([FetchKey { key: 1, subscribers: NonEmptyVec { items: [(10, 7)] }, metadata: () }]), is_ok: true }) ",
+    "Put(Posted { handle: 0, place: 1, message: \
+    Fetch([FetchKey { key: 2, subscribers: NonEmptyVec { items: [(20, 8)] }, metadata: () }]), is_ok: false }) ",
+    "Put(Posted { handle: 1, place: 0, message: \
+    Fetch([FetchKey { key: 2, subscribers: NonEmptyVec { items: [(21, 9)] }, metadata: () }]), is_ok: false }) ",
+    "Take(\
+    Fetch([FetchKey { key: 1, subscribers: NonEmptyVec { items: [(10, 7)] }, metadata: () }])) ",
+    "Take(\
+    Fetch([FetchKey { key: 2, subscribers: NonEmptyVec { items: [(20, 8), (21, 9)] }, metadata: () }])) ",
+    "Close ",
+];
 
 /// Takes the worked row of a recorded mailbox of capacity 1 through its calls. Where one is refused, the
 /// shares, what was taken and the book are what they were before it; or it is made again, and the row goes
@@ -127,13 +120,39 @@ where
     requires puts { pages.puts.name ≡ N.puts }
     requires takes { pages.takes.name ≡ N.takes }
 {
-    let Ok(task) = MockTask::new(rt) else {
-        return Ending::Outside;
-    };
-    match opened::<N, R>(*rt, alloc, pages) {
-        Ok(mut mail) => {
-            let ending = walked(alloc, way, &mut mail, &task);
+    let opened: Result<(Putter<N, R>, Taker<N, R>), Fault> = mailbox::recorded(
+        *rt, alloc, pages, 1,
+    );
+    match opened {
+        Ok((mut first, mut taker)) => {
+            let ending = ended(rt, alloc, way, &mut first, &mut taker);
+            drop(first);
+            drop(taker);
+            ending
+        }
+        Err(_) => Ending::Outside,
+    }
+}
+
+/// The same of a mailbox that is lent, with a second handle.
+fn ended<N: Naming, R: AllocGlobal + Wait + RandomSource + Copy + Drop>(
+    rt: &R,
+    alloc: Global,
+    way: Way,
+    first: &mut Putter<N, R>,
+    taker: &mut Taker<N, R>,
+) -> Ending {
+    match first.clone() {
+        Ok(mut second) => {
+            let mut mail = Mail {
+                rt,
+                first,
+                second: &mut second,
+                taker,
+            };
+            let ending = walked(alloc, way, &mut mail);
             drop(mail);
+            drop(second);
             ending
         }
         Err(_) => Ending::Outside,
@@ -141,198 +160,112 @@ where
 }
 
 /// Takes the calls of the row one after another.
-fn walked<N: Naming, R: Wait + Drop>(
-    alloc: Global,
-    way: Way,
-    mail: &mut Mail<N, R>,
-    task: &MockTask,
-) -> Ending {
-    let mut is_refused = false;
-    for &(call, before) in CALLS {
-        match take(alloc, mail, task, call) {
-            Ok(()) => {}
-            Err(Fault::OutOfMemory) => {
-                if let Way::Compared = way {
-                    return judged(Ending::AsItWas, shows(alloc, mail, before));
-                }
-                is_refused = true;
-                if take(alloc, mail, task, call).is_err() {
-                    return Ending::Changed;
-                }
-            }
-            Err(_) => return Ending::Changed,
+fn walked<T: Part<Call>>(alloc: Global, way: Way, mail: &mut T) -> Ending {
+    match walk(alloc, way, CALLS, CALLS.len(), mail) {
+        Ok(None) => Ending::Whole,
+        Ok(Some(count)) => {
+            let mut seen = Notes::new(alloc);
+            mail.show(alloc, way, &mut seen);
+            seen.judged(way, &expected(alloc, count))
         }
-    }
-    if is_refused {
-        judged(Ending::WentOn, shows(alloc, mail, END))
-    } else {
-        Ending::Whole
+        Err(_) => Ending::Changed,
     }
 }
 
-fn opened<N, R>(rt: R, alloc: Global, pages: Pages) -> Result<Mail<N, R>, Fault>
+/// What the row says is shown behind so many calls.
+fn expected(alloc: Global, count: usize) -> Notes {
+    let mut notes = Notes::new(alloc);
+    if let Some(Shown(first, second, taken, calls)) = SHOWN.get(count) {
+        notes.put(first);
+        notes.put(second);
+        notes.put(taken);
+        for call in BOOK.iter().take(*calls) {
+            notes.put(call);
+        }
+    }
+    notes
+}
+
+impl<N, R> Part<Call> for Mail<'_, N, R>
 where
     N: Naming,
-    R: Copy + Drop,
-    requires recorded { N.is_recorded ≡ true }
-    requires puts { pages.puts.name ≡ N.puts }
-    requires takes { pages.takes.name ≡ N.takes }
+    R: AllocGlobal + Wait + RandomSource + Drop,
 {
-    match mailbox::recorded(rt, alloc, pages, 1) {
-        Ok((first, taker)) => with_second(first, taker),
-        Err(fault) => Err(fault),
-    }
-}
-
-/// The ends of a mailbox, with a second handle.
-fn with_second<N: Naming, R: Copy + Drop>(
-    first: Putter<N, R>,
-    taker: Taker<N, R>,
-) -> Result<Mail<N, R>, Fault> {
-    match first.clone() {
-        Ok(second) => Ok(Mail {
-            first,
-            second,
-            taker,
-        }),
-        Err(fault) => {
-            drop(first);
-            drop(taker);
-            Err(fault.into())
+    /// A poll that gives something else than the row has is `Uneven`.
+    fn take(&mut self, alloc: Global, call: &Call) -> Result<(), Fault> {
+        match call {
+            Call::First(key, named) => done(put(alloc, self.first, *key, *named)),
+            Call::Second(key, named) => done(put(alloc, self.second, *key, *named)),
+            Call::Poll(key, named) => expect(taken(self.rt, self.taker), *key, named),
+            Call::Close => {
+                self.first.close();
+                Ok(())
+            }
+            Call::Book => done(book(self.first, self.second, self.taker, alloc)),
         }
     }
+
+    fn show(&mut self, alloc: Global, _: Way, notes: &mut Notes) {
+        show_share(notes, self.first.share());
+        show_share(notes, self.second.share());
+        notes.add(self.taker.taken());
+        show_book(notes, book(self.first, self.second, self.taker, alloc));
+    }
 }
 
-/// Takes one call of the row. One that gives something else than the row has is `Uneven`.
-fn take<N: Naming, R: Wait + Drop>(
+/// The book that is lent for the shares that there are.
+fn book<N: Naming, R: Wait>(
+    first: &Putter<N, R>,
+    second: &Putter<N, R>,
+    taker: &Taker<N, R>,
     alloc: Global,
-    mail: &mut Mail<N, R>,
-    task: &MockTask,
-    call: Call,
-) -> Result<(), Fault> {
-    match call {
-        Call::First(key, subscriber, mark) => put(alloc, &mut mail.first, (key, subscriber, mark)),
-        Call::Second(key, subscriber, mark) => put(
-            alloc,
-            &mut mail.second,
-            (key, subscriber, mark),
-        ),
-        Call::Poll(given) => poll(alloc, &mut mail.taker, task, given),
-        Call::Close => {
-            mail.first.close();
-            Ok(())
-        }
-        Call::Book => {
-            let mut text = String::new(alloc);
-            spell_book_of(&mut text, mail)
-        }
+) -> Result<Vec<Entry<u64, u16, (), All>>, Fault> {
+    match (first.share(), second.share()) {
+        (Some(first), Some(second)) => taker.book(alloc, &[first, second]),
+        (Some(first), None) => taker.book(alloc, &[first]),
+        _ => taker.book(alloc, &[]),
     }
 }
 
-/// Puts a fetch of a key for a subscriber with its mark.
-fn put<N: Naming, R: Wait>(
-    alloc: Global,
-    handle: &mut Putter<N, R>,
-    told: (u16, u16, u64),
+/// Whether a poll gave a fetch of this key for these subscribers, or nothing for none of them.
+fn expect(
+    polled: Result<Option<Message<u64, u16, (), All>>, Fault>,
+    key: u64,
+    named: &[(u16, u64)],
 ) -> Result<(), Fault> {
-    let fetch = Fetch {
-        key: told.0,
-        subscriber: told.1,
-        mark: told.2,
+    let is_given = match &polled {
+        Ok(Some(Message::Fetch(items))) => match items.as_slice() {
+            [item] => item.key == key && item.subscribers.as_slice() == named,
+            _ => false,
+        },
+        Ok(_) => named.is_empty(),
+        Err(fault) => return Err(*fault),
     };
-    let mut items = Vec::new(alloc);
-    items.push(FetchKey::from_fetch(alloc, fetch)?)?;
-    handle.enqueue(Message::Fetch(items))?;
-    Ok(())
+    drop(polled);
+    if is_given { Ok(()) } else { Err(Fault::Uneven) }
 }
 
-/// Polls, and compares what the poll gives.
-fn poll<N: Naming, R: Wait + Drop>(
-    alloc: Global,
-    taker: &mut Taker<N, R>,
-    task: &MockTask,
-    given: &str,
-) -> Result<(), Fault> {
-    let mut text = String::with_capacity(alloc, 64)?;
-    if let Poll::Ready(Some(taken)) = task.enter(|cx| taker.poll_next(cx)) {
-        spell_taken(&mut text, taken)?;
-    }
-    if text.as_str() == given {
-        Ok(())
-    } else {
-        Err(Fault::Uneven)
-    }
-}
-
-/// Writes a message that was taken.
-fn spell_taken(text: &mut String, taken: Result<Told, Fault>) -> Result<(), Fault> {
-    match taken {
-        Ok(message) => {
-            let spelled = spell(text, &message);
-            drop(message);
-            spelled
+/// Writes the share of a handle: its number, whether it was closed, and its messages.
+fn show_share<N: Naming>(notes: &mut Notes, share: Option<&Share<u64, u16, (), All, N>>) {
+    match share {
+        Some(share) => {
+            notes.add(share.handle());
+            notes.add(share.is_closed());
+            notes.add(share.puts());
         }
-        Err(fault) => Err(fault),
+        None => notes.put(NONE),
     }
 }
 
-/// Whether the mailbox shows this.
-fn shows<N: Naming, R: Wait>(
-    alloc: Global,
-    mail: &Mail<N, R>,
-    shown: Shown,
-) -> Result<bool, Fault> {
-    let mut seen = String::new(alloc);
-    spell_mail(&mut seen, mail)?;
-    let mut expected = String::new(alloc);
-    spell_shown(&mut expected, shown)?;
-    Ok(seen.as_str() == expected.as_str())
-}
-
-/// Writes the shares of both handles, what was taken, and the book.
-fn spell_mail<N: Naming, R: Wait>(text: &mut String, mail: &Mail<N, R>) -> Result<(), Fault> {
-    spell_share(text, mail.first.share())?;
-    text.push_str(";")?;
-    spell_share(text, mail.second.share())?;
-    text.push_str(";")?;
-    spell_all(text, mail.taker.taken())?;
-    text.push_str(";")?;
-    spell_book_of(text, mail)
-}
-
-/// Writes what the row says is shown.
-fn spell_shown(text: &mut String, shown: Shown) -> Result<(), Fault> {
-    let (first, second, taken, calls) = shown;
-    write!(text, "{first};{second};{taken};")?;
-    for call in BOOK.iter().take(calls) {
-        text.push_str(call)?;
-    }
-    Ok(())
-}
-
-/// Writes the book that is lent for the shares that there are.
-fn spell_book_of<N: Naming, R: Wait>(text: &mut String, mail: &Mail<N, R>) -> Result<(), Fault> {
-    let alloc = *text.allocator();
-    let Some(first) = mail.first.share() else {
-        return spell_lent(text, mail.taker.book(alloc, &[]));
-    };
-    let Some(second) = mail.second.share() else {
-        return spell_lent(text, mail.taker.book(alloc, &[first]));
-    };
-    spell_lent(text, mail.taker.book(alloc, &[first, second]))
-}
-
-/// Writes a book that was lent.
-fn spell_lent(
-    text: &mut String,
-    lent: Result<Vec<Entry<u16, u16, (), All>>, Fault>,
-) -> Result<(), Fault> {
+/// Writes a book that was lent, a call each.
+fn show_book(notes: &mut Notes, lent: Result<Vec<Entry<u64, u16, (), All>>, Fault>) {
     match lent {
         Ok(book) => {
-            let spelled = spell_book(text, book.as_slice());
+            for entry in book.as_slice() {
+                notes.add(entry);
+            }
             drop(book);
-            spelled
         }
-        Err(fault) => Err(fault),
+        Err(fault) => notes.add(fault),
     }
 }
