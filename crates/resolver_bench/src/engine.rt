@@ -125,6 +125,5 @@ fn event_of(alloc: Global, kind: Kind, i: u64) -> Result<Step, Fault> {
 /// A response of one byte to the request of this id.
 fn response(alloc: Global, id: u64) -> Result<Bytes, Fault> {
     let [a, b, c, d, e, f, g, h] = id.to_be_bytes();
-    let bytes = Vec::from_slice(alloc, &[a, b, c, d, e, f, g, h, 1, 1, 0])?;
-    Ok(Bytes::from_vec(bytes)?)
+    Ok(Bytes::copy_from_slice(alloc, &[a, b, c, d, e, f, g, h, 1, 1, 0])?)
 }

@@ -51,7 +51,7 @@ fn put_and_take<R: AllocGlobal + Clock + Print + Wait + RandomSource + Drop>(
     take_each(rt, sender, STEPS, load)?;
     sender.close();
     let began = Instant::now(rt).ok();
-    let taken = take_waiting(rt, receiver)?;
+    let taken = take_waiting(rt, receiver);
     tell(rt, load, began, ("take", "fetches"), taken)
 }
 
@@ -94,9 +94,9 @@ fn take_waiting<R: AllocGlobal + Wait + RandomSource + Drop>(
 }
 
 /// Takes a message; none where the mailbox has ended, or none is ready.
-pub fn taken<N: Naming, R: AllocGlobal + Wait + RandomSource + Drop>(
+fn taken<R: AllocGlobal + Wait + RandomSource + Drop>(
     rt: &R,
-    receiver: &mut Taker<N, R>,
+    receiver: &mut Taker<Unrecorded, R>,
 ) -> Result<Option<Message<u64, u16, (), All>>, base::Fault> {
     match receiver.next().now_or_never(rt) {
         Ok(Some(Some(Ok(message)))) => Ok(Some(message)),

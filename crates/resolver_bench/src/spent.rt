@@ -98,28 +98,27 @@ pub fn take_each<T: Driven>(
 ) -> Result<(), Fault> {
     for steps in table {
         driven.prepare(rt.alloc(), steps.0, load)?;
-        let count = steps.count(load);
         let began = Instant::now(rt).ok();
-        let counted = take_all(driven, rt.alloc(), steps.0, count)?;
-        tell(rt, load, began, (steps.2, steps.3), (count, counted))?;
+        let taken = take_all(driven, rt.alloc(), steps.0, steps.count(load));
+        tell(rt, load, began, (steps.2, steps.3), taken)?;
     }
     Ok(())
 }
 
-/// Takes so many steps of one kind, and counts how many effects, subscribers of a key, or whatever else its kind
-/// counts they had.
+/// Takes so many steps of one kind. It answers how many they are, and how many effects, subscribers of a key, or
+/// whatever else their kind counts they had.
 #[inline(never)]
 pub fn take_all<T: Driven>(
     driven: &mut T,
     alloc: Global,
     kind: Kind,
     steps: u64,
-) -> Result<u64, Fault> {
+) -> Result<(u64, u64), Fault> {
     let mut counted: u64 = 0;
     for i in 0..steps {
         counted = counted.saturating_add(driven.take(alloc, kind, i)?);
     }
-    Ok(counted)
+    Ok((steps, counted))
 }
 
 /// Prints what steps are called, how many there were and what they counted, with the time of a step or without.
@@ -127,29 +126,17 @@ pub fn tell(
     rt: &(impl Clock + Print),
     load: &Load,
     began: Option<Instant>,
-    names: (&str, &str),
-    counts: (u64, u64),
+    (name, what): (&str, &str),
+    taken: Result<(u64, u64), Fault>,
 ) -> Result<(), Fault> {
+    let (steps, counted) = taken?;
     let Some(began) = began else {
         return Err(Fault::Host);
     };
     let nanoseconds = began.elapsed(rt)?.as_nanos();
-    let each = nanoseconds.checked_div(u128::from(counts.0));
-    match load.with_time {
-        true => print(rt, names, counts, Some(each.unwrap_or(0))),
-        false => print(rt, names, counts, None),
-    }
-}
-
-/// Prints it with the nanoseconds of a step, if they are given.
-fn print(
-    rt: &impl Print,
-    (name, what): (&str, &str),
-    (steps, counted): (u64, u64),
-    each: Option<u128>,
-) -> Result<(), Fault> {
     print!(rt; "{name}: {steps} steps, {counted} {what}")?;
-    if let Some(each) = each {
+    if load.with_time {
+        let each = nanoseconds.checked_div(u128::from(steps)).unwrap_or(0);
         print!(rt; ", {each} ns a step")?;
     }
     Ok(println!(rt)?)

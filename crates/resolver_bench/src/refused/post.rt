@@ -2,9 +2,12 @@
 
 ghost use Rattle.std.specs.Prelude.{◌≡◌, true};
 
-use crate::mailbox::{Putter, Taker, put, taken};
+use crate::mailbox::{Putter, Taker, put};
 use crate::refused::part::{Ending, Notes, Part, Way, done, walk};
 use crate::workload::All;
+use futures::Stream;
+use futures::task::Poll;
+use futures::test::MockTask;
 use resolver_base::base::Fault;
 use resolver_ingress::ingress::Message;
 use resolver_mailbox::mailbox;
@@ -13,10 +16,10 @@ use std::alloc::{AllocGlobal, Global};
 use std::random::RandomSource;
 use std::sync::Wait;
 
-/// Two handles and the end that takes, which are lent.
+/// A task that polls, and two handles and the end that takes, which are lent.
 #[derive(Drop)]
 struct Mail<'a, N: Naming, R> {
-    rt: &'a R,
+    task: MockTask,
     first: &'a mut Putter<N, R>,
     second: &'a mut Putter<N, R>,
     taker: &'a mut Taker<N, R>,
@@ -120,23 +123,29 @@ where
     requires puts { pages.puts.name ≡ N.puts }
     requires takes { pages.takes.name ≡ N.takes }
 {
+    let Ok(task) = MockTask::new(rt) else {
+        return Ending::Outside;
+    };
     let opened: Result<(Putter<N, R>, Taker<N, R>), Fault> = mailbox::recorded(
         *rt, alloc, pages, 1,
     );
     match opened {
         Ok((mut first, mut taker)) => {
-            let ending = ended(rt, alloc, way, &mut first, &mut taker);
+            let ending = ended(task, alloc, way, &mut first, &mut taker);
             drop(first);
             drop(taker);
             ending
         }
-        Err(_) => Ending::Outside,
+        Err(_) => {
+            drop(task);
+            Ending::Outside
+        }
     }
 }
 
 /// The same of a mailbox that is lent, with a second handle.
-fn ended<N: Naming, R: AllocGlobal + Wait + RandomSource + Copy + Drop>(
-    rt: &R,
+fn ended<N: Naming, R: Wait + Copy + Drop>(
+    task: MockTask,
     alloc: Global,
     way: Way,
     first: &mut Putter<N, R>,
@@ -145,7 +154,7 @@ fn ended<N: Naming, R: AllocGlobal + Wait + RandomSource + Copy + Drop>(
     match first.clone() {
         Ok(mut second) => {
             let mut mail = Mail {
-                rt,
+                task,
                 first,
                 second: &mut second,
                 taker,
@@ -155,7 +164,10 @@ fn ended<N: Naming, R: AllocGlobal + Wait + RandomSource + Copy + Drop>(
             drop(second);
             ending
         }
-        Err(_) => Ending::Outside,
+        Err(_) => {
+            drop(task);
+            Ending::Outside
+        }
     }
 }
 
@@ -189,14 +201,14 @@ fn expected(alloc: Global, count: usize) -> Notes {
 impl<N, R> Part<Call> for Mail<'_, N, R>
 where
     N: Naming,
-    R: AllocGlobal + Wait + RandomSource + Drop,
+    R: Wait + Drop,
 {
     /// A poll that gives something else than the row has is `Uneven`.
     fn take(&mut self, alloc: Global, call: &Call) -> Result<(), Fault> {
         match call {
             Call::First(key, named) => done(put(alloc, self.first, *key, *named)),
             Call::Second(key, named) => done(put(alloc, self.second, *key, *named)),
-            Call::Poll(key, named) => expect(taken(self.rt, self.taker), *key, named),
+            Call::Poll(key, named) => expect(polled(&self.task, self.taker), *key, named),
             Call::Close => {
                 self.first.close();
                 Ok(())
@@ -227,19 +239,27 @@ fn book<N: Naming, R: Wait>(
     }
 }
 
+/// Polls once.
+fn polled<N: Naming, R: Wait + Drop>(
+    task: &MockTask,
+    taker: &mut Taker<N, R>,
+) -> Poll<Option<Result<Message<u64, u16, (), All>, Fault>>> {
+    task.enter(|cx| taker.poll_next(cx))
+}
+
 /// Whether a poll gave a fetch of this key for these subscribers, or nothing for none of them.
 fn expect(
-    polled: Result<Option<Message<u64, u16, (), All>>, Fault>,
+    polled: Poll<Option<Result<Message<u64, u16, (), All>, Fault>>>,
     key: u64,
     named: &[(u16, u64)],
 ) -> Result<(), Fault> {
     let is_given = match &polled {
-        Ok(Some(Message::Fetch(items))) => match items.as_slice() {
+        Poll::Ready(Some(Ok(Message::Fetch(items)))) => match items.as_slice() {
             [item] => item.key == key && item.subscribers.as_slice() == named,
             _ => false,
         },
-        Ok(_) => named.is_empty(),
-        Err(fault) => return Err(*fault),
+        Poll::Ready(Some(Err(fault))) => return Err(*fault),
+        _ => named.is_empty(),
     };
     drop(polled);
     if is_given { Ok(()) } else { Err(Fault::Uneven) }
