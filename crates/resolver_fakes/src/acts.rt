@@ -121,24 +121,20 @@ impl<M: Asks> World<M> {
     /// Does this, without a poll.
     pub fn act(&mut self, act: Act<'_>) -> Result<(), Fault> {
         let alloc = self.held.alloc;
-        match act {
-            Act::Fetch(wants) => {
-                self.mailbox.fetch(alloc, wants)?;
-            }
-            Act::LastFetch(wants) => {
-                self.mailbox.fetch(alloc, wants)?;
-                self.mailbox.close();
-            }
-            Act::FetchFrom(wants) => {
-                self.mailbox.fetch_from(alloc, wants)?;
-            }
-            Act::Retain(below) => {
-                self.mailbox.retain(below)?;
-            }
-            Act::CloseMailbox => self.mailbox.close(),
-            _ => self.held.act(act)?,
+        let asked = match act {
+            Act::Fetch(wants) | Act::LastFetch(wants) => self.mailbox.fetch(alloc, wants),
+            Act::FetchFrom(wants) => self.mailbox.fetch_from(alloc, wants),
+            Act::Retain(below) => self.mailbox.retain(below),
+            Act::CloseMailbox => Ok(Feedback::Ok),
+            _ => return self.held.act(act),
+        };
+        if matches!(act, Act::LastFetch(_) | Act::CloseMailbox) {
+            self.mailbox.close();
         }
-        Ok(())
+        match asked {
+            Ok(_) => Ok(()),
+            Err(fault) => Err(fault),
+        }
     }
 }
 
@@ -146,14 +142,14 @@ impl Held {
     /// Does this, of what needs no handle.
     fn act(&mut self, act: Act<'_>) -> Result<(), Fault> {
         match act {
-            Act::Peers(index, numbers) => self.set_peers(index, numbers)?,
-            Act::Block(numbers) => self.block(numbers)?,
-            Act::Net(peer, bytes) => self.receive(peer, bytes)?,
+            Act::Peers(index, numbers) => return self.set_peers(index, numbers),
+            Act::Block(numbers) => return self.block(numbers),
+            Act::Net(peer, bytes) => return self.receive(peer, bytes),
+            Act::Serve(bytes) => return self.serve(bytes),
             Act::Judge(outcome) => self.judge(outcome),
             Act::Drop | Act::IsWanted => {
                 self.is_wanted();
             }
-            Act::Serve(bytes) => self.serve(bytes)?,
             Act::At(moment) => self.watch.put(moment),
             Act::ClosePeers => self.sets.close_channel(),
             Act::CloseBlocked => self.blocked.close_channel(),
@@ -168,41 +164,63 @@ impl Held {
     }
 
     fn set_peers(&self, index: u64, numbers: &[u8]) -> Result<(), Fault> {
-        let peers = peers(self.alloc, numbers)?;
-        let _ = self.sets.unbounded_send((index, peers));
-        Ok(())
+        match peers(self.alloc, numbers) {
+            Ok(peers) => {
+                drop(self.sets.unbounded_send((index, peers)));
+                Ok(())
+            }
+            Err(fault) => Err(fault),
+        }
     }
 
     fn block(&self, numbers: &[u8]) -> Result<(), Fault> {
-        let _ = self.blocked.unbounded_send(peers(self.alloc, numbers)?);
-        Ok(())
+        match peers(self.alloc, numbers) {
+            Ok(peers) => {
+                drop(self.blocked.unbounded_send(peers));
+                Ok(())
+            }
+            Err(fault) => Err(fault),
+        }
     }
 
     fn receive(&self, peer: u8, bytes: &[u8]) -> Result<(), Fault> {
-        let bytes = Bytes::copy_from_slice(self.alloc, bytes)?;
-        let _ = self.network.unbounded_send((Peer(peer), bytes));
-        Ok(())
+        match Bytes::copy_from_slice(self.alloc, bytes) {
+            Ok(bytes) => {
+                drop(self.network.unbounded_send((Peer(peer), bytes)));
+                Ok(())
+            }
+            Err(error) => Err(error.into()),
+        }
     }
 
     fn judge(&mut self, outcome: Outcome) {
         if let Ok(verdict) = self.verdicts.try_recv() {
-            let _ = verdict.send(outcome);
+            drop(verdict.send(outcome));
         }
     }
 
     /// Whether anybody waits for what is said of the first delivery, which is dropped.
     pub fn is_wanted(&mut self) -> bool {
         match self.verdicts.try_recv() {
-            Ok(verdict) => !verdict.is_canceled(),
+            Ok(verdict) => {
+                let is_wanted = !verdict.is_canceled();
+                drop(verdict);
+                is_wanted
+            }
             Err(_) => false,
         }
     }
 
     fn serve(&mut self, bytes: &[u8]) -> Result<(), Fault> {
-        let bytes = Bytes::copy_from_slice(self.alloc, bytes)?;
-        if let Ok(serve) = self.serves.try_recv() {
-            let _ = serve.send(bytes);
+        match Bytes::copy_from_slice(self.alloc, bytes) {
+            Ok(bytes) => {
+                match self.serves.try_recv() {
+                    Ok(serve) => drop(serve.send(bytes)),
+                    Err(_) => drop(bytes),
+                }
+                Ok(())
+            }
+            Err(error) => Err(error.into()),
         }
-        Ok(())
     }
 }

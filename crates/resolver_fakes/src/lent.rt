@@ -6,7 +6,7 @@ ghost use Rattle.futures.specs.Task.{IsArmed, Keeps};
 ghost use Rattle.resolver_base.specs.declared.base.fault.Fault.TheVariants.{OutOfMemory};
 
 use crate::names::Peer;
-use crate::seen::{Seen, Told, Wrong};
+use crate::seen::{Seen, Told, Wrong, tell};
 use bytes::Bytes;
 use futures::Stream;
 use futures::channel::{mpsc, oneshot};
@@ -41,7 +41,7 @@ impl Blocker for Given<Vec<Peer>> {
     type PublicKey = Peer;
 
     fn block(&mut self, peer: &Peer) {
-        let _ = self.told.unbounded_send(Seen::Blocked(*peer));
+        tell(&self.told, Seen::Blocked(*peer));
     }
 
     fn poll_blocked(&mut self, cx: &mut Context<'_>) -> Poll<Option<Vec<Peer>>> {
@@ -98,18 +98,19 @@ impl Sender for Wire {
             Check::Clear => Seen::Checked(*peer),
             Check::Until(_) => Seen::Limited(*peer),
         };
-        let _ = self.told.unbounded_send(seen);
+        tell(&self.told, seen);
         check
     }
 
     fn send(&mut self, peer: &Peer, message: Bytes, _priority: bool) -> Unreliable {
         self.sends = self.sends.saturating_add(1);
         if self.wrong.is_refused(self.sends) {
-            let _ = self.told.unbounded_send(Seen::Refused(*peer, message));
-            return Unreliable::Rejected;
+            tell(&self.told, Seen::Refused(*peer, message));
+            Unreliable::Rejected
+        } else {
+            tell(&self.told, Seen::Sent(*peer, message));
+            Unreliable::Outcome(Feedback::Ok)
         }
-        let _ = self.told.unbounded_send(Seen::Sent(*peer, message));
-        Unreliable::Outcome(Feedback::Ok)
     }
 }
 
@@ -127,11 +128,21 @@ impl Drop for Dice {
 
 impl Draws for Dice {
     fn below(&mut self, n: u128) -> u128 {
-        let _ = self.told.unbounded_send(Seen::Drew(n));
+        tell(&self.told, Seen::Drew(n));
         match &mut self.seeded {
             Some(seeded) => seeded.below(n),
             None => 0,
         }
+    }
+}
+
+/// A one-shot.
+fn channel<T: Drop>(alloc: Global) -> Result<(oneshot::Sender<T>, oneshot::Receiver<T>), Fault>
+    ensures only { IfErr result (λ fault. fault ≡ OutOfMemory) }
+{
+    match oneshot::channel(alloc) {
+        Ok(ends) => Ok(ends),
+        Err(error) => Err(error.into()),
     }
 }
 
@@ -170,15 +181,25 @@ impl Consumer for Judge {
     ) -> Result<oneshot::Receiver<Outcome>, Fault>
         ensures only { IfErr result (λ fault. fault ≡ OutOfMemory) }
     {
-        if matches!(self.wrong, Wrong::Consumer) {
-            return Err(Fault::OutOfMemory);
+        let made = match self.wrong {
+            Wrong::Consumer => Err(Fault::OutOfMemory),
+            _ => channel(self.alloc),
+        };
+        match made {
+            Ok((verdict, receiver)) => {
+                tell(&self.told, Seen::Delivered(delivery, value));
+                match self.wrong {
+                    Wrong::Drops => drop(verdict),
+                    _ => drop(self.verdicts.unbounded_send(verdict)),
+                }
+                Ok(receiver)
+            }
+            Err(fault) => {
+                drop(delivery);
+                drop(value);
+                Err(fault)
+            }
         }
-        let (verdict, receiver) = oneshot::channel(self.alloc)?;
-        let _ = self.told.unbounded_send(Seen::Delivered(delivery, value));
-        if !matches!(self.wrong, Wrong::Drops) {
-            let _ = self.verdicts.unbounded_send(verdict);
-        }
-        Ok(receiver)
     }
 }
 
@@ -207,12 +228,17 @@ impl Producer for Store {
     fn produce(&mut self, key: Key) -> Result<oneshot::Receiver<Bytes>, Fault>
         ensures only { IfErr result (λ fault. fault ≡ OutOfMemory) }
     {
-        if matches!(self.wrong, Wrong::Producer) {
-            return Err(Fault::OutOfMemory);
+        let made = match self.wrong {
+            Wrong::Producer => Err(Fault::OutOfMemory),
+            _ => channel(self.alloc),
+        };
+        match made {
+            Ok((serve, receiver)) => {
+                tell(&self.told, Seen::Produced(key));
+                drop(self.serves.unbounded_send(serve));
+                Ok(receiver)
+            }
+            Err(fault) => Err(fault),
         }
-        let (serve, receiver) = oneshot::channel(self.alloc)?;
-        let _ = self.told.unbounded_send(Seen::Produced(key));
-        let _ = self.serves.unbounded_send(serve);
-        Ok(receiver)
     }
 }

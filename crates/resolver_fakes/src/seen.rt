@@ -62,7 +62,7 @@ pub struct Hex<'a>(pub &'a [u8]);
 
 impl fmt::Display for Hex<'_> {
     fn fmt<W: Write>(&self, f: &mut Formatter<W>) -> fmt::Result {
-        write!(f, "x")?;
+        f.write_str("x")?;
         for byte in self.0 {
             write!(f, "{byte:02x}")?;
         }
@@ -118,16 +118,23 @@ fn write_delivery<W: Write>(
 /// Where a test is told of it.
 pub type Told = mpsc::UnboundedSender<Seen>;
 
+/// Tells what was asked, where anybody listens.
+pub fn tell(told: &Told, seen: Seen) {
+    drop(told.unbounded_send(seen));
+}
+
 /// Writes what some fakes were asked since the last time.
-pub fn spell(
+pub fn spell<T: fmt::Display + Drop>(
     text: &mut String,
-    told: &mut mpsc::UnboundedReceiver<Seen>,
+    told: &mut mpsc::UnboundedReceiver<T>,
 ) -> Result<(), AllocError> {
     for _ in 0..100_000_u64 {
         let Ok(seen) = told.try_recv() else {
             return Ok(());
         };
-        writeln!(text, "{seen}")?;
+        let written = writeln!(text, "{seen}");
+        drop(seen);
+        written?;
     }
     Ok(())
 }

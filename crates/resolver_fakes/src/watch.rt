@@ -58,9 +58,16 @@ impl Watch {
 
     /// A watch that stands at 0, for two.
     pub fn shared(alloc: Global) -> Result<(Arc<Watch>, Arc<Watch>), AllocError> {
-        let watch = Arc::new(alloc, Watch::new())?;
-        let other = Arc::try_clone(&watch)?;
-        Ok((watch, other))
+        match Arc::new(alloc, Watch::new()) {
+            Ok(watch) => match Arc::try_clone(&watch) {
+                Ok(other) => Ok((watch, other)),
+                Err(error) => {
+                    drop(watch);
+                    Err(error)
+                }
+            },
+            Err(error) => Err(error.into()),
+        }
     }
 
     /// From now on it is this moment.
@@ -113,10 +120,11 @@ impl Clock for Standing {
         };
         let time = &mut *guard;
         if time.now as u128 >= moment {
-            return Poll::Ready(());
+            Poll::Ready(())
+        } else {
+            time.awaited = Some(moment);
+            cx.register(&self.watch.changed, &mut time.waker)
         }
-        time.awaited = Some(moment);
-        cx.register(&self.watch.changed, &mut time.waker)
     }
 }
 

@@ -149,11 +149,11 @@ pub struct Lent {
 
 /// What gives an engine its peers, and the ends by which a test gives it.
 #[derive(Drop)]
-pub struct Sources {
-    pub sets: mpsc::UnboundedSender<(u64, Vec<Peer>)>,
-    pub blocked: mpsc::UnboundedSender<Vec<Peer>>,
-    pub provider: Given<(u64, Vec<Peer>)>,
-    pub blocker: Given<Vec<Peer>>,
+struct Sources {
+    sets: mpsc::UnboundedSender<(u64, Vec<Peer>)>,
+    blocked: mpsc::UnboundedSender<Vec<Peer>>,
+    provider: Given<(u64, Vec<Peer>)>,
+    blocker: Given<Vec<Peer>>,
 }
 
 /// What an engine's effects go to, and the ends by which a test answers.
@@ -161,6 +161,15 @@ pub struct Sources {
 struct Hands {
     verdicts: mpsc::UnboundedReceiver<oneshot::Sender<Outcome>>,
     serves: mpsc::UnboundedReceiver<oneshot::Sender<Bytes>>,
+    consumer: Judge,
+    producer: Store,
+}
+
+/// What a world's engine is made of.
+#[derive(Drop)]
+struct Parts {
+    provider: Given<(u64, Vec<Peer>)>,
+    blocker: Given<Vec<Peer>>,
     consumer: Judge,
     producer: Store,
 }
@@ -177,7 +186,7 @@ fn given<T: Drop>(
 }
 
 /// Sources of peers that give what a test says.
-pub fn make_sources(alloc: Global, told: &Told) -> Result<Sources, Fault> {
+fn make_sources(alloc: Global, told: &Told) -> Result<Sources, Fault> {
     match both(given(alloc, told), given(alloc, told)) {
         Ok(((sets, provider), (blocked, blocker))) => Ok(Sources {
             sets,
@@ -241,7 +250,7 @@ fn make_hands(alloc: Global, told: &Told, wrong: Wrong) -> Result<Hands, Fault> 
 }
 
 /// What the engine is lent besides, and the ends that a test holds of that.
-pub fn make_lent(
+fn make_lent(
     alloc: Global,
     told: Told,
     setting: Setting,
@@ -263,100 +272,95 @@ pub fn make_lent(
     }
 }
 
-/// An engine with a timeout of 50 and a delay of 10, and its mailbox.
-fn made<R: Copy>(
-    rt: R,
-    alloc: Global,
-    me: u8,
-    peers: (Given<(u64, Vec<Peer>)>, Given<Vec<Peer>>),
-    hands: (Judge, Store),
-) -> Result<(Made<R>, Asked<R>), Fault> {
-    let cfg = Config {
-        peer_provider: peers.0,
-        blocker: peers.1,
-        consumer: hands.0,
-        producer: hands.1,
-        mailbox_size: NonZeroUsize::MIN,
-        me: Some(Peer(me)),
-        fetch_timeout: 50,
-        fetch_retry_delay: 10,
-        priority_requests: false,
-        priority_responses: false,
-    };
-    Engine::new(rt, alloc, cfg)
-}
-
-/// A world with its engine.
-pub fn make_world<R: Copy>(
-    rt: R,
-    alloc: Global,
-    setting: Setting,
-) -> Result<(World<Asked<R>>, Made<R>, Lent), Fault> {
+/// What a world's engine is made of, what it is lent besides, and what the test holds.
+fn make_parts(alloc: Global, setting: Setting) -> Result<(Held, Lent, Parts), Fault> {
     let (told, seen) = mpsc::unbounded(alloc)?;
     match both(
         make_sources(alloc, &told),
         make_hands(alloc, &told, setting.wrong),
     ) {
-        Ok((sources, hands)) => make_between(rt, alloc, setting, (told, seen), sources, hands),
+        Ok((sources, hands)) => tie(alloc, setting, (told, seen), sources, hands),
         Err(fault) => {
-            drop((told, seen));
+            drop(told);
+            drop(seen);
             Err(fault)
         }
     }
 }
 
-/// A world with its engine, which has these sources and these hands.
-fn make_between<R: Copy>(
-    rt: R,
+/// The same, of these sources and these hands.
+fn tie(
     alloc: Global,
     setting: Setting,
     channel: (Told, mpsc::UnboundedReceiver<Seen>),
     sources: Sources,
     hands: Hands,
-) -> Result<(World<Asked<R>>, Made<R>, Lent), Fault> {
+) -> Result<(Held, Lent, Parts), Fault> {
     let (told, seen) = channel;
-    let Sources {
-        sets,
-        blocked,
-        provider,
-        blocker,
-    } = sources;
-    let Hands {
-        verdicts,
-        serves,
-        consumer,
-        producer,
-    } = hands;
-    let engine = made(
-        rt,
-        alloc,
-        setting.me,
-        (provider, blocker),
-        (consumer, producer),
-    );
-    match both(make_lent(alloc, told, setting), engine) {
-        Ok(((network, watch, lent), (engine, mailbox))) => {
+    match make_lent(alloc, told, setting) {
+        Ok((network, watch, lent)) => {
             let held = Held {
                 alloc,
-                sets,
-                blocked,
+                sets: sources.sets,
+                blocked: sources.blocked,
                 network,
                 watch,
-                verdicts,
-                serves,
+                verdicts: hands.verdicts,
+                serves: hands.serves,
                 told: seen,
             };
-            Ok((World { mailbox, held }, engine, lent))
+            let parts = Parts {
+                provider: sources.provider,
+                blocker: sources.blocker,
+                consumer: hands.consumer,
+                producer: hands.producer,
+            };
+            Ok((held, lent, parts))
         }
         Err(fault) => {
-            drop((seen, sets, blocked, verdicts, serves));
+            drop(seen);
+            drop(sources);
+            drop(hands);
             Err(fault)
         }
     }
 }
 
+/// A world with its engine, which has a timeout of 50 and a delay of 10.
+pub fn make_world<R: Copy>(
+    rt: R,
+    alloc: Global,
+    setting: Setting,
+) -> Result<(World<Asked<R>>, Made<R>, Lent), Fault> {
+    match make_parts(alloc, setting) {
+        Ok((held, lent, parts)) => {
+            let cfg = Config {
+                peer_provider: parts.provider,
+                blocker: parts.blocker,
+                consumer: parts.consumer,
+                producer: parts.producer,
+                mailbox_size: NonZeroUsize::MIN,
+                me: Some(Peer(setting.me)),
+                fetch_timeout: 50,
+                fetch_retry_delay: 10,
+                priority_requests: false,
+                priority_responses: false,
+            };
+            match Engine::new(rt, alloc, cfg) {
+                Ok((engine, mailbox)) => Ok((World { mailbox, held }, engine, lent)),
+                Err(fault) => {
+                    drop(held);
+                    drop(lent);
+                    Err(fault)
+                }
+            }
+        }
+        Err(fault) => Err(fault),
+    }
+}
+
 /// The network, the clock and the draws that an engine is lent.
-pub fn parts_of(lent: Lent) -> Result<((Wire, Given<(Peer, Bytes)>), Standing, Dice), Fault> {
+fn parts_of(lent: Lent) -> Result<((Wire, Given<(Peer, Bytes)>), Standing, Dice), Fault> {
     let Lent {
         setting,
         told,
@@ -373,19 +377,10 @@ pub fn parts_of(lent: Lent) -> Result<((Wire, Given<(Peer, Bytes)>), Standing, D
             Ok(((sender, receiver), Standing { watch }, setting.dice(told)))
         }
         Err(error) => {
-            drop((told, incoming, watch));
+            drop(told);
+            drop(incoming);
+            drop(watch);
             Err(error.into())
-        }
-    }
-}
-
-/// The loop of a world's engine.
-pub fn into_loop<R: Copy>(engine: Made<R>, lent: Lent) -> Result<Looped<R>, Fault> {
-    match parts_of(lent) {
-        Ok((network, clock, draws)) => engine.into_loop(network, clock, draws),
-        Err(fault) => {
-            drop(engine);
-            Err(fault)
         }
     }
 }
@@ -397,13 +392,22 @@ pub fn make_loop<R: Copy>(
     setting: Setting,
 ) -> Result<(World<Asked<R>>, Looped<R>), Fault> {
     match make_world(rt, alloc, setting) {
-        Ok((world, engine, lent)) => match into_loop(engine, lent) {
-            Ok(looped) => Ok((world, looped)),
-            Err(fault) => {
-                drop(world);
-                Err(fault)
+        Ok((world, engine, lent)) => {
+            let looped = match parts_of(lent) {
+                Ok((network, clock, draws)) => engine.into_loop(network, clock, draws),
+                Err(fault) => {
+                    drop(engine);
+                    Err(fault)
+                }
+            };
+            match looped {
+                Ok(looped) => Ok((world, looped)),
+                Err(fault) => {
+                    drop(world);
+                    Err(fault)
+                }
             }
-        },
+        }
         Err(fault) => Err(fault),
     }
 }
