@@ -1,11 +1,11 @@
 //! Scripts that feed the actor, which fetches from an opaque source.
 
-use crate::endings::{Fault, written};
+use crate::endings::Fault;
 use crate::kept::Kept;
 use crate::print;
 use crate::script::{Said, Wish};
 use bytes::Bytes;
-use resolver_actor::opaque::{Actor, Effect, Event, Input, Row};
+use resolver_actor::opaque::{Actor, Event, Input};
 use resolver_ingress::ingress::FetchKey;
 use resolver_moment::Moment;
 use resolver_p2p::mocks::Key;
@@ -15,9 +15,6 @@ use std::io::Write;
 
 /// What the actor is told.
 type Told = Event<Key, Bytes, u16, Kept>;
-
-/// What the actor takes.
-type Taken = Input<Key, Bytes, u16, Kept>;
 
 /// The actor that a script opened.
 pub struct Opaque {
@@ -51,28 +48,17 @@ impl Opaque {
         match event_of(self.alloc, said) {
             Ok(Some(event)) => {
                 let now = now.nanoseconds;
-                self.step(Input { now, event }, output)?;
-                Ok(true)
+                print::answer(output, self.actor.step(Input { now, event }))
             }
             Ok(None) => Ok(false),
             Err(fault) => Err(fault),
         }
     }
 
-    fn step<W: Write>(&mut self, input: Taken, output: &mut W) -> Result<(), Fault> {
-        match self.actor.step(input) {
-            Ok(effects) => print_all(&effects, output),
-            Err(fault) => print::refusal(output, fault),
-        }
-    }
-
     /// Prints the rows and the wake-up.
     pub fn show<W: Write>(&self, output: &mut W) -> Result<(), Fault> {
         match self.actor.rows() {
-            Ok(rows) => {
-                print_rows(&rows, output)?;
-                print::wake(output, self.actor.next_retry())
-            }
+            Ok(rows) => print::rows(output, rows, self.actor.next_retry()),
             Err(_) => Err(Fault::Memory),
         }
     }
@@ -104,18 +90,4 @@ fn fetch(alloc: Global, wish: &Wish) -> Result<Option<Told>, Fault> {
     let mut items = Vec::new(alloc);
     items.push(item)?;
     Ok(Some(Event::Fetch(items)))
-}
-
-fn print_all<W: Write>(effects: &[Effect<Key, Bytes, u16>], output: &mut W) -> Result<(), Fault> {
-    for effect in effects {
-        written(print::opaque::effect(output, effect))?;
-    }
-    Ok(())
-}
-
-fn print_rows<W: Write>(rows: &[Row<Key, u16>], output: &mut W) -> Result<(), Fault> {
-    for row in rows {
-        written(print::opaque::row(output, row))?;
-    }
-    Ok(())
 }

@@ -1,90 +1,54 @@
 //! Scripts that feed the engine, which fetches from peers.
 
-use crate::endings::{Fault, written};
+use crate::endings::Fault;
 use crate::kept::Kept;
 use crate::peer::Peer;
 use crate::print;
 use crate::script::{Said, Timing, Wish};
-use bytes::Bytes;
 use resolver_base::base;
-use resolver_engine::effects::Effect;
+use resolver_engine::engine::Core;
 use resolver_engine::inputs::{Event, Happening, Input};
-use resolver_engine::rows::Row;
-use resolver_fetch::fetcher::Answer;
+use resolver_fetch::fetcher::{Answer, Config};
+use resolver_ingress::ingress::FetchKey;
 use resolver_moment::Moment;
-use resolver_p2p::mocks::{Consumer, Key, Producer, Quiet};
-use resolver_p2p::{Config, Engine, FetchKey};
+use resolver_p2p::mocks::Key;
 use resolver_root::NonEmptyVec;
 use std::alloc::{AllocError, Global};
 use std::io::Write;
-use std::num::NonZeroUsize;
 
 /// What the engine is told.
 type Told = Event<Key, Peer, u16, Kept>;
 
+/// A key that is wanted, of these peers where it has some.
+type Wanted = FetchKey<Key, u16, Option<NonEmptyVec<Peer>>>;
+
 /// What the engine takes.
 type Taken = Input<Key, Peer, u16, Kept>;
 
-/// An engine over sources that give nothing. Nobody has a handle of its mailbox.
-type Silent = Engine<
-    Peer,
-    Quiet<Peer>,
-    Quiet<Peer>,
-    Key,
-    u16,
-    Consumer<Key, Bytes, u16>,
-    Producer<Key, Bytes>,
-    Kept,
-    (),
->;
-
-/// The engine that a script opened. Priorities are off.
+/// The engine that a script opened, of which nothing but its core takes part in a script. Priorities are off.
 pub struct Peers {
-    engine: Silent,
+    core: Core<Key, Peer, u16, Kept>,
     alloc: Global,
 }
 
 impl Drop for Peers {
     fn drop(self) {
-        let Self {
-            engine: _,
-            alloc: _,
-        } = self;
+        let Self { core: _, alloc: _ } = self;
     }
 }
 
 impl Peers {
     /// A new engine.
-    pub fn new(alloc: Global, timing: Timing) -> Result<Self, Fault> {
-        match Consumer::dummy(alloc) {
-            Ok(consumer) => Peers::over(alloc, timing, consumer),
-            Err(_) => Err(Fault::Memory),
-        }
-    }
-
-    fn over(
-        alloc: Global,
-        timing: Timing,
-        consumer: Consumer<Key, Bytes, u16>,
-    ) -> Result<Self, Fault> {
-        let cfg = Config {
-            peer_provider: Quiet::new(),
-            blocker: Quiet::new(),
-            consumer,
-            producer: Producer::new(alloc),
-            mailbox_size: NonZeroUsize::MIN,
+    pub fn new(alloc: Global, timing: Timing) -> Self {
+        let config = Config {
             me: timing.me.map(Peer),
             fetch_timeout: timing.timeout,
-            fetch_retry_delay: timing.delay,
+            retry_delay: timing.delay,
             priority_requests: false,
-            priority_responses: false,
         };
-        match Engine::new((), alloc, cfg) {
-            Ok((engine, mailbox)) => {
-                drop(mailbox);
-                Ok(Peers { engine, alloc })
-            }
-            Err(_) => Err(Fault::Memory),
+        Peers {
+            core: Core::new(alloc, config, false),
+            alloc,
         }
     }
 
@@ -99,8 +63,7 @@ impl Peers {
         match event_of(self.alloc, said) {
             Ok(Some(event)) => {
                 let now = now.nanoseconds;
-                self.step(Input::Happens(Happening { now, event }), output)?;
-                Ok(true)
+                self.step(Input::Happens(Happening { now, event }), output)
             }
             Ok(None) => Ok(false),
             Err(fault) => Err(fault),
@@ -108,24 +71,18 @@ impl Peers {
     }
 
     /// Feeds what the open scan is answered, and prints the effects or the refusal.
-    pub fn answers<W: Write>(&mut self, answer: Answer, output: &mut W) -> Result<(), Fault> {
+    pub fn answers<W: Write>(&mut self, answer: Answer, output: &mut W) -> Result<bool, Fault> {
         self.step(Input::Answers(answer), output)
     }
 
-    fn step<W: Write>(&mut self, input: Taken, output: &mut W) -> Result<(), Fault> {
-        match self.engine.step(input) {
-            Ok(effects) => print_all(&effects, output),
-            Err(fault) => print::refusal(output, fault),
-        }
+    fn step<W: Write>(&mut self, input: Taken, output: &mut W) -> Result<bool, Fault> {
+        print::answer(output, self.core.step(input))
     }
 
     /// Prints the rows and the wake-up. Of an engine that has failed there is nothing to show.
     pub fn show<W: Write>(&self, output: &mut W) -> Result<(), Fault> {
-        match self.engine.rows() {
-            Ok(rows) => {
-                print_rows(&rows, output)?;
-                print::wake(output, self.engine.get_pending_deadline())
-            }
+        match self.core.rows() {
+            Ok(rows) => print::rows(output, rows, self.core.get_pending_deadline()),
             Err(base::Fault::Failed) => print::wake(output, None),
             Err(_) => Err(Fault::Memory),
         }
@@ -156,7 +113,7 @@ fn event_of(alloc: Global, said: Said) -> Result<Option<Told>, Fault> {
 }
 
 /// What a subscriber wants.
-fn items(alloc: Global, wish: Wish) -> Result<Vec<FetchKey<Key, Peer, u16>>, Fault> {
+fn items(alloc: Global, wish: Wish) -> Result<Vec<Wanted>, Fault> {
     let item = FetchKey {
         key: Key(wish.key),
         subscribers: NonEmptyVec::new(alloc, (wish.subscriber, wish.mark))?,
@@ -185,18 +142,4 @@ fn named(alloc: Global, numbers: &[u8]) -> Result<Vec<Peer>, AllocError> {
         peers.push(Peer(*number))?;
     }
     Ok(peers)
-}
-
-fn print_all<W: Write>(effects: &[Effect<Key, Peer, u16>], output: &mut W) -> Result<(), Fault> {
-    for effect in effects {
-        written(print::peers::effect(output, effect))?;
-    }
-    Ok(())
-}
-
-fn print_rows<W: Write>(rows: &[Row<Key, u16, Peer>], output: &mut W) -> Result<(), Fault> {
-    for row in rows {
-        written(print::peers::row(output, row))?;
-    }
-    Ok(())
 }

@@ -13,10 +13,53 @@ use std::io;
 use std::io::Write;
 
 /// Prints a refusal as one line.
-pub fn refusal<W: Write>(output: &mut W, fault: base::Fault) -> Result<(), Fault> {
+fn refusal<W: Write>(output: &mut W, fault: base::Fault) -> Result<(), Fault> {
     let number = fault.number();
     let name = fault.name();
     written(writeln!(output, "refused {number} {name}"))
+}
+
+/// What is printed as one line.
+pub trait Lined {
+    fn print<W: Write>(&self, output: &mut W) -> io::Result<()>;
+}
+
+/// Prints each as one line.
+fn each<T: Lined, W: Write>(output: &mut W, lines: &[T]) -> Result<(), Fault> {
+    for line in lines {
+        written(line.print(output))?;
+    }
+    Ok(())
+}
+
+/// Prints the effects of a step, or its refusal. True, since the step was taken.
+pub fn answer<T: Lined + Drop, W: Write>(
+    output: &mut W,
+    answered: Result<Vec<T>, base::Fault>,
+) -> Result<bool, Fault> {
+    let printed = match &answered {
+        Ok(effects) => each(output, effects.as_slice()),
+        Err(fault) => refusal(output, *fault),
+    };
+    drop(answered);
+    match printed {
+        Ok(()) => Ok(true),
+        Err(fault) => Err(fault),
+    }
+}
+
+/// Prints the rows and the wake-up.
+pub fn rows<T: Lined + Drop, W: Write>(
+    output: &mut W,
+    rows: Vec<T>,
+    deadline: Option<u128>,
+) -> Result<(), Fault> {
+    let printed = each(output, rows.as_slice());
+    drop(rows);
+    match printed {
+        Ok(()) => wake(output, deadline),
+        Err(fault) => Err(fault),
+    }
 }
 
 /// Prints the wake-up as one line.
@@ -50,6 +93,15 @@ fn word_and_number<W: Write>(output: &mut W, word: &[u8], number: u64) -> io::Re
     output.write_all(word)?;
     let mut digits = Buffer::new();
     output.write_all(digits.format(number).as_bytes())
+}
+
+/// Prints a word and numbers behind it as one line, with spaces between them.
+fn line_of_numbers<W: Write>(output: &mut W, word: &str, numbers: &[u128]) -> io::Result<()> {
+    output.write_all(word.as_bytes())?;
+    for number in numbers {
+        write!(output, " {number}")?;
+    }
+    output.write_all(b"\n")
 }
 
 /// Prints a word and a number behind it as one line.

@@ -10,6 +10,7 @@ use resolver_fetch::fetcher::Answer;
 use resolver_moment::Moment;
 use std::alloc::Global;
 use std::io::{BufRead, BufReader, ErrorKind, Read, Write};
+use std::mem;
 
 /// The machine that a script feeds.
 #[derive(Drop)]
@@ -39,44 +40,74 @@ pub fn run<L: Log, R: Read, W: Write>(
     input: &mut BufReader<R>,
     output: &mut W,
 ) -> Result<Ending, Fault> {
-    let ended = take_lines(log, alloc, input, output);
+    let mut script = Script {
+        alloc,
+        session: None,
+    };
+    let mut line = Vec::new(alloc);
+    let ended = take_lines(log, alloc, &mut script, input, &mut line, output);
+    drop(line);
+    drop(script);
     let flushed = written(output.flush());
     let ending = ended?;
     flushed?;
     Ok(ending)
 }
 
-/// Does what the lines say, up to the first that can't be read.
-fn take_lines<L: Log, R: Read, W: Write>(
-    log: &L,
-    alloc: Global,
-    input: &mut BufReader<R>,
-    output: &mut W,
-) -> Result<Ending, Fault> {
-    let mut session = None;
-    let ended = feed_lines(log, alloc, &mut session, input, output);
-    drop(session);
-    ended
+/// What commands are done to.
+trait Commanded {
+    /// Does what a command says, or says why it may not stand here.
+    fn command<W: Write>(&mut self, command: Command, output: &mut W) -> Result<Option<Why>, Fault>;
 }
 
-/// The same, of a machine that is held elsewhere, so that it is let go in one place.
-fn feed_lines<L: Log, R: Read, W: Write>(
+/// A script, from before its machine is opened on.
+struct Script {
+    alloc: Global,
+    session: Option<Session>,
+}
+
+impl Drop for Script {
+    fn drop(self) {
+        let Self {
+            alloc: _,
+            session: _,
+        } = self;
+    }
+}
+
+impl Commanded for Script {
+    fn command<W: Write>(
+        &mut self,
+        command: Command,
+        output: &mut W,
+    ) -> Result<Option<Why>, Fault> {
+        let session = &mut self.session;
+        match session {
+            None => Ok(start(self.alloc, session, command)),
+            Some(session) => session.take(command, output),
+        }
+    }
+}
+
+/// Does what the lines say, up to the first that can't be read. A line that has to be waited for is read in place of
+/// the one there.
+fn take_lines<S: Commanded, L: Log, R: Read, W: Write>(
     log: &L,
     alloc: Global,
-    session: &mut Option<Session>,
+    script: &mut S,
     input: &mut BufReader<R>,
+    line: &mut Vec<u8>,
     output: &mut W,
 ) -> Result<Ending, Fault> {
-    let mut line = Vec::new(alloc);
     for number in 1..=u64::MAX {
-        let wrong = match take_buffered(log, alloc, number, session, input, output)? {
+        let wrong = match take_buffered(log, alloc, number, script, input, output)? {
             Some(wrong) => wrong,
             None => {
                 written(output.flush())?;
-                if !read_line(input, &mut line)? {
+                if !read_line(input, line)? {
                     break;
                 }
-                take_line(log, alloc, number, session, &line, output)?
+                take_line(log, alloc, number, script, line.as_slice(), output)?
             }
         };
         if let Some(wrong) = wrong {
@@ -92,11 +123,11 @@ fn feed_lines<L: Log, R: Read, W: Write>(
 
 /// Does what the next line says, or answers what is wrong with it, where it can be read without waiting for
 /// more input.
-fn take_buffered<L: Log, R: Read, W: Write>(
+fn take_buffered<S: Commanded, L: Log, R: Read, W: Write>(
     log: &L,
     alloc: Global,
     number: u64,
-    session: &mut Option<Session>,
+    script: &mut S,
     input: &mut BufReader<R>,
     output: &mut W,
 ) -> Result<Option<Option<Wrong>>, Fault> {
@@ -104,7 +135,7 @@ fn take_buffered<L: Log, R: Read, W: Write>(
     let Some(end) = memchr(b'\n', buffer) else {
         return Ok(None);
     };
-    let wrong = take_line(log, alloc, number, session, &buffer[..end], output)?;
+    let wrong = take_line(log, alloc, number, script, &buffer[..end], output)?;
     input.consume(end + 1);
     Ok(Some(wrong))
 }
@@ -127,11 +158,11 @@ fn read_line<R: Read>(input: &mut BufReader<R>, line: &mut Vec<u8>) -> Result<bo
 }
 
 /// Does what a line says, or answers what is wrong with it. The number of one that isn't skipped is traced.
-fn take_line<L: Log, W: Write>(
+fn take_line<S: Commanded, L: Log, W: Write>(
     log: &L,
     alloc: Global,
     number: u64,
-    session: &mut Option<Session>,
+    script: &mut S,
     line: &[u8],
     output: &mut W,
 ) -> Result<Option<Wrong>, Fault> {
@@ -139,75 +170,60 @@ fn take_line<L: Log, W: Write>(
         return Ok(None);
     }
     trace!(log; "line {number}");
-    let command = match parse(alloc, line) {
-        Ok(command) => command,
-        Err(Rejected::Unreadable(wrong)) => return Ok(Some(wrong)),
-        Err(Rejected::OutOfMemory) => return Err(Fault::Memory),
-    };
-    let why = match session {
-        None => start(alloc, session, command)?,
-        Some(session) => session.take(command, output)?,
-    };
-    Ok(why.map(Wrong::of_line))
+    match parse(alloc, line) {
+        Ok(command) => match script.command(command, output) {
+            Ok(why) => Ok(why.map(Wrong::of_line)),
+            Err(fault) => Err(fault),
+        },
+        Err(Rejected::Unreadable(wrong)) => Ok(Some(wrong)),
+        Err(Rejected::OutOfMemory) => Err(Fault::Memory),
+    }
 }
 
 /// Opens the machine, or says why the line is another command.
-fn start(
-    alloc: Global,
-    session: &mut Option<Session>,
-    command: Command,
-) -> Result<Option<Why>, Fault> {
-    match opened(alloc, command) {
-        Ok(Some(machine)) => {
-            let now = Moment { nanoseconds: 0 };
-            let _ = session.insert(Session { machine, now });
-            Ok(None)
-        }
-        Ok(None) => Ok(Some(Why::Unopened)),
-        Err(fault) => Err(fault),
-    }
-}
-
-/// The machine that a command opens.
-fn opened(alloc: Global, command: Command) -> Result<Option<Machine>, Fault> {
-    match command {
-        Command::Opaque { delay } => Ok(Some(Machine::Opaque(Opaque::new(alloc, delay)))),
-        Command::Peers(timing) => match Peers::new(alloc, timing) {
-            Ok(peers) => Ok(Some(Machine::Peers(peers))),
-            Err(fault) => Err(fault),
-        },
-        _ => Ok(None),
-    }
+fn start(alloc: Global, session: &mut Option<Session>, command: Command) -> Option<Why> {
+    let machine = match command {
+        Command::Opaque { delay } => Machine::Opaque(Opaque::new(alloc, delay)),
+        Command::Peers(timing) => Machine::Peers(Peers::new(alloc, timing)),
+        _ => return Some(Why::Unopened),
+    };
+    let now = Moment { nanoseconds: 0 };
+    drop(mem::replace(session, Some(Session { machine, now })));
+    None
 }
 
 impl Session {
     /// Does what a command says, or says why it may not stand here.
     fn take<W: Write>(&mut self, command: Command, output: &mut W) -> Result<Option<Why>, Fault> {
-        let is_told = match command {
+        let told = match command {
             Command::Opaque { .. } | Command::Peers(_) => return Ok(Some(Why::Opened)),
             Command::At(moment) => {
                 self.now = moment;
-                true
+                return Ok(None);
             }
-            Command::Show => self.machine.show(output)?,
-            Command::Happens(said) => self.machine.happens(self.now, said, output)?,
-            Command::Answers(answer) => self.machine.answers(answer, output)?,
+            Command::Show => return self.machine.show(output),
+            Command::Happens(said) => self.machine.happens(self.now, said, output),
+            Command::Answers(answer) => self.machine.answers(answer, output),
         };
-        Ok(if is_told {
-            None
-        } else {
-            Some(Why::OtherMachine)
-        })
+        match told {
+            Ok(true) => Ok(None),
+            Ok(false) => Ok(Some(Why::OtherMachine)),
+            Err(fault) => Err(fault),
+        }
     }
 }
 
 impl Machine {
-    fn show<W: Write>(&self, output: &mut W) -> Result<bool, Fault> {
-        match self {
-            Machine::Opaque(actor) => actor.show(output)?,
-            Machine::Peers(engine) => engine.show(output)?,
+    /// Prints its rows and its wake-up.
+    fn show<W: Write>(&self, output: &mut W) -> Result<Option<Why>, Fault> {
+        let shown = match self {
+            Machine::Opaque(actor) => actor.show(output),
+            Machine::Peers(engine) => engine.show(output),
+        };
+        match shown {
+            Ok(()) => Ok(None),
+            Err(fault) => Err(fault),
         }
-        Ok(true)
     }
 
     fn happens<W: Write>(
@@ -225,10 +241,7 @@ impl Machine {
     fn answers<W: Write>(&mut self, answer: Answer, output: &mut W) -> Result<bool, Fault> {
         match self {
             Machine::Opaque(_) => Ok(false),
-            Machine::Peers(engine) => {
-                engine.answers(answer, output)?;
-                Ok(true)
-            }
+            Machine::Peers(engine) => engine.answers(answer, output),
         }
     }
 }

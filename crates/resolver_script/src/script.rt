@@ -155,12 +155,15 @@ pub fn parse(alloc: Global, line: &[u8]) -> Result<Command, Rejected> {
 
 /// What all fields of a line say.
 fn read_fields(alloc: Global, fields: &mut Fields<'_>) -> Result<Command, Unread> {
-    let word = fields.next().ok_or(Unread::Unreadable(Why::Missing))?;
-    let command = read_command(alloc, word, fields)?;
-    match fields.next() {
-        None => Ok(command),
-        Some(_) => Err(Unread::Unreadable(Why::TooMany)),
+    let Some(word) = fields.next() else {
+        return Err(Unread::Unreadable(Why::Missing));
+    };
+    let read = read_command(alloc, word, fields);
+    if read.is_err() || fields.next().is_none() {
+        return read;
     }
+    drop(read);
+    Err(Unread::Unreadable(Why::TooMany))
 }
 
 /// What a line says that begins with this word.
