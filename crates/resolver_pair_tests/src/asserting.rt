@@ -1,13 +1,12 @@
 //! What tests assert, as a call.
 
-use std::fmt::Debug;
 use std::process::Abort;
+use std::str;
 
-/// That this is what was found of something that is named so.
-pub fn assert_same<T, N>(rt: &impl Abort, found: T, expected: T, name: N)
-where
-    T: PartialEq + Debug + Copy,
-    N: Debug + Copy,
-{
-    assert_eq!(rt; found, expected, "{name:?}");
+/// That this text was found.
+pub fn assert_text(rt: &impl Abort, found: &[u8], expected: &[u8]) {
+    if found != expected {
+        let (found, expected) = (str::from_utf8(found), str::from_utf8(expected));
+        panic!(rt; "{found:?} instead of {expected:?}");
+    }
 }

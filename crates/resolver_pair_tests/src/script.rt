@@ -1,6 +1,6 @@
 //! What an engine's core takes, as lines of a script for `resolver-replay`, and what such a script has.
 
-use crate::asserting::assert_same;
+use crate::asserting::assert_text;
 use crate::pair::{Acts, Play, with_pairs};
 use crate::twin::Happened;
 use resolver::base::Check;
@@ -160,7 +160,7 @@ impl Play for Scripted {
     fn play<A: Acts>(&mut self, rt: &(impl Abort + Print), pairs: &mut [A]) {
         for pair in pairs {
             act_all(rt, pair, ACTS);
-            assert_same(rt, pair.hands().script.as_str(), LINES, "a script");
+            assert_text(rt, pair.hands().script.as_bytes(), LINES.as_bytes());
         }
     }
 }

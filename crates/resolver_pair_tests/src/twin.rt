@@ -16,7 +16,7 @@ use resolver_fakes::acts;
 use resolver_fakes::acts::Act;
 use resolver_fakes::lent::{Dice, Wire};
 use resolver_fakes::names::{Below, Peer};
-use resolver_fakes::seen::{Seen, Told, spell};
+use resolver_fakes::seen::{Seen, Told, spell, tell};
 use resolver_fakes::world::{Setting, peers};
 use std::alloc::Global;
 use std::collections::VecDeque;
@@ -226,11 +226,6 @@ fn draw(dice: &mut Dice, bound: u128) -> u128 {
         return 0;
     }
     dice.below(bound)
-}
-
-/// Tells what was asked, where anybody listens.
-fn tell(told: &Told, seen: Seen) {
-    drop(told.unbounded_send(seen));
 }
 
 /// Lists the subscribers of a delivery with its key.
