@@ -16,12 +16,12 @@ pub fn equal<T: PartialEq + Debug>(rt: &impl Abort, found: &T, wanted: &T)
 
 /// Ends the test where a list isn't the one that is wanted.
 pub fn equal_lists<T: PartialEq + Debug>(rt: &impl Abort, found: &[T], wanted: &[T]) {
-    assert_eq!(rt; found, wanted);
+    equal(rt, &found, &wanted);
 }
 
 /// Ends the test where a text isn't the one that is wanted.
 pub fn equal_texts(rt: &impl Abort, found: &str, wanted: &str) {
-    assert_eq!(rt; found, wanted);
+    equal(rt, &found, &wanted);
 }
 
 /// Ends the test where a condition doesn't hold.
@@ -32,8 +32,13 @@ pub fn holds(rt: &impl Abort, condition: bool)
 }
 
 /// Ends the test where what is found at a place isn't what is wanted there.
-pub fn equal_at<T: PartialEq + Debug>(rt: &impl Abort, at: &impl Debug, found: &T, wanted: &T) {
-    assert_eq!(rt; found, wanted, "at {at:?}");
+pub fn equal_at<A: PartialEq + Debug, T: PartialEq + Debug>(
+    rt: &impl Abort,
+    at: &A,
+    found: &T,
+    wanted: &T,
+) {
+    equal(rt, &(at, found), &(at, wanted));
 }
 
 /// A clone. The test ends where memory is wanting.

@@ -1,308 +1,248 @@
 //! Keys that wait, scans, and what becomes of requests.
 
 use crate::asserts::{equal, equal_at, holds};
-use crate::calls::{
-    Call, Seen, begins, clear, delayed, drawn, goes, goes_by, peers_of, requests, sent, set_peers,
-    until, wait, waits, waits_again, wakes, weighs,
-};
+use crate::calls::{calls, delayed, goes_by, letters, set_peers, wait};
 use crate::names::Letter;
-use resolver_base::base::{Check, Fault};
-use resolver_fetch::fetcher::Answer::{self, Checked, Drawn, Sent};
+use resolver_base::base::Check;
+use resolver_fetch::fetcher::Answer::{self, Checked, Drawn};
 use resolver_fetch::fetcher::{Ask, Config, Fetcher};
 use resolver_request::score::DURATION_MAX;
 use std::panic::Expect;
 use std::process::Abort;
 
 /// Peer 4 is asked for key 1 under the id 5, at 30.
-const ASKS: &[(Call, Seen)] = &[
-    (Call::Peers(&[4]), Seen::Done),
-    waits!(1, 30),
-    begins!(30, 4),
-    drawn!(0, Seen::Draw(1)),
-    drawn!(0, Seen::Check(4)),
-    clear!(Seen::Draw(1 << 64)),
-    drawn!(5, requests!(4, 5, 1)),
-    sent!(true, Seen::Over),
-];
+const ASKS: &str = "
+    peers 4
+    ready 1 30
+    begin 30 = Ok(Some(Draw(4)))
+    drawn 0 = Ok(Some(Draw(1)))
+    drawn 0 = Ok(Some(Check(Letter(4))))
+    clear = Ok(Some(Draw(18446744073709551616)))
+    drawn 5 = Ok(Some(Request { peer: Letter(4), id: 5, key: Letter(1), priority: false }))
+    sent = Ok(None)";
 
 #[test]
 fn fetcher_first_request(rt: HostRuntime) {
-    const TABLES: &[&[(Call, Seen)]] = &[
-        ASKS,
-        &[
-            (Call::Deadline, Seen::At(Some(80))),
-            (Call::Response { peer: 3, at: 40 }, Seen::Answered(None)),
-            (
-                Call::Response { peer: 4, at: 20 },
-                Seen::Answered(Some((Letter(1), 0))),
-            ),
-        ],
-    ];
-    goes_by(&rt, rt.alloc(), delayed(10), TABLES);
+    const CALLS: &str = "
+        deadline = Some(80)
+        response 3 40 = None
+        response 4 20 = Some((Letter(1), 0))";
+    goes_by(&rt, rt.alloc(), delayed(10), &[ASKS, CALLS]);
 }
 
 #[test]
 fn a_second_request(rt: HostRuntime) {
-    const TABLES: &[&[(Call, Seen)]] = &[
-        ASKS,
-        &[
-            (Call::Phase(1), Seen::Phase(None, Some((5, 4)))),
-            waits!(2, 40),
-            (Call::Phase(2), Seen::Phase(Some((40, false)), None)),
-            waits_again!(3, 40),
-            (Call::Phase(3), Seen::Phase(Some((50, true)), None)),
-            begins!(40, 4),
-            drawn!(0, Seen::Draw(1)),
-            drawn!(0, Seen::Check(4)),
-            clear!(requests!(4, 6, 2)),
-            sent!(true, Seen::Over),
-            (Call::Phase(2), Seen::Phase(None, Some((6, 4)))),
-            (
-                Call::Response { peer: 4, at: 50 },
-                Seen::Answered(Some((Letter(1), 20))),
-            ),
-            (Call::Phase(1), Seen::Phase(None, None)),
-        ],
-    ];
-    goes_by(&rt, rt.alloc(), delayed(10), TABLES);
+    const CALLS: &str = "
+        phase 1 = (None, Some((5, Letter(4))))
+        ready 2 40
+        phase 2 = (Some(Place { is_retry: false, due: 40 }), None)
+        retry 3 40
+        phase 3 = (Some(Place { is_retry: true, due: 50 }), None)
+        begin 40 = Ok(Some(Draw(4)))
+        drawn 0 = Ok(Some(Draw(1)))
+        drawn 0 = Ok(Some(Check(Letter(4))))
+        clear = Ok(Some(Request { peer: Letter(4), id: 6, key: Letter(2), priority: false }))
+        sent = Ok(None)
+        phase 2 = (None, Some((6, Letter(4))))
+        response 4 50 = Some((Letter(1), 20))
+        phase 1 = (None, None)";
+    goes_by(&rt, rt.alloc(), delayed(10), &[ASKS, CALLS]);
 }
 
 #[test]
 fn targets_of_each_length(rt: HostRuntime) {
-    const CALLS: &[(Call, Seen)] = &[
-        (Call::TargetsOf(1), Seen::Last(None)),
-        (Call::Targets(1, &[7]), Seen::Done),
-        (Call::TargetsOf(1), Seen::Last(Some((1, 7)))),
-        (Call::Targets(2, &[5, 2, 9]), Seen::Done),
-        (Call::TargetsOf(2), Seen::Last(Some((3, 9)))),
-        (Call::Targets(1, &[6]), Seen::Done),
-        (Call::TargetsOf(1), Seen::Last(Some((2, 6)))),
-    ];
-    goes(&rt, rt.alloc(), CALLS);
+    const CALLS: &str = "
+        targets 1 = (false, None)
+        aim 1 7
+        targets 1 = (true, Some([Letter(7)]))
+        aim 2 5 2 9
+        targets 2 = (true, Some([Letter(5), Letter(2), Letter(9)]))
+        aim 1 6
+        targets 1 = (true, Some([Letter(7), Letter(6)]))";
+    calls(&rt, rt.alloc(), CALLS);
 }
 
 #[test]
 fn fetcher_missing(rt: HostRuntime) {
-    const TABLES: &[&[(Call, Seen)]] = &[
-        ASKS,
-        &[
-            (Call::Missing(50), Seen::Popped(Some(Letter(1)))),
-            (Call::Counts, Seen::Counts(false, 0, false, 0)),
-            (Call::Weight(4), Seen::Weight(Some(1))),
-        ],
-    ];
-    goes_by(&rt, rt.alloc(), delayed(10), TABLES);
+    const CALLS: &str = "
+        missing 4 50 = Some(Letter(1))
+        counts 1 = ((false, 0), 0, false)
+        weight 4 = Some(1)";
+    goes_by(&rt, rt.alloc(), delayed(10), &[ASKS, CALLS]);
 }
 
 #[test]
 fn fetcher_retry(rt: HostRuntime) {
-    const TABLES: &[&[(Call, Seen)]] = &[
-        ASKS,
-        &[
-            (Call::Missing(50), Seen::Popped(Some(Letter(1)))),
-            (Call::Counts, Seen::Counts(false, 0, false, 0)),
-            waits_again!(1, 50),
-            wakes!(60),
-            begins!(60, 5),
-            (Call::Counts, Seen::Counts(true, 0, true, 1)),
-        ],
-    ];
-    goes_by(&rt, rt.alloc(), delayed(10), TABLES);
+    const CALLS: &str = "
+        missing 4 50 = Some(Letter(1))
+        counts 1 = ((false, 0), 0, false)
+        retry 1 50
+        wakes = Some(60)
+        begin 60 = Ok(Some(Draw(5)))
+        counts 1 = ((true, 1), 0, true)";
+    goes_by(&rt, rt.alloc(), delayed(10), &[ASKS, CALLS]);
 }
 
 #[test]
 fn fetcher_wake_up(rt: HostRuntime) {
-    const CALLS: &[(Call, Seen)] = &[
-        waits!(1, 5),
-        wakes!(5),
-        (Call::Begin(5), Seen::Over),
-        wakes!(u128::MAX),
-        (Call::Peers(&[4]), Seen::Done),
-        wakes!(5),
-    ];
-    goes(&rt, rt.alloc(), CALLS);
+    const CALLS: &str = "
+        ready 1 5
+        wakes = Some(5)
+        begin 5 = Ok(None)
+        wakes = Some(340282366920938463463374607431768211455)
+        peers 4
+        wakes = Some(5)";
+    calls(&rt, rt.alloc(), CALLS);
 }
 
 #[test]
 fn the_next_due_wakes(rt: HostRuntime) {
-    const CALLS: &[(Call, Seen)] = &[
-        waits_again!(2, 0),
-        waits_again!(1, 5),
-        waits!(3, 12),
-        waits!(4, 30),
-        (Call::Begin(12), Seen::Over),
-        wakes!(15),
-        (Call::Begin(15), Seen::Over),
-        wakes!(30),
-        (Call::Begin(30), Seen::Over),
-        wakes!(u128::MAX),
-        waits!(0, 31),
-        wakes!(12),
-        (Call::Begin(30), Seen::Over),
-        wakes!(31),
-    ];
-    goes(&rt, rt.alloc(), CALLS);
+    const CALLS: &str = "
+        retry 2 0
+        retry 1 5
+        ready 3 12
+        ready 4 30
+        begin 12 = Ok(None)
+        wakes = Some(15)
+        begin 15 = Ok(None)
+        wakes = Some(30)
+        begin 30 = Ok(None)
+        wakes = Some(340282366920938463463374607431768211455)
+        ready 0 31
+        wakes = Some(12)
+        begin 30 = Ok(None)
+        wakes = Some(31)";
+    calls(&rt, rt.alloc(), CALLS);
 }
 
 #[test]
 fn limits_and_refusals(rt: HostRuntime) {
-    const CALLS: &[(Call, Seen)] = &[
-        (Call::Peers(&[4]), Seen::Done),
-        waits!(1, 5),
-        begins!(5, 4),
-        sent!(true, Seen::Refused(Fault::Unasked)),
-        drawn!(4, Seen::Refused(Fault::OutOfRange)),
-        drawn!(0, Seen::Draw(1)),
-        drawn!(0, Seen::Check(4)),
-        until!(9, Seen::Over),
-        wakes!(9),
-        (Call::Counts, Seen::Counts(true, 0, false, 0)),
-        drawn!(0, Seen::Refused(Fault::Unasked)),
-    ];
-    goes(&rt, rt.alloc(), CALLS);
+    const CALLS: &str = "
+        peers 4
+        ready 1 5
+        begin 5 = Ok(Some(Draw(4)))
+        sent = Err(Unasked)
+        drawn 4 = Err(OutOfRange)
+        drawn 0 = Ok(Some(Draw(1)))
+        drawn 0 = Ok(Some(Check(Letter(4))))
+        until 9 = Ok(None)
+        wakes = Some(9)
+        counts 1 = ((true, 0), 0, false)
+        drawn 0 = Err(Unasked)";
+    calls(&rt, rt.alloc(), CALLS);
 }
 
 #[test]
 fn targets_out_of_order(rt: HostRuntime) {
-    const CALLS: &[(Call, Seen)] = &[
-        (Call::Peers(&[5, 1, 3, 2]), Seen::Done),
-        waits!(1, 5),
-        (Call::Targets(1, &[5, 2, 9]), Seen::Done),
-        (Call::Targets(1, &[3, 2]), Seen::Done),
-        (Call::HasTargets(1), Seen::Is(true)),
-        begins!(5, 4),
-        drawn!(0, Seen::Draw(3)),
-        drawn!(0, Seen::Check(2)),
-        until!(9, Seen::Draw(4)),
-        drawn!(0, Seen::Draw(2)),
-        drawn!(1, Seen::Check(5)),
-        until!(8, Seen::Draw(4)),
-        drawn!(0, Seen::Draw(1)),
-        drawn!(0, Seen::Check(3)),
-        until!(20, Seen::Over),
-        wakes!(8),
-    ];
-    goes(&rt, rt.alloc(), CALLS);
+    const CALLS: &str = "
+        peers 5 1 3 2
+        ready 1 5
+        aim 1 5 2 9
+        aim 1 3 2
+        targets 1 = (true, Some([Letter(5), Letter(2), Letter(9), Letter(3)]))
+        begin 5 = Ok(Some(Draw(4)))
+        drawn 0 = Ok(Some(Draw(3)))
+        drawn 0 = Ok(Some(Check(Letter(2))))
+        until 9 = Ok(Some(Draw(4)))
+        drawn 0 = Ok(Some(Draw(2)))
+        drawn 1 = Ok(Some(Check(Letter(5))))
+        until 8 = Ok(Some(Draw(4)))
+        drawn 0 = Ok(Some(Draw(1)))
+        drawn 0 = Ok(Some(Check(Letter(3))))
+        until 20 = Ok(None)
+        wakes = Some(8)";
+    calls(&rt, rt.alloc(), CALLS);
 }
 
 #[test]
 fn fetcher_two_kinds(rt: HostRuntime) {
-    const CALLS: &[(Call, Seen)] = &[
-        (Call::Peers(&[4]), Seen::Done),
-        waits_again!(2, 0),
-        wakes!(10),
-        waits!(1, 15),
-        wakes!(15),
-        begins!(15, 4),
-        drawn!(0, Seen::Draw(1)),
-        drawn!(0, Seen::Check(4)),
-        until!(19, Seen::Draw(5)),
-        drawn!(0, Seen::Draw(1)),
-        drawn!(0, Seen::Check(4)),
-        until!(18, Seen::Over),
-        wakes!(18),
-    ];
-    goes(&rt, rt.alloc(), CALLS);
+    const CALLS: &str = "
+        peers 4
+        retry 2 0
+        wakes = Some(10)
+        ready 1 15
+        wakes = Some(15)
+        begin 15 = Ok(Some(Draw(4)))
+        drawn 0 = Ok(Some(Draw(1)))
+        drawn 0 = Ok(Some(Check(Letter(4))))
+        until 19 = Ok(Some(Draw(5)))
+        drawn 0 = Ok(Some(Draw(1)))
+        drawn 0 = Ok(Some(Check(Letter(4))))
+        until 18 = Ok(None)
+        wakes = Some(18)";
+    calls(&rt, rt.alloc(), CALLS);
 }
 
 #[test]
 fn fetcher_two_queues(rt: HostRuntime) {
-    const CALLS: &[(Call, Seen)] = &[
-        (Call::Peers(&[4]), Seen::Done),
-        waits_again!(2, 0),
-        wakes!(2),
-        (Call::Queues, Seen::Queues((0, None), (1, Some((2, 2))))),
-        waits!(1, 5),
-        wakes!(5),
-        (
-            Call::Queues,
-            Seen::Queues((1, Some((5, 1))), (1, Some((2, 2)))),
-        ),
-        begins!(5, 4),
-        drawn!(0, Seen::Draw(1)),
-        drawn!(0, Seen::Check(4)),
-        until!(9, Seen::Draw(5)),
-        drawn!(0, Seen::Draw(1)),
-        drawn!(0, Seen::Check(4)),
-        until!(8, Seen::Over),
-        wakes!(8),
-    ];
-    const TABLES: &[&[(Call, Seen)]] = &[CALLS];
-    goes_by(&rt, rt.alloc(), delayed(2), TABLES);
+    const CALLS: &str = "
+        peers 4
+        retry 2 0
+        wakes = Some(2)
+        fresh = (0, None)
+        retries = (1, Some((Letter(2), 2)))
+        ready 1 5
+        wakes = Some(5)
+        fresh = (1, Some((Letter(1), 5)))
+        retries = (1, Some((Letter(2), 2)))
+        begin 5 = Ok(Some(Draw(4)))
+        drawn 0 = Ok(Some(Draw(1)))
+        drawn 0 = Ok(Some(Check(Letter(4))))
+        until 9 = Ok(Some(Draw(5)))
+        drawn 0 = Ok(Some(Draw(1)))
+        drawn 0 = Ok(Some(Check(Letter(4))))
+        until 8 = Ok(None)
+        wakes = Some(8)";
+    goes_by(&rt, rt.alloc(), delayed(2), &[CALLS]);
 }
 
 #[test]
 fn next_due_of_both_kinds(rt: HostRuntime) {
-    const CALLS: &[(Call, Seen)] = &[
-        waits!(3, 5),
-        waits!(1, 100),
-        (Call::Begin(5), Seen::Over),
-        wakes!(100),
-        waits_again!(2, 50),
-        (Call::Begin(5), Seen::Over),
-        wakes!(60),
-        (Call::Begin(60), Seen::Over),
-        wakes!(100),
-        (Call::Begin(100), Seen::Over),
-        wakes!(u128::MAX),
-    ];
-    goes(&rt, rt.alloc(), CALLS);
+    const CALLS: &str = "
+        ready 3 5
+        ready 1 100
+        begin 5 = Ok(None)
+        wakes = Some(100)
+        retry 2 50
+        begin 5 = Ok(None)
+        wakes = Some(60)
+        begin 60 = Ok(None)
+        wakes = Some(100)
+        begin 100 = Ok(None)
+        wakes = Some(340282366920938463463374607431768211455)";
+    calls(&rt, rt.alloc(), CALLS);
 }
-
-/// So many responses without bytes that took no time.
-macro_rules! idle {
-    ($count:expr) => {
-        (Call::Record {
-            peer: 4,
-            count: $count,
-            elapsed: 0,
-            bytes: 0,
-        }, Seen::Done)
-    };
-}
-
-/// The greatest response of peer 4 that takes the shortest time.
-const FASTEST: Call = Call::Record {
-    peer: 4,
-    count: 1,
-    elapsed: 1,
-    bytes: u64::MAX,
-};
 
 #[test]
 fn thirty_two_responses(rt: HostRuntime) {
-    const CALLS: &[(Call, Seen)] = &[
-        (Call::Peers(&[4]), Seen::Done),
-        (FASTEST, Seen::Done),
-        weighs!(4, Some(u64::MAX)),
-        idle!(31),
-        weighs!(4, Some(8_589_934_592_000_000_000)),
-        idle!(1),
-        weighs!(4, Some(4_294_967_296_000_000_000)),
-        weighs!(3, None),
-    ];
-    goes(&rt, rt.alloc(), CALLS);
+    const CALLS: &str = "
+        peers 4
+        record 4 1 1 18446744073709551615
+        weight 4 = Some(18446744073709551615)
+        record 4 31 0 0
+        weight 4 = Some(8589934592000000000)
+        record 4 1 0 0
+        weight 4 = Some(4294967296000000000)
+        weight 3 = None";
+    calls(&rt, rt.alloc(), CALLS);
 }
 
 #[test]
 fn charged_the_longest_time(rt: HostRuntime) {
-    const WEIGHT: u128 = u64::MAX as u128;
-    const CALLS: &[(Call, Seen)] = &[
-        (Call::Peers(&[4]), Seen::Done),
-        (FASTEST, Seen::Done),
-        waits!(1, 0),
-        begins!(0, 4),
-        drawn!(0, Seen::Draw(WEIGHT)),
-        drawn!(0, Seen::Check(4)),
-        clear!(Seen::Draw(1 << 64)),
-        drawn!(5, requests!(4, 5, 1)),
-        sent!(true, Seen::Over),
-        (Call::Overdue(DURATION_MAX - 1), Seen::Popped(None)),
-        weighs!(4, Some(u64::MAX)),
-        (Call::Overdue(DURATION_MAX), Seen::Popped(Some(Letter(1)))),
-        weighs!(4, Some(1)),
-    ];
-    const TABLES: &[&[(Call, Seen)]] = &[CALLS];
+    const CALLS: &str = "
+        peers 4
+        record 4 1 1 18446744073709551615
+        ready 1 0
+        begin 0 = Ok(Some(Draw(4)))
+        drawn 0 = Ok(Some(Draw(18446744073709551615)))
+        drawn 0 = Ok(Some(Check(Letter(4))))
+        clear = Ok(Some(Draw(18446744073709551616)))
+        drawn 5 = Ok(Some(Request { peer: Letter(4), id: 5, key: Letter(1), priority: false }))
+        sent = Ok(None)
+        overdue 18446744073709551615999999998 = None
+        weight 4 = Some(18446744073709551615)
+        overdue 18446744073709551615999999999 = Some(Letter(1))
+        weight 4 = Some(1)";
     // A request takes the longest time, and so does a wait before a retry.
     let config = Config {
         me: None,
@@ -310,7 +250,7 @@ fn charged_the_longest_time(rt: HostRuntime) {
         retry_delay: DURATION_MAX,
         priority_requests: false,
     };
-    goes_by(&rt, rt.alloc(), config, TABLES);
+    goes_by(&rt, rt.alloc(), config, &[CALLS]);
 }
 
 // Fetchers of many keys.
@@ -347,7 +287,7 @@ fn limits_each(rt: &impl Abort, fetcher: &mut Many, count: u16) {
 fn a_scan_goes_over_each_due_key_once(rt: HostRuntime) {
     let rt = &rt;
     let mut fetcher = Fetcher::new(rt.alloc(), delayed(10));
-    set_peers(rt, &mut fetcher, peers_of(rt, rt.alloc(), &[4]));
+    set_peers(rt, &mut fetcher, letters(rt, rt.alloc(), &[4], 0), false);
     for key in 0..20_000 {
         wait(rt, &mut fetcher, key, 10, false);
     }

@@ -1,6 +1,6 @@
 //! Scans that are answered by a sender and draws with a script.
 
-use crate::calls::{Call, Seen, goes, goes_by, waits, waits_again, wakes, weighs};
+use crate::calls::{calls, delayed, fetches_by};
 use crate::names::Letter;
 use crate::scripts::Script;
 use resolver_base::base::{Check, Feedback, Unreliable};
@@ -28,20 +28,16 @@ const NOTHING: Script<'static> = Script {
 
 #[test]
 fn fetcher_first_request(rt: HostRuntime) {
-    const CALLS: &[(Call, Seen)] = &[
-        (Call::Peers(&[4]), Seen::Done),
-        waits!(1, 30),
-        (Call::Fetch(30, &FIRST), Seen::Done),
-        (Call::Counts, Seen::Counts(false, 1, false, 0)),
-        (Call::WakeUp, Seen::At(None)),
-        (Call::Deadline, Seen::At(Some(80))),
-        (Call::Response { peer: 3, at: 40 }, Seen::Answered(None)),
-        (
-            Call::Response { peer: 4, at: 20 },
-            Seen::Answered(Some((Letter(1), 0))),
-        ),
-    ];
-    goes(&rt, rt.alloc(), CALLS);
+    const CALLS: &str = "
+        peers 4
+        ready 1 30
+        fetch 30 0
+        counts 1 = ((false, 0), 1, false)
+        wakes = None
+        deadline = Some(80)
+        response 3 40 = None
+        response 4 20 = Some((Letter(1), 0))";
+    fetches_by(&rt, rt.alloc(), delayed(10), &[FIRST], &[CALLS]);
 }
 
 #[test]
@@ -52,37 +48,35 @@ fn fetcher_missing_and_retry(rt: HostRuntime) {
         checks: &[(4, Check::Clear)],
         sends: &[(4, b"\0\0\0\0\0\0\0\x06\0\x01", false, ACCEPTED)],
     };
-    const CALLS: &[(Call, Seen)] = &[
-        (Call::Peers(&[4]), Seen::Done),
-        waits!(1, 30),
-        (Call::Fetch(30, &FIRST), Seen::Done),
-        (Call::Missing(50), Seen::Popped(Some(Letter(1)))),
-        (Call::Counts, Seen::Counts(false, 0, false, 0)),
-        weighs!(4, Some(1)),
-        waits_again!(1, 50),
-        wakes!(60),
-        (Call::Deadline, Seen::At(None)),
-        (Call::Fetch(60, &SECOND), Seen::Done),
-        (Call::WakeUp, Seen::At(None)),
-        (Call::Deadline, Seen::At(Some(110))),
-    ];
-    goes(&rt, rt.alloc(), CALLS);
+    const CALLS: &str = "
+        peers 4
+        ready 1 30
+        fetch 30 0
+        missing 4 50 = Some(Letter(1))
+        counts 1 = ((false, 0), 0, false)
+        weight 4 = Some(1)
+        retry 1 50
+        wakes = Some(60)
+        deadline = None
+        fetch 60 1
+        wakes = None
+        deadline = Some(110)";
+    fetches_by(&rt, rt.alloc(), delayed(10), &[FIRST, SECOND], &[CALLS]);
 }
 
 #[test]
 fn fetcher_wake_up(rt: HostRuntime) {
-    const CALLS: &[(Call, Seen)] = &[
-        waits!(1, 5),
-        wakes!(5),
-        (Call::Deadline, Seen::At(None)),
-        (Call::Fetch(5, &NOTHING), Seen::Done),
-        wakes!(u128::MAX),
-        (Call::Deadline, Seen::At(None)),
-        (Call::Peers(&[4]), Seen::Done),
-        wakes!(5),
-        (Call::Deadline, Seen::At(None)),
-    ];
-    goes(&rt, rt.alloc(), CALLS);
+    const CALLS: &str = "
+        ready 1 5
+        wakes = Some(5)
+        deadline = None
+        fetch 5 0
+        wakes = Some(340282366920938463463374607431768211455)
+        deadline = None
+        peers 4
+        wakes = Some(5)
+        deadline = None";
+    fetches_by(&rt, rt.alloc(), delayed(10), &[NOTHING], &[CALLS]);
 }
 
 #[test]
@@ -103,15 +97,14 @@ fn refused_sends(rt: HostRuntime) {
             (4, FIRST, false, CLOSED),
         ],
     };
-    const CALLS: &[(Call, Seen)] = &[
-        (Call::Peers(&[3, 4]), Seen::Done),
-        waits!(1, 0),
-        (Call::Fetch(0, &REFUSED), Seen::Done),
-        (Call::Counts, Seen::Counts(true, 0, false, 0)),
-        wakes!(10),
-        (Call::Deadline, Seen::At(None)),
-    ];
-    goes(&rt, rt.alloc(), CALLS);
+    const CALLS: &str = "
+        peers 3 4
+        ready 1 0
+        fetch 0 0
+        counts 1 = ((true, 0), 0, false)
+        wakes = Some(10)
+        deadline = None";
+    fetches_by(&rt, rt.alloc(), delayed(10), &[REFUSED], &[CALLS]);
 }
 
 #[test]
@@ -126,18 +119,16 @@ fn timeout_and_limits(rt: HostRuntime) {
         checks: &[(3, Check::Until(70)), (4, Check::Until(60))],
         sends: &[],
     };
-    const CALLS: &[(Call, Seen)] = &[
-        (Call::Peers(&[3, 4]), Seen::Done),
-        waits!(1, 0),
-        (Call::Fetch(0, &FIRST), Seen::Done),
-        (Call::Overdue(50), Seen::Popped(Some(Letter(1)))),
-        waits_again!(1, 50),
-        (Call::Fetch(50, &LIMITED), Seen::Done),
-        (Call::Counts, Seen::Counts(true, 0, false, 1)),
-        wakes!(60),
-        (Call::Deadline, Seen::At(None)),
-    ];
-    const TABLES: &[&[(Call, Seen)]] = &[CALLS];
+    const CALLS: &str = "
+        peers 3 4
+        ready 1 0
+        fetch 0 0
+        overdue 50 = Some(Letter(1))
+        retry 1 50
+        fetch 50 1
+        counts 1 = ((true, 1), 0, false)
+        wakes = Some(60)
+        deadline = None";
     // Peer 9 is the local one, requests go before other messages, and nothing is waited for before a
     // retry.
     let config = Config {
@@ -146,7 +137,7 @@ fn timeout_and_limits(rt: HostRuntime) {
         retry_delay: 0,
         priority_requests: true,
     };
-    goes_by(&rt, rt.alloc(), config, TABLES);
+    fetches_by(&rt, rt.alloc(), config, &[FIRST, LIMITED], &[CALLS]);
 }
 
 #[test]
@@ -156,46 +147,44 @@ fn blocked_target(rt: HostRuntime) {
         checks: &[(3, Check::Until(20))],
         sends: &[],
     };
-    const CALLS: &[(Call, Seen)] = &[
-        (Call::Peers(&[3, 4]), Seen::Done),
-        (Call::Blocked(&[3]), Seen::Done),
-        (Call::Targets(1, &[3]), Seen::Done),
-        waits!(1, 0),
-        (Call::Fetch(0, &NOTHING), Seen::Done),
-        wakes!(u128::MAX),
-        (Call::Deadline, Seen::At(None)),
-        (Call::Blocked(&[]), Seen::Done),
-        (Call::Fetch(0, &LIMITED), Seen::Done),
-        wakes!(20),
-        (Call::Deadline, Seen::At(None)),
-    ];
-    goes(&rt, rt.alloc(), CALLS);
+    const CALLS: &str = "
+        peers 3 4
+        blocked 3
+        aim 1 3
+        ready 1 0
+        fetch 0 0
+        wakes = Some(340282366920938463463374607431768211455)
+        deadline = None
+        blocked
+        fetch 0 1
+        wakes = Some(20)
+        deadline = None";
+    fetches_by(&rt, rt.alloc(), delayed(10), &[NOTHING, LIMITED], &[CALLS]);
 }
 
 #[test]
 fn sets_of_each_length(rt: HostRuntime) {
-    const CALLS: &[(Call, Seen)] = &[
-        (Call::Peers(&[]), Seen::Done),
-        weighs!(4, None),
-        (Call::Peers(&[4]), Seen::Done),
-        weighs!(4, Some(1)),
-        weighs!(3, None),
-        (Call::Blocked(&[]), Seen::Done),
-        (Call::Peers(&[5, 3, 4]), Seen::Done),
-        weighs!(3, Some(1)),
-        weighs!(4, Some(1)),
-        weighs!(5, Some(1)),
-        (Call::Blocked(&[4]), Seen::Done),
-        weighs!(3, Some(1)),
-        weighs!(4, Some(0)),
-        (Call::Blocked(&[5, 3, 4]), Seen::Done),
-        weighs!(3, Some(0)),
-        weighs!(4, Some(0)),
-        weighs!(5, Some(0)),
-        (Call::Blocked(&[]), Seen::Done),
-        weighs!(5, Some(1)),
-        (Call::Peers(&[]), Seen::Done),
-        weighs!(5, None),
-    ];
-    goes(&rt, rt.alloc(), CALLS);
+    const CALLS: &str = "
+        peers
+        weight 4 = None
+        peers 4
+        weight 4 = Some(1)
+        weight 3 = None
+        blocked
+        peers 5 3 4
+        weight 3 = Some(1)
+        weight 4 = Some(1)
+        weight 5 = Some(1)
+        blocked 4
+        weight 3 = Some(1)
+        weight 4 = Some(0)
+        blocked 5 3 4
+        weight 3 = Some(0)
+        weight 4 = Some(0)
+        weight 5 = Some(0)
+        blocked
+        weight 5 = Some(1)
+        peers
+        weight 5 = None";
+    calls(&rt, rt.alloc(), CALLS);
 }

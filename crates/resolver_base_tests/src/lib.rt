@@ -33,6 +33,8 @@ mod keys;
 #[cfg(test)]
 mod laws;
 #[cfg(test)]
+mod lines;
+#[cfg(test)]
 mod mail;
 #[cfg(test)]
 mod names;

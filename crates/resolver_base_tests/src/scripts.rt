@@ -1,7 +1,7 @@
 //! A sender and draws with a script, which answer a whole scan.
 
 use crate::asserts::{equal, holds};
-use crate::calls::{Node, Seen};
+use crate::calls::Node;
 use crate::names::Letter;
 use bytes::Bytes;
 use resolver_base::base::{Check, Draws, Sender, Unreliable};
@@ -77,7 +77,7 @@ impl Draws for Numbers<'_> {
 }
 
 /// Fetches, and compares the calls that the fetch makes.
-pub fn fetches(rt: &impl Abort, fetcher: &mut Node, at: u64, script: &Script) -> Seen {
+pub fn fetches(rt: &impl Abort, fetcher: &mut Node, at: u64, script: &Script) {
     let mut network = Network {
         script,
         checked: 0,
@@ -98,5 +98,4 @@ pub fn fetches(rt: &impl Abort, fetcher: &mut Node, at: u64, script: &Script) ->
     let counts = (network.checked, network.sent, numbers.drawn);
     let wanted = (script.checks.len(), script.sends.len(), script.draws.len());
     equal(rt, &counts, &wanted);
-    Seen::Done
 }
