@@ -1,12 +1,13 @@
 //! What waits while a mailbox is full, what is said of a fetch beside its key, and copies of messages.
 //!
-//! A test is a table of calls, and the text of what they answer. What waits is made, used and dropped
-//! in one place, so that the tests are proved without what it is.
+//! A test is a script of calls with what they answer. What waits is made, used and dropped in one place, so that the
+//! tests are proved without what it is.
 
 ghost use Rattle.std.specs.Prelude.{nat_le};
 ghost use Rattle.std.proofs.Common.{rules};
 
-use crate::asserts::{equal, equal_texts, is_written, spell};
+use crate::asserts::{equal, holds, is_written, spell};
+use crate::lines::{Called, goes, short};
 use resolver_backlog::Pending;
 use resolver_ingress::ingress::{FetchKey, Kept, Message, Metadata, Test};
 use resolver_root::{Fetch, NonEmptyVec, Predicate};
@@ -35,24 +36,6 @@ type Told = Message<u16, u16, Targets, Kept<FirstKey>>;
 
 type Waiting = Pending<u16, u16, Targets, Kept<FirstKey>>;
 
-/// A key with the peers that it may be asked of; with none of them any peer may be asked.
-type Aimed<'a> = (u16, &'a [u16]);
-
-/// A call.
-#[derive(Clone, Copy)]
-enum Call {
-    /// A fetch of this key for this subscriber.
-    Fetch(u16, u16),
-    /// A fetch of each key below this one for the subscriber 10.
-    FetchBelow(u16),
-    /// The subscribers of the keys from this one on are kept.
-    Retain(u16),
-    /// A drain that takes the tests, the fetches, both or neither.
-    Drain { tests: bool, fetches: bool },
-    Pop,
-    IsEmpty,
-}
-
 // The calls promise nothing, so that their callers are proved without what waits.
 
 fn fetch(rt: &impl Abort, alloc: Global, pending: &mut Waiting, key: u16, subscriber: u16) {
@@ -74,20 +57,45 @@ fn fetch_below(rt: &impl Abort, alloc: Global, pending: &mut Waiting, end: u16) 
 }
 
 /// These peers; with none of them any peer may be asked.
-fn targets(rt: &impl Abort, alloc: Global, peers: &[u16]) -> Targets {
-    NonEmptyVec::try_from(peers.to_vec(alloc).expect(rt, "memory")).ok()
+fn targets(rt: &impl Abort, alloc: Global, peers: &[u128]) -> Targets {
+    let mut targets = Vec::new(alloc);
+    for place in 0..peers.len() {
+        targets.push(short(peers, place)).expect(rt, "memory");
+    }
+    NonEmptyVec::try_from(targets).ok()
 }
 
-/// A message that fetches each of these for the subscriber 10.
-fn aimed(rt: &impl Abort, alloc: Global, keys: &[Aimed]) -> Told {
+/// A fetch of a key with its targets for the subscriber 10.
+fn item(
+    rt: &impl Abort,
+    alloc: Global,
+    key: u16,
+    metadata: Targets,
+) -> FetchKey<u16, u16, Targets> {
+    FetchKey {
+        key,
+        subscribers: NonEmptyVec::new(alloc, (10, 0)).expect(rt, "memory"),
+        metadata,
+    }
+}
+
+/// A message that fetches a key of the peers behind it.
+fn aimed(rt: &impl Abort, alloc: Global, numbers: &[u128]) -> Told {
+    let peers = targets(rt, alloc, numbers.get(1..).expect(rt, "a key"));
     let mut items = Vec::new(alloc);
-    for &(key, peers) in keys {
-        let item = FetchKey {
-            key,
-            subscribers: NonEmptyVec::new(alloc, (10, 0)).expect(rt, "memory"),
-            metadata: targets(rt, alloc, peers),
-        };
-        items.push(item).expect(rt, "memory");
+    items
+        .push(item(rt, alloc, short(numbers, 0), peers))
+        .expect(rt, "memory");
+    Message::Fetch(items)
+}
+
+/// A message that fetches these keys of any peer.
+fn untargeted(rt: &impl Abort, alloc: Global, keys: &[u128]) -> Told {
+    let mut items = Vec::new(alloc);
+    for place in 0..keys.len() {
+        items
+            .push(item(rt, alloc, short(keys, place), None))
+            .expect(rt, "memory");
     }
     Message::Fetch(items)
 }
@@ -129,183 +137,120 @@ fn drain<M: Metadata + Drop, Q: Predicate<u16, u16> + Drop>(
     (tests, batch)
 }
 
-fn pop<M: Metadata + Drop, Q: Predicate<u16, u16> + Drop>(
-    pending: &mut Pending<u16, u16, M, Q>,
-) -> Option<Message<u16, u16, M, Q>> {
-    pending.pop()
-}
-
-fn is_empty<M: Metadata + Drop, Q: Predicate<u16, u16> + Drop>(
-    pending: &Pending<u16, u16, M, Q>,
-) -> bool {
-    pending.is_empty()
-}
-
-/// Makes a call, and writes what it answers.
-fn make(rt: &impl Abort, text: &mut String, pending: &mut Waiting, call: Call) {
-    let alloc = *text.allocator();
-    match call {
-        Call::Fetch(key, subscriber) => fetch(rt, alloc, pending, key, subscriber),
-        Call::FetchBelow(end) => fetch_below(rt, alloc, pending, end),
-        Call::Retain(first) => retain(rt, pending, first),
-        Call::Drain { tests, fetches } => spell(rt, text, drain(pending, tests, fetches)),
-        Call::Pop => spell(rt, text, pop(pending)),
-        Call::IsEmpty => spell(rt, text, is_empty(pending)),
+/// Drains, or takes what waits first. Ends the test where no call has this word.
+fn take(rt: &impl Abort, text: &mut String, pending: &mut Waiting, word: &str, numbers: &[u128]) {
+    let (takes_tests, takes_fetches) = (short(numbers, 0) == 1, short(numbers, 1) == 1);
+    match word {
+        "drain" => spell(rt, text, drain(pending, takes_tests, takes_fetches)),
+        "pop" => spell(rt, text, pending.pop()),
+        "is_empty" => spell(rt, text, pending.is_empty()),
+        _ => holds(rt, false),
     }
 }
 
-fn make_all(rt: &impl Abort, text: &mut String, pending: &mut Waiting, calls: &[Call]) {
-    for call in calls {
-        make(rt, text, pending, *call);
+impl Called for Waiting {
+    fn call(&mut self, rt: &impl Abort, text: &mut String, word: &str, numbers: &[u128]) {
+        let alloc = *text.allocator();
+        let key = short(numbers, 0);
+        match word {
+            "fetch" => fetch(rt, alloc, self, key, short(numbers, 1)),
+            "fetch_below" => fetch_below(rt, alloc, self, key),
+            "aim" => hand_copy(rt, alloc, self, aimed(rt, alloc, numbers)),
+            "hand" => hand_copy(rt, alloc, self, untargeted(rt, alloc, numbers)),
+            "retain" => retain(rt, self, key),
+            _ => take(rt, text, self, word, numbers),
+        }
     }
 }
 
-/// What the calls answer, of what waits where nothing did.
-fn told(rt: &impl Abort, alloc: Global, calls: &[Call]) -> String {
-    let mut text = String::new(alloc);
-    let mut pending = Pending::new(alloc);
-    make_all(rt, &mut text, &mut pending, calls);
-    drop(pending);
-    text
+/// Makes the calls of each script, of what waits where nothing did.
+fn answer(rt: &impl Abort, alloc: Global, scripts: &[&str]) {
+    for script in scripts {
+        let mut pending: Waiting = Pending::new(alloc);
+        goes(rt, alloc, &mut pending, script);
+        drop(pending);
+    }
 }
 
 /// Drains that take nothing and tests alone; tests that keep the last key; and what is taken one by one.
-const WAITING: &[(&[Call], &str)] = &[
-    (
-        &[
-            Call::Fetch(2, 10),
-            Call::Fetch(1, 20),
-            Call::Retain(0),
-            Call::Drain {
-                tests: false,
-                fetches: false,
-            },
-            Call::Drain {
-                tests: true,
-                fetches: false,
-            },
-            Call::Fetch(2, 11),
-            Call::Fetch(3, 30),
-            Call::Drain {
-                tests: true,
-                fetches: true,
-            },
-            Call::IsEmpty,
-        ],
-        " (0, None) (1, None) \
-        (0, Some(Fetch([FetchKey { key: 2, subscribers: NonEmptyVec { items: [(10, 0), (11, 0)] }, metadata: None }, \
-        FetchKey { key: 1, subscribers: NonEmptyVec { items: [(20, 0)] }, metadata: None }, \
-        FetchKey { key: 3, subscribers: NonEmptyVec { items: [(30, 0)] }, metadata: None }]))) true",
-    ),
-    (
-        &[
-            Call::FetchBelow(100),
-            Call::Retain(99),
-            Call::Fetch(99, 11),
-            Call::Fetch(0, 12),
-            Call::Drain {
-                tests: true,
-                fetches: true,
-            },
-            Call::IsEmpty,
-        ],
-        " (1, Some(Fetch([FetchKey { key: 99, subscribers: NonEmptyVec { items: [(10, 0), (11, 0)] }, metadata: None }, \
-        FetchKey { key: 0, subscribers: NonEmptyVec { items: [(12, 0)] }, metadata: None }]))) true",
-    ),
-    (
-        &[
-            Call::Pop,
-            Call::Fetch(1, 10),
-            Call::Retain(0),
-            Call::Fetch(2, 20),
-            Call::Pop,
-            Call::Pop,
-            Call::Pop,
-        ],
-        " None Some(Retain(Kept { test: FirstKey(0) })) \
-        Some(Fetch([FetchKey { key: 1, subscribers: NonEmptyVec { items: [(10, 0)] }, metadata: None }, \
-        FetchKey { key: 2, subscribers: NonEmptyVec { items: [(20, 0)] }, metadata: None }])) None",
-    ),
+const WAITING: &[&str] = &[
+    "
+        fetch 2 10
+        fetch 1 20
+        retain 0
+        drain 0 0 = (0, None)
+        drain 1 0 = (1, None)
+        fetch 2 11
+        fetch 3 30
+        drain 1 1 = (0, Some(Fetch([FetchKey { key: 2, subscribers: NonEmptyVec { items: [(10, 0), (11, 0)] }, metadata: None }, FetchKey { key: 1, subscribers: NonEmptyVec { items: [(20, 0)] }, metadata: None }, FetchKey { key: 3, subscribers: NonEmptyVec { items: [(30, 0)] }, metadata: None }])))
+        is_empty = true",
+    "
+        fetch_below 100
+        retain 99
+        fetch 99 11
+        fetch 0 12
+        drain 1 1 = (1, Some(Fetch([FetchKey { key: 99, subscribers: NonEmptyVec { items: [(10, 0), (11, 0)] }, metadata: None }, FetchKey { key: 0, subscribers: NonEmptyVec { items: [(12, 0)] }, metadata: None }])))
+        is_empty = true",
+    "
+        pop = None
+        fetch 1 10
+        retain 0
+        fetch 2 20
+        pop = Some(Retain(Kept { test: FirstKey(0) }))
+        pop = Some(Fetch([FetchKey { key: 1, subscribers: NonEmptyVec { items: [(10, 0)] }, metadata: None }, FetchKey { key: 2, subscribers: NonEmptyVec { items: [(20, 0)] }, metadata: None }]))
+        pop = None",
 ];
 
 #[test]
 fn what_waits_is_taken(rt: HostRuntime) {
-    for (calls, answers) in WAITING {
-        equal_texts(&rt, told(&rt, rt.alloc(), calls).as_str(), answers);
-    }
+    answer(&rt, rt.alloc(), WAITING);
 }
 
 /// Messages that are copied and handed on, and what waits then: targets that are joined, or that any peer may be
 /// asked, and messages of no fetch, of one and of three, where nothing waits and where key 1 does.
-const COPIED: &[(&[&[Aimed]], &str)] = &[
-    (
-        &[&[(1, &[2, 3])]],
-        " Some(Fetch([FetchKey { key: 1, subscribers: NonEmptyVec { items: [(10, 0)] }, \
-        metadata: Some(NonEmptyVec { items: [2, 3] }) }]))",
-    ),
-    (
-        &[&[(1, &[2, 3])], &[(1, &[3, 4])]],
-        " Some(Fetch([FetchKey { key: 1, subscribers: NonEmptyVec { items: [(10, 0)] }, \
-        metadata: Some(NonEmptyVec { items: [2, 3, 4] }) }]))",
-    ),
-    (
-        &[&[(1, &[2])], &[(1, &[])], &[(1, &[3])]],
-        " Some(Fetch([FetchKey { key: 1, subscribers: NonEmptyVec { items: [(10, 0)] }, metadata: None }]))",
-    ),
-    (&[&[]], " None"),
-    (
-        &[&[(4, &[])]],
-        " Some(Fetch([FetchKey { key: 4, subscribers: NonEmptyVec { items: [(10, 0)] }, metadata: None }]))",
-    ),
-    (
-        &[&[(4, &[]), (1, &[]), (3, &[])]],
-        " Some(Fetch([FetchKey { key: 4, subscribers: NonEmptyVec { items: [(10, 0)] }, metadata: None }, \
-        FetchKey { key: 1, subscribers: NonEmptyVec { items: [(10, 0)] }, metadata: None }, \
-        FetchKey { key: 3, subscribers: NonEmptyVec { items: [(10, 0)] }, metadata: None }]))",
-    ),
-    (
-        &[&[(1, &[])], &[]],
-        " Some(Fetch([FetchKey { key: 1, subscribers: NonEmptyVec { items: [(10, 0)] }, metadata: None }]))",
-    ),
-    (
-        &[&[(1, &[])], &[(4, &[])]],
-        " Some(Fetch([FetchKey { key: 1, subscribers: NonEmptyVec { items: [(10, 0)] }, metadata: None }, \
-        FetchKey { key: 4, subscribers: NonEmptyVec { items: [(10, 0)] }, metadata: None }]))",
-    ),
-    (
-        &[&[(1, &[])], &[(4, &[]), (1, &[]), (3, &[])]],
-        " Some(Fetch([FetchKey { key: 1, subscribers: NonEmptyVec { items: [(10, 0)] }, metadata: None }, \
-        FetchKey { key: 4, subscribers: NonEmptyVec { items: [(10, 0)] }, metadata: None }, \
-        FetchKey { key: 3, subscribers: NonEmptyVec { items: [(10, 0)] }, metadata: None }]))",
-    ),
+const COPIED: &[&str] = &[
+    "
+        aim 1 2 3
+        pop = Some(Fetch([FetchKey { key: 1, subscribers: NonEmptyVec { items: [(10, 0)] }, metadata: Some(NonEmptyVec { items: [2, 3] }) }]))",
+    "
+        aim 1 2 3
+        aim 1 3 4
+        pop = Some(Fetch([FetchKey { key: 1, subscribers: NonEmptyVec { items: [(10, 0)] }, metadata: Some(NonEmptyVec { items: [2, 3, 4] }) }]))",
+    "
+        aim 1 2
+        hand 1
+        aim 1 3
+        pop = Some(Fetch([FetchKey { key: 1, subscribers: NonEmptyVec { items: [(10, 0)] }, metadata: None }]))",
+    "
+        hand
+        pop = None",
+    "
+        hand 4
+        pop = Some(Fetch([FetchKey { key: 4, subscribers: NonEmptyVec { items: [(10, 0)] }, metadata: None }]))",
+    "
+        hand 4 1 3
+        pop = Some(Fetch([FetchKey { key: 4, subscribers: NonEmptyVec { items: [(10, 0)] }, metadata: None }, FetchKey { key: 1, subscribers: NonEmptyVec { items: [(10, 0)] }, metadata: None }, FetchKey { key: 3, subscribers: NonEmptyVec { items: [(10, 0)] }, metadata: None }]))",
+    "
+        hand 1
+        hand
+        pop = Some(Fetch([FetchKey { key: 1, subscribers: NonEmptyVec { items: [(10, 0)] }, metadata: None }]))",
+    "
+        hand 1
+        hand 4
+        pop = Some(Fetch([FetchKey { key: 1, subscribers: NonEmptyVec { items: [(10, 0)] }, metadata: None }, FetchKey { key: 4, subscribers: NonEmptyVec { items: [(10, 0)] }, metadata: None }]))",
+    "
+        hand 1
+        hand 4 1 3
+        pop = Some(Fetch([FetchKey { key: 1, subscribers: NonEmptyVec { items: [(10, 0)] }, metadata: None }, FetchKey { key: 4, subscribers: NonEmptyVec { items: [(10, 0)] }, metadata: None }, FetchKey { key: 3, subscribers: NonEmptyVec { items: [(10, 0)] }, metadata: None }]))",
 ];
-
-/// Hands on a copy of each message.
-fn hand_copies(rt: &impl Abort, alloc: Global, pending: &mut Waiting, messages: &[&[Aimed]]) {
-    for keys in messages {
-        hand_copy(rt, alloc, pending, aimed(rt, alloc, keys));
-    }
-}
-
-/// What waits first once a copy of each message was handed on where nothing waited.
-fn handed(rt: &impl Abort, alloc: Global, messages: &[&[Aimed]]) -> String {
-    let mut text = String::new(alloc);
-    let mut pending = Pending::new(alloc);
-    hand_copies(rt, alloc, &mut pending, messages);
-    spell(rt, &mut text, pop(&mut pending));
-    drop(pending);
-    text
-}
 
 #[test]
 fn copies_wait(rt: HostRuntime) {
-    for (messages, answers) in COPIED {
-        equal_texts(&rt, handed(&rt, rt.alloc(), messages).as_str(), answers);
-    }
+    answer(&rt, rt.alloc(), COPIED);
 }
 
 /// Ends the test where the copy of what an earlier and a later fetch say together is something else.
-fn joins(rt: &impl Abort, alloc: Global, earlier: &[u16], later: &[u16], wanted: &str) {
+fn joins(rt: &impl Abort, alloc: Global, earlier: &[u128], later: &[u128], wanted: &str) {
     let mut all = targets(rt, alloc, earlier);
     all.merge(alloc, targets(rt, alloc, later))
         .expect(rt, "memory");
@@ -316,8 +261,8 @@ fn joins(rt: &impl Abort, alloc: Global, earlier: &[u16], later: &[u16], wanted:
 #[test]
 fn targets_are_joined_and_copied(rt: HostRuntime) {
     let rt = &rt;
-    const EARLIER: &[u16] = &[2, 3];
-    const LATER: &[u16] = &[9, 8, 7, 6, 5, 4, 3, 4, 5, 6];
+    const EARLIER: &[u128] = &[2, 3];
+    const LATER: &[u128] = &[9, 8, 7, 6, 5, 4, 3, 4, 5, 6];
     joins(
         rt,
         rt.alloc(),

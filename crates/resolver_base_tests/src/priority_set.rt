@@ -1,87 +1,127 @@
-use crate::asserts::{equal, equal_at, holds};
+use crate::asserts::{equal, equal_texts, holds, spell};
+use crate::lines::{Called, byte, goes, number};
+use crate::names::Letter;
 use resolver_priorities::PrioritySet;
 use resolver_root::Fetch;
 use std::alloc::Global;
 use std::panic::Expect;
 use std::process::Abort;
 
-type Set = PrioritySet<u8, u16>;
+type Set = PrioritySet<Letter, u128>;
 
-/// These items with their priorities, put one after another.
-fn set_of(rt: &impl Abort, alloc: Global, entries: &[(u8, u16)]) -> Set {
-    let mut set = PrioritySet::new(alloc);
-    for entry in entries {
-        set.put(entry.0, entry.1).expect(rt, "memory");
-    }
-    set
+fn is_even(item: &Letter) -> bool {
+    item.0 % 2 == 0
 }
 
-/// Takes all out of a set, and compares what it gives, least first.
-fn gives(rt: &impl Abort, mut set: Set, entries: &[(u8, u16)]) {
-    for entry in entries {
-        equal(rt, &set.pop(), &Some(*entry));
+/// Writes the pairs of a set from a priority on.
+fn spell_pairs(rt: &impl Abort, text: &mut String, set: &Set, priority: u128) {
+    let pairs = set.range_from(priority).expect(rt, "memory");
+    for pair in pairs {
+        spell(rt, text, pair);
     }
-    equal(rt, &set.pop(), &None);
+}
+
+/// Looks at a set. Ends the test where no call has this word.
+fn look(rt: &impl Abort, text: &mut String, set: &Set, word: &str, numbers: &[u128]) {
+    let item = Letter(byte(numbers, 0));
+    match word {
+        "peek" => spell(rt, text, (set.peek(), set.len(), set.is_empty())),
+        "contains" => spell(rt, text, set.contains(&item)),
+        "from" => spell_pairs(rt, text, set, number(numbers, 0)),
+        "after" => {
+            let pair = (number(numbers, 1), item);
+            spell(rt, text, set.range_after(&pair).next());
+        }
+        _ => holds(rt, false),
+    }
+}
+
+impl Called for Set {
+    fn call(&mut self, rt: &impl Abort, text: &mut String, word: &str, numbers: &[u128]) {
+        let item = Letter(byte(numbers, 0));
+        match word {
+            "put" => self.put(item, number(numbers, 1)).expect(rt, "memory"),
+            "pop" => spell(rt, text, self.pop()),
+            "remove" => spell(rt, text, self.remove(&item)),
+            "keep_even" => self.retain(is_even),
+            _ => look(rt, text, self, word, numbers),
+        }
+    }
+}
+
+/// Makes the calls of a script, of a new set.
+fn plays(rt: &impl Abort, alloc: Global, script: &str) {
+    let mut set: Set = PrioritySet::new(alloc);
+    goes(rt, alloc, &mut set, script);
     drop(set);
 }
 
 #[test]
 fn gives_by_priority_and_then_by_item(rt: HostRuntime) {
-    let rt = &rt;
-    let set = set_of(rt, rt.alloc(), &[(3, 20), (1, 20), (2, 30), (4, 10)]);
-    equal(rt, &set.peek(), &Some((&4, &10)));
-    gives(rt, set, &[(4, 10), (1, 20), (3, 20), (2, 30)]);
+    const CALLS: &str = "
+        put 3 20
+        put 1 20
+        put 2 30
+        put 4 10
+        peek = (Some((Letter(4), 10)), 4, false)
+        pop = Some((Letter(4), 10))
+        pop = Some((Letter(1), 20))
+        pop = Some((Letter(3), 20))
+        pop = Some((Letter(2), 30))
+        pop = None";
+    plays(&rt, rt.alloc(), CALLS);
 }
 
 #[test]
 fn replaces_a_priority(rt: HostRuntime) {
     let rt = &rt;
-    const ENTRIES: &[(u8, u16)] = &[(1, 10), (2, 20), (1, 30), (2, 20), (3, 5), (3, 25)];
-    let set = set_of(rt, rt.alloc(), ENTRIES);
-    equal(rt, &set.len(), &3);
-    let mut pairs = set.iter();
-    let given = [pairs.next(), pairs.next(), pairs.next(), pairs.next()];
-    equal(
-        rt,
-        &given,
-        &[Some(&(20, 2)), Some(&(25, 3)), Some(&(30, 1)), None],
-    );
-    drop(set);
-}
-
-/// Compares the pairs of a set from a priority on.
-fn has_from(rt: &impl Abort, set: &Set, priority: u16, wanted: &[(u16, u8)]) {
-    let mut pairs = set.range_from(priority).expect(rt, "memory");
-    for pair in wanted {
-        equal(rt, &pairs.next(), &Some(pair));
+    let mut set: Set = PrioritySet::new(rt.alloc());
+    const CALLS: &str = "
+        put 1 10
+        put 2 20
+        put 1 30
+        put 2 20
+        put 3 5
+        put 3 25
+        peek = (Some((Letter(2), 20)), 3, false)";
+    goes(rt, rt.alloc(), &mut set, CALLS);
+    let mut text = String::new(rt.alloc());
+    for pair in set.iter() {
+        spell(rt, &mut text, pair);
     }
-    equal(rt, &pairs.next(), &None);
+    drop(set);
+    equal_texts(
+        rt,
+        text.as_str(),
+        " (20, Letter(2)) (25, Letter(3)) (30, Letter(1))",
+    );
 }
 
 #[test]
 fn gives_what_is_from_a_priority_on(rt: HostRuntime) {
-    let rt = &rt;
-    let set = set_of(rt, rt.alloc(), &[(3, 20), (1, 20), (2, 30), (4, 10)]);
-    has_from(rt, &set, 20, &[(20, 1), (20, 3), (30, 2)]);
-    has_from(rt, &set, 21, &[(30, 2)]);
-    has_from(rt, &set, 31, &[]);
-    drop(set);
+    const CALLS: &str = "
+        put 3 20
+        put 1 20
+        put 2 30
+        put 4 10
+        from 20 = (20, Letter(1)) (20, Letter(3)) (30, Letter(2))
+        from 21 = (30, Letter(2))
+        from 31";
+    plays(&rt, rt.alloc(), CALLS);
 }
 
 #[test]
 fn gives_what_follows_a_pair(rt: HostRuntime) {
-    const NEXT: &[((u16, u8), Option<(u16, u8)>)] = &[
-        ((20, 1), Some((20, 3))),
-        ((20, 3), Some((30, 2))),
-        ((10, 9), Some((20, 1))),
-        ((30, 2), None),
-    ];
-    let set = set_of(&rt, rt.alloc(), &[(3, 20), (1, 20), (2, 30), (4, 10)]);
-    for (pair, next) in NEXT {
-        let found = set.range_after(pair).next().copied();
-        equal_at(&rt, pair, &found, next);
-    }
-    drop(set);
+    const CALLS: &str = "
+        put 3 20
+        put 1 20
+        put 2 30
+        put 4 10
+        after 1 20 = Some((20, Letter(3)))
+        after 3 20 = Some((30, Letter(2)))
+        after 9 10 = Some((20, Letter(1)))
+        after 2 30 = None";
+    plays(&rt, rt.alloc(), CALLS);
 }
 
 /// Fetches that compare equal, whatever their marks.
@@ -96,7 +136,7 @@ fn marked(mark: u64) -> Fetch<u8, u8> {
 #[test]
 fn an_item_that_is_there_stays(rt: HostRuntime) {
     let rt = &rt;
-    const MARKS: &[(u64, u16)] = &[(1, 10), (2, 30), (3, 30)];
+    const MARKS: &[(u64, u128)] = &[(1, 10), (2, 30), (3, 30)];
     let mut set = PrioritySet::new(rt.alloc());
     for (mark, priority) in MARKS {
         set.put(marked(*mark), *priority).expect(rt, "memory");
@@ -109,29 +149,34 @@ fn an_item_that_is_there_stays(rt: HostRuntime) {
 
 #[test]
 fn takes_items_out(rt: HostRuntime) {
-    let rt = &rt;
-    let mut set = set_of(rt, rt.alloc(), &[(1, 10), (2, 20), (3, 30)]);
-    holds(rt, set.remove(&2));
-    holds(rt, !set.remove(&2));
-    holds(rt, !set.contains(&2));
-    holds(rt, set.contains(&3));
-    gives(rt, set, &[(1, 10), (3, 30)]);
-    let empty = set_of(rt, rt.alloc(), &[]);
-    holds(rt, empty.is_empty());
-    holds(rt, empty.peek().is_none());
-    gives(rt, empty, &[]);
-}
-
-fn is_even(item: &u8) -> bool {
-    *item % 2 == 0
+    const CALLS: &str = "
+        put 1 10
+        put 2 20
+        put 3 30
+        remove 2 = true
+        remove 2 = false
+        contains 2 = false
+        contains 3 = true
+        pop = Some((Letter(1), 10))
+        pop = Some((Letter(3), 30))
+        peek = (None, 0, true)
+        pop = None";
+    plays(&rt, rt.alloc(), CALLS);
 }
 
 #[test]
 fn keeps_what_passes(rt: HostRuntime) {
-    let rt = &rt;
-    let mut set = set_of(rt, rt.alloc(), &[(1, 40), (2, 30), (3, 20), (4, 10)]);
-    set.retain(is_even);
-    holds(rt, !set.contains(&3));
-    set.put(3, 35).expect(rt, "memory");
-    gives(rt, set, &[(4, 10), (2, 30), (3, 35)]);
+    const CALLS: &str = "
+        put 1 40
+        put 2 30
+        put 3 20
+        put 4 10
+        keep_even
+        contains 3 = false
+        put 3 35
+        pop = Some((Letter(4), 10))
+        pop = Some((Letter(2), 30))
+        pop = Some((Letter(3), 35))
+        pop = None";
+    plays(&rt, rt.alloc(), CALLS);
 }

@@ -1,115 +1,141 @@
 //! Requests by their ids, by their deadlines and by their keys.
 
-use crate::asserts::{equal, holds};
+use crate::asserts::{holds, spell};
+use crate::lines::{Called, byte, goes, long, number};
+use crate::names::Letter;
 use resolver_asked::requests::{ID, Request, Requests};
 use std::alloc::Global;
 use std::panic::Expect;
 use std::process::Abort;
 
-type Asked = Requests<u64, u8>;
+type Asked = Requests<Letter, Letter>;
 
-/// Requests of these ids, each for the key of its number, of peer 4, sent at 0, and with its deadline.
-fn held(rt: &impl Abort, alloc: Global, ids: &[(ID, u128)]) -> Asked {
-    let mut requests = Requests::new(alloc);
-    for (id, deadline) in ids {
-        holds(rt, requests.get(*id).is_none());
-        holds(rt, !requests.is_asked(id));
-        let request = Request {
-            key: *id,
-            peer: 4,
-            start: 0,
-            deadline: *deadline,
-        };
-        requests.insert(*id, request).expect(rt, "memory");
+/// Holds a request under an id for the key of its number, of peer 4, sent at 0, and with this deadline.
+fn insert(rt: &impl Abort, requests: &mut Asked, id: ID, key: Letter, deadline: u128) {
+    holds(rt, requests.get(id).is_none());
+    holds(rt, !requests.is_asked(&key));
+    let request = Request {
+        key,
+        peer: Letter(4),
+        start: 0,
+        deadline,
+    };
+    requests.insert(id, request).expect(rt, "memory");
+}
+
+fn is_not_six(key: &Letter) -> bool {
+    key.0 != 6
+}
+
+/// Under which id a key is asked for, and until when.
+fn asked_for(requests: &Asked, key: &Letter) -> Option<(ID, u128)> {
+    let (id, request) = requests.get_for(key)?;
+    Some((id, request.deadline))
+}
+
+/// Looks at requests. Ends the test where no call has this word.
+fn look(rt: &impl Abort, text: &mut String, requests: &Asked, word: &str, numbers: &[u128]) {
+    let id = long(numbers, 0);
+    match word {
+        "next_id" => spell(rt, text, requests.next_id(id)),
+        "left" => spell(rt, text, (requests.len(), requests.deadline())),
+        "has" => spell(rt, text, requests.get(id).is_some()),
+        "asked_for" => spell(rt, text, asked_for(requests, &Letter(byte(numbers, 0)))),
+        _ => holds(rt, false),
     }
-    requests
+}
+
+impl Called for Asked {
+    fn call(&mut self, rt: &impl Abort, text: &mut String, word: &str, numbers: &[u128]) {
+        let id = long(numbers, 0);
+        match word {
+            "insert" => insert(rt, self, id, Letter(byte(numbers, 0)), number(numbers, 1)),
+            "overdue" => spell(rt, text, self.take_overdue(number(numbers, 0))),
+            "answer" => spell(rt, text, self.take_matching(id, &Letter(byte(numbers, 1)))),
+            "remove" => spell(rt, text, self.remove(id).is_some()),
+            "keep_not_six" => self.retain(is_not_six),
+            _ => look(rt, text, self, word, numbers),
+        }
+    }
+}
+
+/// Makes the calls of a script, of no request.
+fn plays(rt: &impl Abort, alloc: Global, script: &str) {
+    let mut requests: Asked = Requests::new(alloc);
+    goes(rt, alloc, &mut requests, script);
+    drop(requests);
 }
 
 #[test]
 fn next_id_passes_held_ids(rt: HostRuntime) {
-    const CASES: &[(&[(ID, u128)], ID, ID)] = &[
-        (&[], 4, 5),
-        (&[(5, 0), (6, 0)], 4, 7),
-        (&[(6, 0)], 4, 5),
-        (&[], u64::MAX, 0),
-        (&[(0, 0)], u64::MAX, 1),
+    const SCRIPTS: &[&str] = &[
+        "next_id 4 = 5",
+        "
+            insert 5 0
+            insert 6 0
+            next_id 4 = 7",
+        "
+            insert 6 0
+            next_id 4 = 5",
+        "next_id 18446744073709551615 = 0",
+        "
+            insert 0 0
+            next_id 18446744073709551615 = 1",
     ];
-    for (ids, last, next) in CASES {
-        let requests = held(&rt, rt.alloc(), ids);
-        equal(&rt, &requests.next_id(*last), next);
-        drop(requests);
+    for script in SCRIPTS {
+        plays(&rt, rt.alloc(), script);
     }
-}
-
-/// The deadline of a request that is over at 30, which is taken out.
-fn over(requests: &mut Asked) -> Option<u128> {
-    Some(requests.take_overdue(30)?.deadline)
 }
 
 #[test]
 fn the_soonest_is_over_first(rt: HostRuntime) {
-    let rt = &rt;
-    let mut requests = held(rt, rt.alloc(), &[(1, 30), (2, 10), (3, 40), (4, 20)]);
-    let deadlines = [
-        over(&mut requests),
-        over(&mut requests),
-        over(&mut requests),
-        over(&mut requests),
-    ];
-    equal(rt, &deadlines, &[Some(10), Some(20), Some(30), None]);
-    equal(rt, &requests.len(), &1);
-    drop(requests);
-}
-
-/// Requests of the ids 5 and 6.
-const TWO: &[(ID, u128)] = &[(5, 10), (6, 20)];
-
-/// What is left of two requests after an answer under the id 5, and when it is over.
-fn answered(rt: &impl Abort, alloc: Global, peer: u8) -> (bool, usize, Option<u128>) {
-    let mut requests = held(rt, alloc, TWO);
-    let found = requests.take_matching(5, &peer);
-    let left = (found.is_some(), requests.len(), requests.deadline());
-    drop(requests);
-    left
+    const CALLS: &str = "
+        insert 1 30
+        insert 2 10
+        insert 3 40
+        insert 4 20
+        overdue 30 = Some(Request { key: Letter(2), peer: Letter(4), start: 0, deadline: 10 })
+        overdue 30 = Some(Request { key: Letter(4), peer: Letter(4), start: 0, deadline: 20 })
+        overdue 30 = Some(Request { key: Letter(1), peer: Letter(4), start: 0, deadline: 30 })
+        overdue 30 = None
+        left = (1, Some(40))";
+    plays(&rt, rt.alloc(), CALLS);
 }
 
 #[test]
 fn an_answer_of_another_peer_finds_nothing(rt: HostRuntime) {
-    let rt = &rt;
-    equal(rt, &answered(rt, rt.alloc(), 4), &(true, 1, Some(20)));
-    equal(rt, &answered(rt, rt.alloc(), 3), &(false, 2, Some(10)));
-}
-
-fn is_not_six(key: &u64) -> bool {
-    *key != 6
+    const CALLS: &str = "
+        insert 5 10
+        insert 6 20
+        answer 5 3 = None
+        left = (2, Some(10))
+        answer 5 4 = Some(Request { key: Letter(5), peer: Letter(4), start: 0, deadline: 10 })
+        left = (1, Some(20))";
+    plays(&rt, rt.alloc(), CALLS);
 }
 
 #[test]
 fn requests_are_let_go(rt: HostRuntime) {
-    let rt = &rt;
-    let mut requests = held(rt, rt.alloc(), TWO);
-    let is_removed = requests.remove(5).is_some() && requests.get(5).is_none();
-    let left = (is_removed, requests.len(), requests.deadline());
-    equal(rt, &left, &(true, 1, Some(20)));
-    requests.retain(is_not_six);
-    equal(rt, &requests.len(), &0);
-    drop(requests);
-}
-
-/// Under which id a key is asked for, and until when.
-fn asked_for(requests: &Asked, key: u64) -> Option<(ID, u128)> {
-    let (id, request) = requests.get_for(&key)?;
-    Some((id, request.deadline))
+    const CALLS: &str = "
+        insert 5 10
+        insert 6 20
+        remove 5 = true
+        has 5 = false
+        left = (1, Some(20))
+        keep_not_six
+        left = (0, None)";
+    plays(&rt, rt.alloc(), CALLS);
 }
 
 #[test]
 fn a_key_is_asked_for_under_its_id(rt: HostRuntime) {
-    let rt = &rt;
-    let mut requests = held(rt, rt.alloc(), TWO);
-    let asked = [asked_for(&requests, 5), asked_for(&requests, 7)];
-    equal(rt, &asked, &[Some((5, 10)), None]);
-    requests.remove(5);
-    let asked = [asked_for(&requests, 5), asked_for(&requests, 6)];
-    equal(rt, &asked, &[None, Some((6, 20))]);
-    drop(requests);
+    const CALLS: &str = "
+        insert 5 10
+        insert 6 20
+        asked_for 5 = Some((5, 10))
+        asked_for 7 = None
+        remove 5 = true
+        asked_for 5 = None
+        asked_for 6 = Some((6, 20))";
+    plays(&rt, rt.alloc(), CALLS);
 }

@@ -1,10 +1,10 @@
 //! Who waits for which key.
 //!
-//! A test is a table of calls, and the text of what they answer. A tracker is made, used and dropped
-//! in few places, so that the tests are proved without what a tracker is.
+//! A test is a script of calls with what they answer.
 
-use crate::asserts::{copied, equal_lists, equal_texts, holds, spell};
+use crate::asserts::{copied, equal_lists, holds, spell};
 use crate::counting::{Counting, Tally};
+use crate::lines::{Called, goes, long, short};
 use crate::predicate::Even;
 use resolver_demand::subscribers::{Subscribers, Tracker};
 use resolver_root::NonEmptyVec;
@@ -15,204 +15,124 @@ use std::process::Abort;
 
 type Demand = Tracker<u16, u16>;
 
-/// Subscribers with their marks.
-type List<'a> = &'a [(u16, u64)];
-
-/// A call of a tracker.
-#[derive(Clone, Copy)]
-enum Call<'a> {
-    Insert(u16, List<'a>),
-    Attach(u16, List<'a>),
-    /// This key isn't there.
-    InsertNew(u16, List<'a>),
-    Pending(u16),
-    Delivered(u16, List<'a>),
-    /// Keeps the even subscribers.
-    Retain,
-    Contains(u16),
-    IsEmpty,
-}
-
-/// The same as a list that isn't empty.
-fn list(rt: &impl Abort, alloc: Global, subscribers: List) -> NonEmptyVec<(u16, u64)> {
-    let list = subscribers.to_vec(alloc).expect(rt, "memory");
+/// The subscribers and marks that stand behind a key.
+fn list(rt: &impl Abort, alloc: Global, numbers: &[u128]) -> NonEmptyVec<(u16, u64)> {
+    let mut list = Vec::new(alloc);
+    for pair in numbers.get(1..).expect(rt, "a key").chunks(2) {
+        list.push((short(pair, 0), long(pair, 1)))
+            .expect(rt, "memory");
+    }
     NonEmptyVec::try_from(list).ok().expect(rt, "subscribers")
 }
 
-// The calls promise nothing, so that their callers are proved without what a tracker is.
-
-fn insert(
+fn insert_new(
     rt: &impl Abort,
-    alloc: Global,
     tracker: &mut Demand,
     key: u16,
-    subscribers: List,
-) -> bool {
-    tracker
-        .insert(key, list(rt, alloc, subscribers))
-        .expect(rt, "memory")
-}
-
-fn insert_new(rt: &impl Abort, alloc: Global, tracker: &mut Demand, key: u16, subscribers: List) {
-    let subscribers = list(rt, alloc, subscribers);
+    subscribers: NonEmptyVec<(u16, u64)>,
+) {
     holds(rt, !tracker.contains(&key));
     tracker.insert_new(key, subscribers).expect(rt, "memory");
 }
 
-fn pending(rt: &impl Abort, tracker: &Demand, key: u16) -> Option<NonEmptyVec<(u16, u64)>> {
-    tracker.pending(&key).expect(rt, "memory")
-}
-
-fn delivered(
-    rt: &impl Abort,
-    alloc: Global,
-    tracker: &mut Demand,
-    key: u16,
-    subscribers: List,
-) -> Option<NonEmptyVec<(u16, u64)>> {
-    tracker
-        .remove_delivered(&key, &list(rt, alloc, subscribers))
-        .expect(rt, "memory")
-}
-
-fn retain(rt: &impl Abort, tracker: &mut Demand) -> Vec<u16> {
-    tracker.retain(&Even).expect(rt, "memory")
-}
-
-/// Writes the subscribers that are handed back as these are attached to a key.
-fn attach(
+/// Takes these subscribers of a key out, and writes those that are left.
+fn deliver(
     rt: &impl Abort,
     text: &mut String,
     tracker: &mut Demand,
     key: u16,
     subscribers: NonEmptyVec<(u16, u64)>,
 ) {
-    let rest = tracker.attach(&key, subscribers).expect(rt, "memory");
-    spell(rt, text, rest);
+    spell(rt, text, tracker.remove_delivered(&key, &subscribers));
+    drop(subscribers);
 }
 
-/// Makes a call, and writes what it answers.
-fn make(rt: &impl Abort, text: &mut String, tracker: &mut Demand, call: Call) {
-    let alloc = *text.allocator();
-    match call {
-        Call::Insert(key, names) => spell(rt, text, insert(rt, alloc, tracker, key, names)),
-        Call::Attach(key, names) => attach(rt, text, tracker, key, list(rt, alloc, names)),
-        Call::InsertNew(key, names) => insert_new(rt, alloc, tracker, key, names),
-        Call::Pending(key) => spell(rt, text, pending(rt, tracker, key)),
-        Call::Delivered(key, names) => spell(rt, text, delivered(rt, alloc, tracker, key, names)),
-        Call::Retain => spell(rt, text, retain(rt, tracker)),
-        Call::Contains(key) => spell(rt, text, tracker.contains(&key)),
-        Call::IsEmpty => spell(rt, text, tracker.is_empty()),
+/// Looks at a key, or keeps the even subscribers. Ends the test where no call has this word.
+fn look(rt: &impl Abort, text: &mut String, tracker: &mut Demand, word: &str, key: u16) {
+    match word {
+        "pending" => spell(rt, text, tracker.pending(&key)),
+        "contains" => spell(rt, text, tracker.contains(&key)),
+        "retain" => spell(rt, text, tracker.retain(&Even)),
+        "is_empty" => spell(rt, text, tracker.is_empty()),
+        _ => holds(rt, false),
     }
 }
 
-/// What the calls of a new tracker answer, each on its line.
-fn told(rt: &impl Abort, alloc: Global, calls: &[Call]) -> String {
-    let mut text = String::new(alloc);
-    let mut tracker = Tracker::new(alloc);
-    for call in calls {
-        make(rt, &mut text, &mut tracker, *call);
-        text.push('\n').expect(rt, "memory");
+impl Called for Demand {
+    fn call(&mut self, rt: &impl Abort, text: &mut String, word: &str, numbers: &[u128]) {
+        let alloc = *text.allocator();
+        let key = short(numbers, 0);
+        match word {
+            "insert" => spell(rt, text, self.insert(key, list(rt, alloc, numbers))),
+            "attach" => spell(rt, text, self.attach(&key, list(rt, alloc, numbers))),
+            "insert_new" => insert_new(rt, self, key, list(rt, alloc, numbers)),
+            "delivered" => deliver(rt, text, self, key, list(rt, alloc, numbers)),
+            _ => look(rt, text, self, word, key),
+        }
     }
-    drop(tracker);
-    text
 }
-
-/// Calls, and what they answer together.
-type Row<'a> = (&'a [Call<'a>], &'a str);
 
 /// Subscribers come with their marks, and go as they are delivered to or don't pass; keys go with the last of them,
 /// and are new again.
-const ROWS: &[Row] = &[
-    (
-        &[
-            Call::Insert(1, &[(10, 0), (11, 0)]),
-            Call::Insert(1, &[(11, 0), (12, 0)]),
-            Call::Pending(1),
-            Call::Delivered(1, &[(10, 0), (12, 0)]),
-            Call::Pending(1),
-        ],
-        " true\n false\n Some(NonEmptyVec { items: [(10, 0), (11, 0), (12, 0)] })\n \
-        Some(NonEmptyVec { items: [(11, 0)] })\n Some(NonEmptyVec { items: [(11, 0)] })\n",
-    ),
-    (
-        &[
-            Call::Insert(1, &[(10, 7)]),
-            Call::Insert(1, &[(10, 8), (11, 8)]),
-            Call::Pending(1),
-        ],
-        " true\n false\n Some(NonEmptyVec { items: [(10, 7), (11, 8)] })\n",
-    ),
-    (
-        &[
-            Call::Insert(1, &[(11, 0)]),
-            Call::Insert(2, &[(20, 0), (21, 0)]),
-            Call::Retain,
-            Call::Pending(2),
-            Call::Pending(1),
-        ],
-        " true\n true\n [1]\n Some(NonEmptyVec { items: [(20, 0)] })\n None\n",
-    ),
-    (
-        &[
-            Call::Insert(3, &[(11, 0)]),
-            Call::Insert(1, &[(11, 0)]),
-            Call::Insert(2, &[(11, 0)]),
-            Call::Retain,
-            Call::IsEmpty,
-            Call::Retain,
-        ],
-        " true\n true\n true\n [1, 2, 3]\n true\n []\n",
-    ),
-    (
-        &[
-            Call::Insert(1, &[(12, 0), (10, 0), (11, 0)]),
-            Call::Delivered(1, &[(11, 0)]),
-        ],
-        " true\n Some(NonEmptyVec { items: [(10, 0), (12, 0)] })\n",
-    ),
-    (
-        &[
-            Call::Insert(1, &[(10, 0), (11, 0)]),
-            Call::Delivered(1, &[(10, 0), (11, 0)]),
-            Call::Contains(1),
-            Call::Delivered(1, &[(10, 0), (11, 0)]),
-        ],
-        " true\n None\n false\n None\n",
-    ),
-    (
-        &[
-            Call::Attach(1, &[(12, 7), (10, 7)]),
-            Call::Contains(1),
-            Call::InsertNew(1, &[(12, 7), (10, 7)]),
-            Call::InsertNew(2, &[(20, 1), (21, 2), (22, 3)]),
-            Call::Attach(1, &[(10, 8), (11, 8)]),
-            Call::Attach(2, &[(19, 4), (22, 5), (23, 6)]),
-            Call::Pending(1),
-            Call::Pending(2),
-            Call::InsertNew(3, &[(30, 1), (30, 2)]),
-            Call::Pending(3),
-        ],
-        " Some(NonEmptyVec { items: [(12, 7), (10, 7)] })\n false\n\n\n None\n None\n \
-        Some(NonEmptyVec { items: [(10, 7), (11, 8), (12, 7)] })\n \
-        Some(NonEmptyVec { items: [(19, 4), (20, 1), (21, 2), (22, 3), (23, 6)] })\n\n \
-        Some(NonEmptyVec { items: [(30, 1)] })\n",
-    ),
+const SCRIPTS: &[&str] = &[
+    "
+        insert 1 10 0 11 0 = Ok(true)
+        insert 1 11 0 12 0 = Ok(false)
+        pending 1 = Ok(Some(NonEmptyVec { items: [(10, 0), (11, 0), (12, 0)] }))
+        delivered 1 10 0 12 0 = Ok(Some(NonEmptyVec { items: [(11, 0)] }))
+        pending 1 = Ok(Some(NonEmptyVec { items: [(11, 0)] }))",
+    "
+        insert 1 10 7 = Ok(true)
+        insert 1 10 8 11 8 = Ok(false)
+        pending 1 = Ok(Some(NonEmptyVec { items: [(10, 7), (11, 8)] }))",
+    "
+        insert 1 11 0 = Ok(true)
+        insert 2 20 0 21 0 = Ok(true)
+        retain = Ok([1])
+        pending 2 = Ok(Some(NonEmptyVec { items: [(20, 0)] }))
+        pending 1 = Ok(None)",
+    "
+        insert 3 11 0 = Ok(true)
+        insert 1 11 0 = Ok(true)
+        insert 2 11 0 = Ok(true)
+        retain = Ok([1, 2, 3])
+        is_empty = true
+        retain = Ok([])",
+    "
+        insert 1 12 0 10 0 11 0 = Ok(true)
+        delivered 1 11 0 = Ok(Some(NonEmptyVec { items: [(10, 0), (12, 0)] }))",
+    "
+        insert 1 10 0 11 0 = Ok(true)
+        delivered 1 10 0 11 0 = Ok(None)
+        contains 1 = false
+        delivered 1 10 0 11 0 = Ok(None)",
+    "
+        attach 1 12 7 10 7 = Ok(Some(NonEmptyVec { items: [(12, 7), (10, 7)] }))
+        contains 1 = false
+        insert_new 1 12 7 10 7
+        insert_new 2 20 1 21 2 22 3
+        attach 1 10 8 11 8 = Ok(None)
+        attach 2 19 4 22 5 23 6 = Ok(None)
+        pending 1 = Ok(Some(NonEmptyVec { items: [(10, 7), (11, 8), (12, 7)] }))
+        pending 2 = Ok(Some(NonEmptyVec { items: [(19, 4), (20, 1), (21, 2), (22, 3), (23, 6)] }))
+        insert_new 3 30 1 30 2
+        pending 3 = Ok(Some(NonEmptyVec { items: [(30, 1)] }))",
 ];
 
 #[test]
 fn tracker(rt: HostRuntime) {
-    for (calls, wanted) in ROWS {
-        let text = told(&rt, rt.alloc(), calls);
-        equal_texts(&rt, text.as_str(), wanted);
-        drop(text);
+    for script in SCRIPTS {
+        let mut tracker: Demand = Tracker::new(rt.alloc());
+        goes(&rt, rt.alloc(), &mut tracker, script);
+        drop(tracker);
     }
 }
 
 /// Puts a thousand keys, each for the subscriber of its number with the mark 1. Each is new.
 fn put_thousand(rt: &impl Abort, alloc: Global, tracker: &mut Demand) {
     for key in 0..1000u16 {
-        holds(rt, insert(rt, alloc, tracker, key, &[(key, 1)]));
+        let one = NonEmptyVec::new(alloc, (key, 1)).expect(rt, "memory");
+        holds(rt, tracker.insert(key, one).expect(rt, "memory"));
     }
 }
 
@@ -265,63 +185,34 @@ fn holds_a_thousand_keys(rt: HostRuntime) {
     drop(tracker);
 }
 
-/// So many subscribers from 0 on, of which each has its name as its mark.
-fn ascending(rt: &impl Abort, alloc: Global, count: u16) -> Vec<(u16, u64)> {
-    let mut subscribers = Vec::new(alloc);
-    for name in 0..count {
-        subscribers
-            .push((name, u64::from(name)))
-            .expect(rt, "memory");
-    }
-    subscribers
-}
+/// Subscribers of key 1 from 0 to 40 are put at three times, of which the first finds the key new. Each has its name as
+/// its mark.
+const PUT: &str = "
+    insert 1 7 7 3 3 = Ok(true)
+    insert 1 39 39 38 38 37 37 36 36 35 35 34 34 33 33 32 32 31 31 30 30 29 29 28 28 27 27 26 26 25 25 24 24 23 23 22 22 21 21 20 20 19 19 18 18 17 17 16 16 15 15 14 14 13 13 12 12 11 11 10 10 9 9 8 8 7 7 6 6 5 5 4 4 3 3 2 2 1 1 0 0 = Ok(false)
+    insert 1 7 99 40 40 = Ok(false)";
 
-/// These are so many subscribers from 0 on, in their order, with their names as their marks.
-fn are_ascending(
-    rt: &impl Abort,
-    alloc: Global,
-    subscribers: Option<NonEmptyVec<(u16, u64)>>,
-    count: u16,
-) {
-    let found = subscribers.expect(rt, "subscribers");
-    let wanted = ascending(rt, alloc, count);
-    equal_lists(rt, found.as_slice(), wanted.as_slice());
-    drop(found);
-    drop(wanted);
-}
+/// They stand in their order.
+const MANY: &str = "
+    pending 1 = Ok(Some(NonEmptyVec { items: [(0, 0), (1, 1), (2, 2), (3, 3), (4, 4), (5, 5), (6, 6), (7, 7), (8, 8), (9, 9), (10, 10), (11, 11), (12, 12), (13, 13), (14, 14), (15, 15), (16, 16), (17, 17), (18, 18), (19, 19), (20, 20), (21, 21), (22, 22), (23, 23), (24, 24), (25, 25), (26, 26), (27, 27), (28, 28), (29, 29), (30, 30), (31, 31), (32, 32), (33, 33), (34, 34), (35, 35), (36, 36), (37, 37), (38, 38), (39, 39), (40, 40)] }))";
 
-/// Puts 41 subscribers of key 1 at three times, of which the first finds the key new.
-fn put_many(rt: &impl Abort, alloc: Global, tracker: &mut Demand) {
-    let mut many = ascending(rt, alloc, 40);
-    many.reverse();
-    holds(rt, insert(rt, alloc, tracker, 1, &[(7, 7), (3, 3)]));
-    holds(rt, !insert(rt, alloc, tracker, 1, many.as_slice()));
-    holds(rt, !insert(rt, alloc, tracker, 1, &[(7, 99), (40, 40)]));
-    drop(many);
-}
-
-/// Takes subscribers of key 1 out, and then the odd ones, which leaves the key 20.
-fn take_many(rt: &impl Abort, alloc: Global, tracker: &mut Demand) {
-    let rest = delivered(rt, alloc, tracker, 1, &[(40, 0), (39, 0), (50, 0)]);
-    are_ascending(rt, alloc, rest, 39);
-    are_ascending(rt, alloc, pending(rt, tracker, 1), 39);
-    holds(rt, retain(rt, tracker).is_empty());
-    let even = pending(rt, tracker, 1).expect(rt, "subscribers");
-    holds(rt, even.len() == 20);
-    drop(even);
-}
+/// Two of them are taken out, and then the odd ones.
+const TAKEN: &str = "
+    delivered 1 40 0 39 0 50 0 = Ok(Some(NonEmptyVec { items: [(0, 0), (1, 1), (2, 2), (3, 3), (4, 4), (5, 5), (6, 6), (7, 7), (8, 8), (9, 9), (10, 10), (11, 11), (12, 12), (13, 13), (14, 14), (15, 15), (16, 16), (17, 17), (18, 18), (19, 19), (20, 20), (21, 21), (22, 22), (23, 23), (24, 24), (25, 25), (26, 26), (27, 27), (28, 28), (29, 29), (30, 30), (31, 31), (32, 32), (33, 33), (34, 34), (35, 35), (36, 36), (37, 37), (38, 38)] }))
+    pending 1 = Ok(Some(NonEmptyVec { items: [(0, 0), (1, 1), (2, 2), (3, 3), (4, 4), (5, 5), (6, 6), (7, 7), (8, 8), (9, 9), (10, 10), (11, 11), (12, 12), (13, 13), (14, 14), (15, 15), (16, 16), (17, 17), (18, 18), (19, 19), (20, 20), (21, 21), (22, 22), (23, 23), (24, 24), (25, 25), (26, 26), (27, 27), (28, 28), (29, 29), (30, 30), (31, 31), (32, 32), (33, 33), (34, 34), (35, 35), (36, 36), (37, 37), (38, 38)] }))
+    retain = Ok([])
+    pending 1 = Ok(Some(NonEmptyVec { items: [(0, 0), (2, 2), (4, 4), (6, 6), (8, 8), (10, 10), (12, 12), (14, 14), (16, 16), (18, 18), (20, 20), (22, 22), (24, 24), (26, 26), (28, 28), (30, 30), (32, 32), (34, 34), (36, 36), (38, 38)] }))";
 
 #[test]
 fn many_subscribers_stand_in_order(rt: HostRuntime) {
-    let rt = &rt;
-    let alloc = rt.alloc();
-    let mut tracker = Tracker::new(alloc);
-    put_many(rt, alloc, &mut tracker);
-    are_ascending(rt, alloc, pending(rt, &tracker, 1), 41);
-    let same = copied(rt, &tracker);
-    take_many(rt, alloc, &mut tracker);
+    let (rt, alloc) = (&rt, rt.alloc());
+    let mut tracker: Demand = Tracker::new(alloc);
+    goes(rt, alloc, &mut tracker, PUT);
+    goes(rt, alloc, &mut tracker, MANY);
+    let mut same = copied(rt, &tracker);
+    goes(rt, alloc, &mut tracker, TAKEN);
     drop(tracker);
-    are_ascending(rt, alloc, pending(rt, &same, 1), 41);
+    goes(rt, alloc, &mut same, MANY);
     drop(same);
 }
 
