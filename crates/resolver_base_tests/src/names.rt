@@ -51,6 +51,12 @@ impl Faithful for Letter {
     ghost clones = { Prim.search rules };
 }
 
+impl Exact for Letter {
+    fn is_same(&self, other: &Letter) -> bool {
+        self.0 == other.0
+    }
+}
+
 /// Keeps every subscriber.
 #[derive(Clone, Copy, Debug)]
 pub struct All;

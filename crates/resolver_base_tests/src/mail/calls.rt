@@ -1,7 +1,7 @@
 //! Messages of the tests, and what handles show.
 
 use crate::asserts::equal_texts;
-use crate::names::All;
+use crate::names::{All, Letter};
 use resolver_base::base::Fault;
 use resolver_ingress::ingress::{FetchKey, Message};
 use resolver_mailbox::mailbox::{Names, Share};
@@ -10,12 +10,12 @@ use std::alloc::Global;
 use std::panic::Expect;
 use std::process::Abort;
 
-pub type Told = Message<u16, u16, (), All>;
+pub type Told = Message<Letter, u16, (), All>;
 
 /// A fetch of a key for one subscriber, with this mark.
-pub fn fetch(alloc: Global, key: u16, subscriber: u16, mark: u64) -> Result<Told, Fault> {
+pub fn fetch(alloc: Global, key: u8, subscriber: u16, mark: u64) -> Result<Told, Fault> {
     let fetch = Fetch {
-        key,
+        key: Letter(key),
         subscriber,
         mark,
     };

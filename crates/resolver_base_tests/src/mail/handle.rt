@@ -1,6 +1,7 @@
 ghost use Rattle.std.specs.Prelude.{◌≡◌, true};
 
 use crate::asserts::spell;
+use crate::lines::{Called, byte, goes};
 use crate::mail::calls::{equal_pieces, shown};
 use crate::mail::mailbox::next;
 use crate::names::{All, Letter};
@@ -28,11 +29,29 @@ type Putter<M, N, R> = Sender<Letter, u16, M, All, N, R>;
 
 type Mail<M, N, R> = Receiver<Letter, u16, M, All, N, R>;
 
-/// What the answers to a put and then to the calls of `ask_each` are.
-const OK: &str = " Ok Ok Ok Ok Ok Ok Ok Ok Ok Ok";
+/// Each call of the two traits is made.
+const ASKED: &str = "
+    fetch 1 = Ok
+    fetch_all = Ok
+    fetch_all 2 = Ok
+    fetch_all 3 4 5 = Ok
+    fetch_targeted 6 = Ok
+    fetch_all_targeted = Ok
+    fetch_all_targeted 7 = Ok
+    fetch_all_targeted 8 9 10 = Ok
+    retain = Ok";
 
-/// What the answers to the calls of `ask_each` are, once the mailbox is closed.
-const CLOSED: &str = " Closed Closed Closed Closed Closed Closed Closed Closed Closed";
+/// The same once the mailbox is closed.
+const CLOSED: &str = "
+    fetch 1 = Closed
+    fetch_all = Closed
+    fetch_all 2 = Closed
+    fetch_all 3 4 5 = Closed
+    fetch_targeted 6 = Closed
+    fetch_all_targeted = Closed
+    fetch_all_targeted 7 = Closed
+    fetch_all_targeted 8 9 10 = Closed
+    retain = Closed";
 
 /// What was put of the source's handle, each call one message.
 const PUT: &str = " Retain(All) \
@@ -115,68 +134,56 @@ fn fetch_from(
     (fetch(key), peers)
 }
 
-fn fetches(rt: &impl Abort, alloc: Global, keys: &[u8]) -> Vec<Fetch<Letter, u16>> {
+/// A fetch of each of these keys.
+fn fetches(rt: &impl Abort, alloc: Global, keys: &[u128]) -> Vec<Fetch<Letter, u16>> {
     let mut fetches = Vec::new(alloc);
-    for key in keys {
-        fetches.push(fetch(*key)).expect(rt, "memory");
+    for place in 0..keys.len() {
+        fetches.push(fetch(byte(keys, place))).expect(rt, "memory");
     }
     fetches
 }
 
+/// The same, each from one peer.
 fn fetches_from(
     rt: &impl Abort,
     alloc: Global,
-    keys: &[u8],
+    keys: &[u128],
 ) -> Vec<(Fetch<Letter, u16>, NonEmptyVec<Letter>)> {
     let mut fetches = Vec::new(alloc);
-    for key in keys {
-        fetches
-            .push(fetch_from(rt, alloc, *key))
-            .expect(rt, "memory");
+    for place in 0..keys.len() {
+        let fetch = fetch_from(rt, alloc, byte(keys, place));
+        fetches.push(fetch).expect(rt, "memory");
     }
     fetches
 }
 
-/// Asks for none, for one and for three keys, and writes what each call answers.
-fn ask_lists<H>(rt: &impl Abort, text: &mut String, handle: &mut H)
-where
-    H: Asks<Key = Letter, Subscriber = u16, Predicate = All>,
-{
-    const LISTS: &[&[u8]] = &[&[], &[2], &[3, 4, 5]];
-    for keys in LISTS {
-        let fetches = fetches(rt, *text.allocator(), keys);
-        let feedback = handle.fetch_all(fetches).expect(rt, "an answer");
-        spell(rt, text, feedback);
-    }
+/// A handle that is asked.
+#[derive(Drop)]
+struct Asking<'a, H> {
+    handle: &'a mut H,
 }
 
-/// The same with targets.
-fn ask_targeted_lists<H>(rt: &impl Abort, text: &mut String, handle: &mut H)
+impl<H> Called for Asking<'_, H>
 where
     H: TargetedResolver<PublicKey = Letter> + Asks<Key = Letter, Subscriber = u16, Predicate = All>,
 {
-    const LISTS: &[&[u8]] = &[&[], &[7], &[8, 9, 10]];
-    for keys in LISTS {
-        let fetches = fetches_from(rt, *text.allocator(), keys);
-        let feedback = handle.fetch_all_targeted(fetches).expect(rt, "an answer");
-        spell(rt, text, feedback);
+    fn call(&mut self, rt: &impl Abort, text: &mut String, word: &str, keys: &[u128]) {
+        let alloc = *text.allocator();
+        let answer = match word {
+            "fetch" => self.handle.fetch(fetch(byte(keys, 0))),
+            "fetch_all" => self.handle.fetch_all(fetches(rt, alloc, keys)),
+            "fetch_targeted" => {
+                let (fetch, targets) = fetch_from(rt, alloc, byte(keys, 0));
+                self.handle.fetch_targeted(fetch, targets)
+            }
+            "fetch_all_targeted" => {
+                self.handle
+                    .fetch_all_targeted(fetches_from(rt, alloc, keys))
+            }
+            _ => self.handle.retain(All),
+        };
+        spell(rt, text, answer.expect(rt, "an answer"));
     }
-}
-
-/// Makes each call of the two traits, and writes what it answers.
-fn ask_each<H>(rt: &impl Abort, text: &mut String, handle: &mut H)
-where
-    H: TargetedResolver<PublicKey = Letter> + Asks<Key = Letter, Subscriber = u16, Predicate = All>,
-{
-    let feedback = handle.fetch(fetch(1)).expect(rt, "an answer");
-    spell(rt, text, feedback);
-    ask_lists(rt, text, handle);
-    let (one, targets) = fetch_from(rt, *text.allocator(), 6);
-    let feedback = handle.fetch_targeted(one, targets).expect(rt, "an answer");
-    spell(rt, text, feedback);
-    ask_targeted_lists(rt, text, handle);
-    let feedback = handle.retain(All).expect(rt, "an answer");
-    spell(rt, text, feedback);
 }
 
 /// Writes what a handle has put.
@@ -237,12 +244,13 @@ fn ask_and_take<H, M: Metadata + Debug + Drop, N: Naming, R: Wait + Drop>(
     task: &MockTask,
     handle: &mut H,
     receiver: &mut Mail<M, N, R>,
+    script: &str,
 )
 where
     H: Asks<Key = Letter, Subscriber = u16, Predicate = All>,
     H: TargetedResolver<PublicKey = Letter> + Handle,
 {
-    ask_each(rt, text, handle);
+    goes(rt, *text.allocator(), &mut Asking { handle }, script);
     handle.spell_puts(rt, text);
     spell_taken(rt, text, task, receiver);
 }
@@ -259,9 +267,9 @@ where
     H: Asks<Key = Letter, Subscriber = u16, Predicate = All>,
     H: TargetedResolver<PublicKey = Letter> + Handle + Clone + Drop,
 {
-    ask_and_take(rt, text, task, &mut handle, &mut receiver);
+    ask_and_take(rt, text, task, &mut handle, &mut receiver, ASKED);
     close_by_clone(rt, text, &handle);
-    ask_and_take(rt, text, task, &mut handle, &mut receiver);
+    ask_and_take(rt, text, task, &mut handle, &mut receiver, CLOSED);
     drop(handle);
     drop(receiver);
 }
@@ -342,13 +350,10 @@ where
 /// Ends the test where something else is seen of a handle whose share lists what was put.
 fn is_recorded_sight(rt: &impl Abort, text: &String, put: &str) {
     let pieces = [
-        OK,
-        " Some((0, false))",
+        " Ok Some((0, false))",
         put,
         put,
-        " Pending None",
-        CLOSED,
-        " Some((0, true))",
+        " Pending None Some((0, true))",
         put,
         " Ready(None)",
     ];
@@ -357,14 +362,7 @@ fn is_recorded_sight(rt: &impl Abort, text: &String, put: &str) {
 
 /// Ends the test where something else is seen of a handle that has no share.
 fn is_sight(rt: &impl Abort, text: &String, put: &str) {
-    let pieces = [
-        OK,
-        " None",
-        put,
-        " Pending None",
-        CLOSED,
-        " None Ready(None)",
-    ];
+    let pieces = [" Ok None", put, " Pending None None Ready(None)"];
     equal_pieces(rt, text, &pieces);
 }
 

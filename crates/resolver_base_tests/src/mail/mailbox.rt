@@ -1,8 +1,9 @@
 ghost use Rattle.std.specs.Prelude.{◌≡◌, ◌<◌, true};
 
-use crate::asserts::{equal_texts, spell};
-use crate::mail::calls::{equal_pieces, fetch, shown};
-use crate::names::All;
+use crate::asserts::{holds, spell};
+use crate::lines::{Called, byte, goes_on, long, short};
+use crate::mail::calls::{fetch, shown};
+use crate::names::{All, Letter};
 use futures::task::Poll;
 use futures::test::MockTask;
 use futures::{Stream, StreamExt};
@@ -15,14 +16,11 @@ use std::process::Abort;
 use std::random::RandomSource;
 use std::sync::Wait;
 
+/// A handle of the tests.
+pub type Handle<N, R> = Sender<Letter, u16, (), All, N, R>;
+
 /// The first handle and the receiver of a mailbox that was made.
-type Made<N, R> = Result<
-    (
-        Sender<u16, u16, (), All, N, R>,
-        Receiver<u16, u16, (), All, N, R>,
-    ),
-    Fault,
->;
+type Made<N, R> = Result<(Handle<N, R>, Receiver<Letter, u16, (), All, N, R>), Fault>;
 
 /// What the next poll of a stream gives.
 pub fn next<S: Stream>(task: &MockTask, stream: &mut S) -> Poll<Option<S::Item>>
@@ -35,8 +33,8 @@ pub fn next<S: Stream>(task: &MockTask, stream: &mut S) -> Poll<Option<S::Item>>
 pub fn shares_of<'a, N: Naming, R>(
     rt: &impl Abort,
     alloc: Global,
-    handles: &'a [Sender<u16, u16, (), All, N, R>],
-) -> Vec<&'a Share<u16, u16, (), All, N>> {
+    handles: &'a [Handle<N, R>],
+) -> Vec<&'a Share<Letter, u16, (), All, N>> {
     let mut shares = Vec::new(alloc);
     for handle in handles {
         if let Some(share) = handle.share() {
@@ -46,172 +44,128 @@ pub fn shares_of<'a, N: Naming, R>(
     shares
 }
 
-/// Puts a fetch of each of these keys for one subscriber with its mark, and writes the answers.
+/// Puts a fetch of a key for one subscriber with its mark, and writes the answer.
 fn put<N: Naming, R: Wait>(
     rt: &impl Abort,
     text: &mut String,
-    handle: &mut Sender<u16, u16, (), All, N, R>,
-    told: &[(u16, u16, u64)],
+    handle: &mut Handle<N, R>,
+    (key, subscriber, mark): (u8, u16, u64),
 ) {
-    for &(key, subscriber, mark) in told {
-        let message = fetch(*text.allocator(), key, subscriber, mark).expect(rt, "memory");
-        spell(rt, text, handle.enqueue(message).expect(rt, "an answer"));
-    }
+    let message = fetch(*text.allocator(), key, subscriber, mark).expect(rt, "memory");
+    spell(rt, text, handle.enqueue(message).expect(rt, "an answer"));
 }
 
-/// Polls so often, and writes what each poll gives.
-fn poll<N: Naming, R: Wait + Drop>(
+/// Writes the book that is lent for the shares of these handles.
+fn spell_book<N: Naming, R: Wait>(
     rt: &impl Abort,
     text: &mut String,
-    task: &MockTask,
-    receiver: &mut Receiver<u16, u16, (), All, N, R>,
-    count: u32,
+    receiver: &Receiver<Letter, u16, (), All, N, R>,
+    handles: &[Handle<N, R>],
 ) {
-    for _ in 0..count {
-        spell(rt, text, next(task, receiver));
-    }
-}
-
-/// Writes the share of a handle: its number, its mark, and its messages.
-fn spell_whole<N: Naming>(
-    rt: &impl Abort,
-    text: &mut String,
-    share: Option<&Share<u16, u16, (), All, N>>,
-) {
-    spell(rt, text, shown(share));
-}
-
-/// Two handles put, the receiver takes, the mailbox is closed, and the first handle puts again:
-/// writes the answers, and what is shown then.
-fn row<N: Naming, R: Wait + Drop>(
-    rt: &impl Abort,
-    text: &mut String,
-    task: &MockTask,
-    first: &mut Sender<u16, u16, (), All, N, R>,
-    second: &mut Sender<u16, u16, (), All, N, R>,
-    receiver: &mut Receiver<u16, u16, (), All, N, R>,
-) {
-    spell_whole(rt, text, first.share());
-    spell_whole(rt, text, second.share());
-    put(rt, text, first, &[(1, 10, 7), (2, 20, 8)]);
-    put(rt, text, second, &[(2, 21, 9)]);
-    poll(rt, text, task, receiver, 3);
-    first.close();
-    put(rt, text, first, &[(3, 30, 5)]);
-    show(rt, text, first.share(), second.share(), receiver);
-}
-
-/// Writes the book that is lent for these shares.
-fn spell_lent<N: Naming, R: Wait>(
-    rt: &impl Abort,
-    text: &mut String,
-    receiver: &Receiver<u16, u16, (), All, N, R>,
-    shares: &[&Share<u16, u16, (), All, N>],
-) {
-    let book = receiver
-        .book(*text.allocator(), shares)
-        .expect(rt, "a book");
+    let alloc = *text.allocator();
+    let shares = shares_of(rt, alloc, handles);
+    let book = receiver.book(alloc, shares.as_slice()).expect(rt, "a book");
     spell(rt, text, book);
 }
 
-/// Writes the shares of two handles, what was taken, and the book that is lent for no share, and where there are
-/// shares, for one and for both.
-fn show<N: Naming, R: Wait>(
+/// The handles and the receiver of a mailbox, and for how many handles its book is lent.
+#[derive(Drop)]
+struct Mailed<'t, 'a, N: Naming, R> {
+    task: &'t MockTask,
+    handles: &'a mut Vec<Handle<N, R>>,
+    receiver: &'a mut Receiver<Letter, u16, (), All, N, R>,
+    lent: usize,
+}
+
+/// Makes a call of a handle: writes what a put answers, or the handle's share.
+fn call_one<N: Naming, R: Wait>(
     rt: &impl Abort,
     text: &mut String,
-    first: Option<&Share<u16, u16, (), All, N>>,
-    second: Option<&Share<u16, u16, (), All, N>>,
-    receiver: &Receiver<u16, u16, (), All, N, R>,
+    handle: &mut Handle<N, R>,
+    word: &str,
+    numbers: &[u128],
 ) {
-    spell_whole(rt, text, first);
-    spell_whole(rt, text, second);
-    spell(rt, text, receiver.taken());
-    spell_lent(rt, text, receiver, &[]);
-    if let (Some(one), Some(other)) = (first, second) {
-        spell_lent(rt, text, receiver, &[one]);
-        spell_lent(rt, text, receiver, &[one, other]);
+    match word {
+        "put" => {
+            let told = (byte(numbers, 1), short(numbers, 2), long(numbers, 3));
+            put(rt, text, handle, told);
+        }
+        "share" => spell(rt, text, shown(handle.share())),
+        _ => handle.close(),
     }
 }
 
-/// Writes the row of a handle and its clone.
-fn row_of_both<N: Naming, R: Wait + Copy + Drop>(
+/// Makes a call of the receiver. Ends the test where it has none of this word.
+fn receive<N: Naming, R: Wait + Drop>(
     rt: &impl Abort,
     text: &mut String,
     task: &MockTask,
-    first: &mut Sender<u16, u16, (), All, N, R>,
-    receiver: &mut Receiver<u16, u16, (), All, N, R>,
+    receiver: &mut Receiver<Letter, u16, (), All, N, R>,
+    word: &str,
 ) {
-    let mut second = first.clone().expect(rt, "memory");
-    row(rt, text, task, first, &mut second, receiver);
-    drop(second);
+    match word {
+        "poll" => spell(rt, text, next(task, receiver)),
+        "taken" => spell(rt, text, receiver.taken()),
+        "end" => receiver.close(),
+        "is_woken" => spell(rt, text, task.is_woken()),
+        _ => holds(rt, false),
+    }
 }
 
-/// Three puts, a close, and polls until the mailbox has ended: writes the answers.
-fn shut<N: Naming, R: Wait + Drop>(
-    rt: &impl Abort,
-    text: &mut String,
-    task: &MockTask,
-    handle: &mut Sender<u16, u16, (), All, N, R>,
-    receiver: &mut Receiver<u16, u16, (), All, N, R>,
-) {
-    put(rt, text, handle, &[(1, 10, 7), (2, 20, 8), (3, 30, 9)]);
-    handle.close();
-    poll(rt, text, task, receiver, 5);
+impl<N: Naming, R: Wait + Copy + Drop> Called for Mailed<'_, '_, N, R> {
+    fn call(&mut self, rt: &impl Abort, text: &mut String, word: &str, numbers: &[u128]) {
+        let place = usize::from(byte(numbers, 0));
+        match word {
+            "clone" => {
+                let handle = self.handles.get(place).expect(rt, "a handle");
+                let clone = handle.clone().expect(rt, "memory");
+                self.handles.push(clone).expect(rt, "memory");
+            }
+            "lend" => self.lent = place,
+            "book" => {
+                let lent = self.handles.get(..self.lent).expect(rt, "handles");
+                spell_book(rt, text, self.receiver, lent);
+            }
+            "put" | "share" | "close" => {
+                let handle = self.handles.get_mut(place).expect(rt, "a handle");
+                call_one(rt, text, handle, word, numbers);
+            }
+            _ => receive(rt, text, self.task, self.receiver, word),
+        }
+    }
 }
 
-/// Polls in vain, a put, two polls and a close: writes the answers, and after each what wakes the task.
-fn wake<N: Naming, R: Wait + Drop>(
-    rt: &impl Abort,
-    text: &mut String,
-    task: &MockTask,
-    handle: &mut Sender<u16, u16, (), All, N, R>,
-    receiver: &mut Receiver<u16, u16, (), All, N, R>,
-) {
-    poll(rt, text, task, receiver, 1);
-    spell(rt, text, task.is_woken());
-    put(rt, text, handle, &[(1, 10, 7)]);
-    spell(rt, text, task.is_woken());
-    poll(rt, text, task, receiver, 2);
-    spell(rt, text, task.is_woken());
-    receiver.close();
-    spell(rt, text, task.is_woken());
-    poll(rt, text, task, receiver, 1);
-}
-
-/// What is done in a mailbox.
-#[derive(Clone, Copy)]
-enum Play {
-    Row,
-    Shut,
-    Wake,
-}
-
-/// Writes what a mailbox that was made answers.
+/// Makes the calls of these scripts in a mailbox that was made.
 fn play_in<N: Naming, R: Wait + Copy + Drop>(
     rt: &impl Abort,
-    text: &mut String,
+    alloc: Global,
     task: &MockTask,
     made: Made<N, R>,
-    play: Play,
+    scripts: &[&str],
 ) {
-    let (mut handle, mut receiver) = made.expect(rt, "a mailbox");
-    match play {
-        Play::Row => row_of_both(rt, text, task, &mut handle, &mut receiver),
-        Play::Shut => shut(rt, text, task, &mut handle, &mut receiver),
-        Play::Wake => wake(rt, text, task, &mut handle, &mut receiver),
-    }
-    drop(handle);
+    let (handle, mut receiver) = made.expect(rt, "a mailbox");
+    let mut handles = Vec::new(alloc);
+    handles.push(handle).expect(rt, "memory");
+    let mut mailed = Mailed {
+        task,
+        handles: &mut handles,
+        receiver: &mut receiver,
+        lent: 0,
+    };
+    goes_on(rt, alloc, &mut mailed, scripts);
+    drop(mailed);
+    drop(handles);
     drop(receiver);
 }
 
-/// Writes what a recorded mailbox of this capacity answers.
+/// The same in a recorded mailbox of this capacity.
 fn recorded_play<N, R>(
     rt: R,
-    text: &mut String,
+    alloc: Global,
     pages: Pages,
     task: &MockTask,
     capacity: usize,
-    play: Play,
+    scripts: &[&str],
 )
 where
     N: Naming,
@@ -221,99 +175,118 @@ where
     requires puts { pages.puts.name ≡ N.puts }
     requires takes { pages.takes.name ≡ N.takes }
 {
-    let alloc = *text.allocator();
-    let made = recorded::<u16, u16, (), All, N, R>(rt, alloc, pages, capacity);
-    play_in(&rt, text, task, made, play);
+    let made = recorded::<Letter, u16, (), All, N, R>(rt, alloc, pages, capacity);
+    play_in(&rt, alloc, task, made, scripts);
 }
 
-/// The calls of the row, and what is shown behind it.
-const ROW: &str = " (None, []) (None, []) Ok Backoff Backoff \
-    Ready(Some(Ok(Fetch([FetchKey { key: 1, subscribers: NonEmptyVec { items: [(10, 7)] }, metadata: () }])))) \
-    Ready(Some(Ok(Fetch([FetchKey { key: 2, subscribers: NonEmptyVec { items: [(20, 8), (21, 9)] }, metadata: () }])))) \
-    Pending Closed \
-    (Some((0, true)), [Fetch([FetchKey { key: 1, subscribers: NonEmptyVec { items: [(10, 7)] }, metadata: () }]), \
-    Fetch([FetchKey { key: 2, subscribers: NonEmptyVec { items: [(20, 8)] }, metadata: () }])]) \
-    (Some((1, false)), [Fetch([FetchKey { key: 2, subscribers: NonEmptyVec { items: [(21, 9)] }, metadata: () }])]) \
-    [Fetch([FetchKey { key: 1, subscribers: NonEmptyVec { items: [(10, 7)] }, metadata: () }]), \
-    Fetch([FetchKey { key: 2, subscribers: NonEmptyVec { items: [(20, 8), (21, 9)] }, metadata: () }])]";
+/// Two handles put, the receiver takes, the mailbox is closed, and the first handle puts again.
+const ROW: &str = "
+    clone
+    share 0 = (None, [])
+    share 1 = (None, [])
+    put 0 1 10 7 = Ok
+    put 0 2 20 8 = Backoff
+    put 1 2 21 9 = Backoff
+    poll = Ready(Some(Ok(Fetch([FetchKey { key: Letter(1), subscribers: NonEmptyVec { items: [(10, 7)] }, metadata: () }]))))
+    poll = Ready(Some(Ok(Fetch([FetchKey { key: Letter(2), subscribers: NonEmptyVec { items: [(20, 8), (21, 9)] }, metadata: () }]))))
+    poll = Pending
+    close 0
+    put 0 3 30 5 = Closed";
+
+/// The shares then, and what was taken.
+const SHARES: &str = "
+    share 0 = (Some((0, true)), [Fetch([FetchKey { key: Letter(1), subscribers: NonEmptyVec { items: [(10, 7)] }, metadata: () }]), \
+    Fetch([FetchKey { key: Letter(2), subscribers: NonEmptyVec { items: [(20, 8)] }, metadata: () }])])
+    share 1 = (Some((1, false)), [Fetch([FetchKey { key: Letter(2), subscribers: NonEmptyVec { items: [(21, 9)] }, metadata: () }])])
+    taken = [Fetch([FetchKey { key: Letter(1), subscribers: NonEmptyVec { items: [(10, 7)] }, metadata: () }]), \
+    Fetch([FetchKey { key: Letter(2), subscribers: NonEmptyVec { items: [(20, 8), (21, 9)] }, metadata: () }])]";
 
 /// The book of the row.
-const BOOK: &str = " [\
-    Put(Posted { handle: 0, place: 0, message: Fetch([FetchKey { key: 1, subscribers: NonEmptyVec { items: [(10, 7)] }, metadata: () }]), is_ok: true }), \
-    Put(Posted { handle: 0, place: 1, message: Fetch([FetchKey { key: 2, subscribers: NonEmptyVec { items: [(20, 8)] }, metadata: () }]), is_ok: false }), \
-    Put(Posted { handle: 1, place: 0, message: Fetch([FetchKey { key: 2, subscribers: NonEmptyVec { items: [(21, 9)] }, metadata: () }]), is_ok: false }), \
-    Take(Fetch([FetchKey { key: 1, subscribers: NonEmptyVec { items: [(10, 7)] }, metadata: () }])), \
-    Take(Fetch([FetchKey { key: 2, subscribers: NonEmptyVec { items: [(20, 8), (21, 9)] }, metadata: () }])), \
+const BOOK: &str = "
+    book = [\
+    Put(Posted { handle: 0, place: 0, message: Fetch([FetchKey { key: Letter(1), subscribers: NonEmptyVec { items: [(10, 7)] }, metadata: () }]), is_ok: true }), \
+    Put(Posted { handle: 0, place: 1, message: Fetch([FetchKey { key: Letter(2), subscribers: NonEmptyVec { items: [(20, 8)] }, metadata: () }]), is_ok: false }), \
+    Put(Posted { handle: 1, place: 0, message: Fetch([FetchKey { key: Letter(2), subscribers: NonEmptyVec { items: [(21, 9)] }, metadata: () }]), is_ok: false }), \
+    Take(Fetch([FetchKey { key: Letter(1), subscribers: NonEmptyVec { items: [(10, 7)] }, metadata: () }])), \
+    Take(Fetch([FetchKey { key: Letter(2), subscribers: NonEmptyVec { items: [(20, 8), (21, 9)] }, metadata: () }])), \
     Close]";
 
-/// The row where nothing is recorded.
-const BARE_ROW: &str = " (None, []) (None, []) Ok Backoff Backoff \
-    Ready(Some(Ok(Fetch([FetchKey { key: 1, subscribers: NonEmptyVec { items: [(10, 7)] }, metadata: () }])))) \
-    Ready(Some(Ok(Fetch([FetchKey { key: 2, subscribers: NonEmptyVec { items: [(20, 8), (21, 9)] }, metadata: () }])))) \
-    Pending Closed \
-    (None, []) (None, []) [] []";
+/// What is shown where nothing is recorded.
+const BARE: &str = "
+    share 0 = (None, [])
+    share 1 = (None, [])
+    taken = []
+    book = []";
 
-/// What a mailbox of capacity 2 answers that is shut.
-const SHUT: &str = " Ok Ok Backoff \
-    Ready(Some(Ok(Fetch([FetchKey { key: 1, subscribers: NonEmptyVec { items: [(10, 7)] }, metadata: () }])))) \
-    Ready(Some(Ok(Fetch([FetchKey { key: 2, subscribers: NonEmptyVec { items: [(20, 8)] }, metadata: () }])))) \
-    Ready(Some(Ok(Fetch([FetchKey { key: 3, subscribers: NonEmptyVec { items: [(30, 9)] }, metadata: () }])))) \
-    Ready(None) Ready(None)";
+/// Three puts, a close, and polls until the mailbox, whose capacity is 2, has ended.
+const SHUT: &str = "
+    put 0 1 10 7 = Ok
+    put 0 2 20 8 = Ok
+    put 0 3 30 9 = Backoff
+    close 0
+    poll = Ready(Some(Ok(Fetch([FetchKey { key: Letter(1), subscribers: NonEmptyVec { items: [(10, 7)] }, metadata: () }]))))
+    poll = Ready(Some(Ok(Fetch([FetchKey { key: Letter(2), subscribers: NonEmptyVec { items: [(20, 8)] }, metadata: () }]))))
+    poll = Ready(Some(Ok(Fetch([FetchKey { key: Letter(3), subscribers: NonEmptyVec { items: [(30, 9)] }, metadata: () }]))))
+    poll = Ready(None)
+    poll = Ready(None)";
 
-/// What wakes a receiver.
-const WOKEN: &str = " Pending false Ok true \
-    Ready(Some(Ok(Fetch([FetchKey { key: 1, subscribers: NonEmptyVec { items: [(10, 7)] }, metadata: () }])))) \
-    Pending false true Ready(None)";
+/// Polls in vain, a put, two polls and an end, and after each whether it wakes the task.
+const WOKEN: &str = "
+    poll = Pending
+    is_woken = false
+    put 0 1 10 7 = Ok
+    is_woken = true
+    poll = Ready(Some(Ok(Fetch([FetchKey { key: Letter(1), subscribers: NonEmptyVec { items: [(10, 7)] }, metadata: () }]))))
+    poll = Pending
+    is_woken = false
+    end
+    is_woken = true
+    poll = Ready(None)";
 
-/// Ends the test where a recorded mailbox of this capacity answers something else than these pieces.
-fn recorded_answers<R>(rt: R, alloc: Global, capacity: usize, play: Play, pieces: &[&str])
+/// Ends the test where a recorded mailbox of this capacity answers something else.
+fn recorded_answers<R>(rt: R, alloc: Global, capacity: usize, scripts: &[&str])
 where
     R: Abort + Wait + RandomSource + AllocGlobal + Copy + Drop,
     requires some { 0 < capacity }
 {
     let task = MockTask::new(&rt).expect(&rt, "a task");
-    let mut text = String::new(alloc);
-    recorded_play::<Brand, _>(rt, &mut text, Pages::new(), &task, capacity, play);
+    recorded_play::<Brand, _>(rt, alloc, Pages::new(), &task, capacity, scripts);
     drop(task);
-    equal_pieces(&rt, &text, pieces);
-    drop(text);
 }
 
 /// The same of a mailbox that isn't recorded.
-fn answers<R>(rt: R, alloc: Global, capacity: usize, play: Play, wanted: &str)
+fn answers<R>(rt: R, alloc: Global, capacity: usize, scripts: &[&str])
 where
     R: Abort + Wait + RandomSource + AllocGlobal + Copy + Drop,
     requires some { 0 < capacity }
 {
     let task = MockTask::new(&rt).expect(&rt, "a task");
-    let mut text = String::new(alloc);
-    play_in(&rt, &mut text, &task, new(rt, alloc, capacity), play);
+    play_in(&rt, alloc, &task, new(rt, alloc, capacity), scripts);
     drop(task);
-    equal_texts(&rt, text.as_str(), wanted);
-    drop(text);
 }
 
 #[test]
 fn mailbox_book(rt: HostRuntime) {
-    recorded_answers(rt, rt.alloc(), 1, Play::Row, &[ROW, BOOK, BOOK, BOOK]);
+    let scripts = [ROW, SHARES, BOOK, "lend 1", BOOK, "lend 2", BOOK];
+    recorded_answers(rt, rt.alloc(), 1, &scripts);
 }
 
 #[test]
 fn mailbox_book_not_recorded(rt: HostRuntime) {
-    answers(rt, rt.alloc(), 1, Play::Row, BARE_ROW);
+    answers(rt, rt.alloc(), 1, &[ROW, BARE]);
 }
 
 #[test]
 fn what_waits_is_given_after_the_close(rt: HostRuntime) {
-    recorded_answers(rt, rt.alloc(), 2, Play::Shut, &[SHUT]);
+    recorded_answers(rt, rt.alloc(), 2, &[SHUT]);
 }
 
 #[test]
 fn what_waits_is_given_after_the_close_not_recorded(rt: HostRuntime) {
-    answers(rt, rt.alloc(), 2, Play::Shut, SHUT);
+    answers(rt, rt.alloc(), 2, &[SHUT]);
 }
 
 #[test]
 fn a_put_and_a_close_wake_the_receiver(rt: HostRuntime) {
-    answers(rt, rt.alloc(), 1, Play::Wake, WOKEN);
+    answers(rt, rt.alloc(), 1, &[WOKEN]);
 }

@@ -86,21 +86,14 @@ type Handle<K, S, N, R> = Sender<K, S, (), Kept<Everyone>, N, R>;
 
 type Mail<K, S, N, R> = Receiver<K, S, (), Kept<Everyone>, N, R>;
 
-/// Puts a fetch of this key for this subscriber, and the test 9.
-fn put_both<K, S, N, R>(
-    rt: &impl Abort,
-    alloc: Global,
-    handle: &mut Handle<K, S, N, R>,
-    key: &K,
-    subscriber: &S,
-)
+/// Puts this message, and the test 9.
+fn put_both<K, S, N, R>(rt: &impl Abort, handle: &mut Handle<K, S, N, R>, message: Told<K, S>)
 where
     K: Ord + Hash + Faithful + Drop,
     S: Ord + Faithful + Drop,
     N: Naming,
     R: Wait,
 {
-    let message = fetch(rt, alloc, copied(rt, key), copied(rt, subscriber));
     handle.enqueue(message).expect(rt, "an answer");
     let message = Message::Retain(Kept::new(Everyone(9)));
     handle.enqueue(message).expect(rt, "an answer");
@@ -123,8 +116,8 @@ where
     receiver.book(alloc, &[share]).expect(rt, "a book")
 }
 
-/// The book of a recorded mailbox of capacity 1 that both are put in.
-fn booked<K, S, N, R>(rt: R, alloc: Global, pages: Pages, key: &K, subscriber: &S) -> Book<K, S>
+/// The book of a recorded mailbox of capacity 1 that this message and the test are put in.
+fn booked<K, S, N, R>(rt: R, alloc: Global, pages: Pages, message: Told<K, S>) -> Book<K, S>
 where
     K: Ord + Hash + Faithful + Exact + Drop,
     S: Ord + Faithful + Exact + Drop,
@@ -136,7 +129,7 @@ where
 {
     let made = recorded::<K, S, (), Kept<Everyone>, N, R>(rt, alloc, pages, 1);
     let (mut handle, receiver) = made.expect(&rt, "a mailbox");
-    put_both(&rt, alloc, &mut handle, key, subscriber);
+    put_both(&rt, &mut handle, message);
     let book = book_of(&rt, alloc, &handle, &receiver);
     drop(handle);
     drop(receiver);
@@ -144,27 +137,14 @@ where
 }
 
 #[test]
-fn byte_arrays_and_bytes_are_booked(rt: HostRuntime) {
+fn names_of_several_parts_are_booked(rt: HostRuntime) {
     const BOOK: &str = "[Put(Posted { handle: 0, place: 0, message: \
-        Fetch([FetchKey { key: [1, 2, 3], subscribers: NonEmptyVec { items: [(b\"ab\", 7)] }, metadata: () }]), \
+        Fetch([FetchKey { key: ([1, 2, 3], b\"cd\"), subscribers: NonEmptyVec { items: [((1, b\"ab\", [3, 4]), 7)] }, metadata: () }]), \
         is_ok: true }), \
         Put(Posted { handle: 0, place: 1, message: Retain(Kept { test: Everyone(9) }), is_ok: false })]";
-    let key = [1u8, 2, 3];
-    let bytes = Bytes::from_static(b"ab");
-    let book = booked::<_, _, Brand, _>(rt, rt.alloc(), Pages::new(), &key, &bytes);
-    drop(bytes);
-    is_written(&rt, rt.alloc(), book, BOOK);
-}
-
-#[test]
-fn tuples_are_booked(rt: HostRuntime) {
-    const BOOK: &str = "[Put(Posted { handle: 0, place: 0, message: \
-        Fetch([FetchKey { key: (1, b\"cd\"), subscribers: NonEmptyVec { items: [((1, 2, [3, 4]), 7)] }, metadata: () }]), \
-        is_ok: true }), \
-        Put(Posted { handle: 0, place: 1, message: Retain(Kept { test: Everyone(9) }), is_ok: false })]";
-    let pair = (1u8, Bytes::from_static(b"cd"));
-    let triple = (1u8, 2u16, [3u32, 4]);
-    let book = booked::<_, _, Brand, _>(rt, rt.alloc(), Pages::new(), &pair, &triple);
-    drop(pair);
+    let key = ([1u8, 2, 3], Bytes::from_static(b"cd"));
+    let subscriber = (1u16, Bytes::from_static(b"ab"), [3u32, 4]);
+    let message = fetch(&rt, rt.alloc(), key, subscriber);
+    let book = booked::<_, _, Brand, _>(rt, rt.alloc(), Pages::new(), message);
     is_written(&rt, rt.alloc(), book, BOOK);
 }

@@ -4,13 +4,13 @@ ghost use Rattle.std.specs.Prelude.{◌≡◌, ◌<◌, true};
 
 use crate::asserts::{equal, equal_texts, holds, spell};
 use crate::mail::calls::{Told, fetch};
-use crate::mail::mailbox::{next, shares_of};
-use crate::names::All;
+use crate::mail::mailbox::{Handle, next, shares_of};
+use crate::names::{All, Letter};
 use futures::task::Poll;
 use futures::test::MockTask;
 use resolver_base::base::{Fault, Feedback};
 use resolver_ingress::ingress::Message;
-use resolver_mailbox::mailbox::{Entry, Naming, Pages, Receiver, Sender, recorded};
+use resolver_mailbox::mailbox::{Entry, Naming, Pages, Receiver, recorded};
 use std::alloc::{AllocGlobal, Global};
 use std::marker::Brand;
 use std::panic::Expect;
@@ -18,9 +18,6 @@ use std::process::Abort;
 use std::random::RandomSource;
 use std::sync::Wait;
 use std::thread::{self, JoinHandle, Threads};
-
-/// A handle of the tests.
-type Handle<N, R> = Sender<u16, u16, (), All, N, R>;
 
 /// How often a handle was answered so.
 #[derive(Clone, Copy)]
@@ -62,12 +59,11 @@ impl Tally {
     }
 }
 
-/// Fetches that a thread puts: of keys from the first one on for one subscriber, or of one key for
-/// subscribers from the first one on.
+/// So many fetches that a thread puts: of the keys from 0 on for one subscriber, or of key 7 for the subscribers
+/// from one on.
 #[derive(Clone, Copy)]
 struct Puts {
     count: u16,
-    key: u16,
     subscriber: u16,
     is_one_key: bool,
 }
@@ -75,9 +71,9 @@ struct Puts {
 impl Puts {
     fn message(self, alloc: Global, place: u16) -> Result<Told, Fault> {
         if self.is_one_key {
-            return fetch(alloc, self.key, self.subscriber.wrapping_add(place), 0);
+            return fetch(alloc, 7, self.subscriber.wrapping_add(place), 0);
         }
-        fetch(alloc, self.key.wrapping_add(place), self.subscriber, 0)
+        fetch(alloc, place.to_le_bytes()[0], self.subscriber, 0)
     }
 }
 
@@ -171,12 +167,12 @@ fn join_all<W: Send + Drop + 'static, R: Abort + Threads>(
 }
 
 /// How many fetches a message has, and of the first one the key and how many want it.
-fn size_of(message: &Told) -> Option<(usize, u16, usize)> {
+fn size_of(message: &Told) -> Option<(usize, u8, usize)> {
     let Message::Fetch(items) = message else {
         return None;
     };
     let item = items.first()?;
-    Some((items.len(), item.key, item.subscribers.len()))
+    Some((items.len(), item.key.0, item.subscribers.len()))
 }
 
 /// Writes how large the message is that a poll gives, or that there is none. Whether there was one.
@@ -198,7 +194,7 @@ fn take_all<N: Naming, R: Wait + Drop>(
     rt: &impl Abort,
     text: &mut String,
     task: &MockTask,
-    receiver: &mut Receiver<u16, u16, (), All, N, R>,
+    receiver: &mut Receiver<Letter, u16, (), All, N, R>,
 ) {
     for _ in 0..1000_u64 {
         let polled = next(task, receiver);
@@ -211,7 +207,7 @@ fn take_all<N: Naming, R: Wait + Drop>(
 }
 
 /// How many puts a book has, how many of them stand after its first close, and how many closes it has.
-fn counts_of(book: &[Entry<u16, u16, (), All>]) -> (u64, u64, u64) {
+fn counts_of(book: &[Entry<Letter, u16, (), All>]) -> (u64, u64, u64) {
     let mut puts = 0u64;
     let mut after = 0u64;
     let mut closes = 0u64;
@@ -258,7 +254,7 @@ fn find<N: Naming, R: Wait>(
     rt: &impl Abort,
     alloc: Global,
     handles: &[Handle<N, R>],
-    receiver: &Receiver<u16, u16, (), All, N, R>,
+    receiver: &Receiver<Letter, u16, (), All, N, R>,
     tally: Tally,
 ) -> Found {
     let shares = shares_of(rt, alloc, handles);
@@ -291,11 +287,22 @@ fn end<N: Naming, R: Wait + Drop>(
     text: &mut String,
     task: &MockTask,
     handles: &[Handle<N, R>],
-    receiver: &mut Receiver<u16, u16, (), All, N, R>,
+    receiver: &mut Receiver<Letter, u16, (), All, N, R>,
     tally: Tally,
 ) -> Found {
     take_all(rt, text, task, receiver);
     find(rt, *text.allocator(), handles, receiver, tally)
+}
+
+/// Polls so often, and lets go what the receiver gives.
+fn poll_times<N: Naming, R: Wait + Drop>(
+    task: &MockTask,
+    receiver: &mut Receiver<Letter, u16, (), All, N, R>,
+    count: u64,
+) {
+    for _ in 0..count {
+        drop(next(task, receiver));
+    }
 }
 
 /// A thread for each job over a mailbox that is used so, and its end.
@@ -303,7 +310,7 @@ fn run_over<N, R>(
     rt: R,
     text: &mut String,
     handle: &Handle<N, R>,
-    receiver: &mut Receiver<u16, u16, (), All, N, R>,
+    receiver: &mut Receiver<Letter, u16, (), All, N, R>,
     jobs: &[Job],
     how: Use,
 ) -> Found
@@ -314,9 +321,7 @@ where
     let alloc = *text.allocator();
     let task = MockTask::new(&rt).expect(&rt, "a task");
     let running = start_all(&rt, alloc, handle, jobs);
-    for _ in 0..how.polls {
-        drop(next(&task, receiver));
-    }
+    poll_times(&task, receiver, how.polls);
     let (handles, tally) = join_all(&rt, alloc, running);
     if how.closes {
         receiver.close();
@@ -337,7 +342,7 @@ where
     requires takes { pages.takes.name ≡ N.takes }
 {
     let alloc = *text.allocator();
-    let made = recorded::<u16, u16, (), All, N, R>(rt, alloc, pages, how.capacity);
+    let made = recorded::<Letter, u16, (), All, N, R>(rt, alloc, pages, how.capacity);
     let (handle, mut receiver) = made.expect(&rt, "a mailbox");
     let found = run_over(rt, text, &handle, &mut receiver, jobs, how);
     drop(handle);
@@ -367,12 +372,11 @@ fn numbers_of(found: &Found) -> [u64; 6] {
     ]
 }
 
-/// Fetches of this many keys from the first one on.
-fn keys(count: u16, key: u16) -> Job {
+/// Fetches of this many keys for one subscriber.
+fn keys(count: u16, subscriber: u16) -> Job {
     Job::Put(Puts {
         count,
-        key,
-        subscriber: 1,
+        subscriber,
         is_one_key: false,
     })
 }
@@ -380,12 +384,7 @@ fn keys(count: u16, key: u16) -> Job {
 #[test]
 fn the_book_holds_what_four_threads_put(rt: HostRuntime) {
     let mut text = String::new(rt.alloc());
-    let jobs = [
-        keys(250, 0),
-        keys(250, 1000),
-        keys(250, 2000),
-        keys(250, 3000),
-    ];
+    let jobs = [keys(250, 1), keys(250, 2), keys(250, 3), keys(250, 4)];
     let how = Use {
         capacity: 8,
         polls: 500,
@@ -398,12 +397,7 @@ fn the_book_holds_what_four_threads_put(rt: HostRuntime) {
 
 /// Three threads put while a fourth closes, which is started after this many of them.
 fn closing_after(place: usize) -> [Job; 4] {
-    let mut jobs = [
-        keys(100, 0),
-        keys(100, 1000),
-        keys(100, 2000),
-        keys(100, 3000),
-    ];
+    let mut jobs = [keys(100, 1), keys(100, 2), keys(100, 3), keys(100, 4)];
     if place < 4 {
         jobs[place] = Job::Close;
     }
@@ -431,7 +425,6 @@ fn closing(rt: HostRuntime) {
 fn five_hundred(subscriber: u16) -> Job {
     Job::Put(Puts {
         count: 500,
-        key: 7,
         subscriber,
         is_one_key: true,
     })
