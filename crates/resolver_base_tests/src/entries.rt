@@ -1,34 +1,72 @@
 //! Deliveries by their numbers, and what is known once one is over.
 //!
-//! A test is a script of calls with what they answer. The entries are made, used and dropped in few places, so that
-//! the tests are proved without what they are.
+//! A test is a table of calls, and the text of what they answer. The entries are made, used and dropped
+//! in few places, so that the tests are proved without what they are.
 
 ghost use Rattle.std.specs.Prelude.{◌≡◌};
 
-use crate::asserts::{equal, holds, spell};
-use crate::lines::{Called, goes, long, short};
+use crate::asserts::{equal_texts, holds, spell};
 use resolver_demand::delivery::Entries;
 use resolver_root::{Delivery, NonEmptyVec, Outcome, Resolution};
 use std::alloc::Global;
 use std::panic::Expect;
 use std::process::Abort;
 
-/// Keys with a number each.
-type Tracked = Entries<u16, u16, u8, u64, u64>;
+type Tracked = Entries<u16, u16, u8, u64, ()>;
 
-fn insert(rt: &impl Abort, entries: &mut Tracked, key: u16, state: u64) -> bool {
-    entries.insert_state(key, state).expect(rt, "memory")
+/// What changes, and what is looked at.
+#[derive(Clone, Copy)]
+enum Call {
+    Insert(u16),
+    /// This key isn't there.
+    InsertNew(u16),
+    /// Each key below this one is put, and those that are new are counted.
+    InsertBelow(u16),
+    Remove(u16),
+    Take(u16),
+    /// The value 5 is handed out for this key, in this context.
+    Deliver(u16, u64),
+    /// Each key below this one is put, and the value 5 handed out for it.
+    DeliverBelow(u16),
+    /// The response of this key is handed out again.
+    Redeliver(u16),
+    Accept(u16),
+    Discard(u16),
+    Complete(u64, Option<Outcome>),
+    /// The deliveries below this number are closed from the last on, and those that were open are counted.
+    CompleteBelow(u64),
+    /// The keys below this one are kept.
+    Retain(u16),
+    Drain,
+    Clear,
+    Look(Look),
+}
+
+/// What is looked at, of this key or of this number.
+#[derive(Clone, Copy)]
+enum Look {
+    Contains(u16),
+    IsAccepted(u16),
+    Response(u16),
+    Number(u16),
+    Open(u64),
+    Entry(u16),
+    Keys,
+}
+
+fn insert(rt: &impl Abort, entries: &mut Tracked, key: u16) -> bool {
+    entries.insert(key).expect(rt, "memory")
 }
 
 fn insert_new(rt: &impl Abort, entries: &mut Tracked, key: u16) {
     holds(rt, !entries.contains(&key));
-    entries.insert_new(key, 0).expect(rt, "memory");
+    entries.insert_new(key, ()).expect(rt, "memory");
 }
 
 fn insert_below(rt: &impl Abort, entries: &mut Tracked, end: u16) -> u16 {
     let mut count = 0u16;
     for key in 0..end {
-        if insert(rt, entries, key, 0) {
+        if insert(rt, entries, key) {
             count = count.wrapping_add(1);
         }
     }
@@ -54,7 +92,7 @@ fn deliver(rt: &impl Abort, alloc: Global, entries: &mut Tracked, key: u16, cont
 
 fn deliver_below(rt: &impl Abort, alloc: Global, entries: &mut Tracked, end: u16) {
     for key in 0..end {
-        insert(rt, entries, key, 0);
+        insert(rt, entries, key);
         deliver(rt, alloc, entries, key, 0);
     }
 }
@@ -88,13 +126,39 @@ fn retain(entries: &mut Tracked, end: u16) -> usize {
     entries.retain(|key| *key < end)
 }
 
-/// What the verdict of a word is.
-fn verdict_of(word: &str) -> Option<Outcome> {
-    match word {
-        "complete" => Some(Outcome::Resolved(Resolution::Complete)),
-        "invalid" => Some(Outcome::Invalid),
-        "ignored" => Some(Outcome::Ignored),
-        _ => None,
+/// Makes a call that changes something, and writes what it answers.
+fn change(rt: &impl Abort, text: &mut String, entries: &mut Tracked, call: Call) {
+    let alloc = *text.allocator();
+    match call {
+        Call::Insert(key) => spell(rt, text, insert(rt, entries, key)),
+        Call::InsertNew(key) => insert_new(rt, entries, key),
+        Call::InsertBelow(end) => spell(rt, text, insert_below(rt, entries, end)),
+        Call::Remove(key) => spell(rt, text, entries.remove(&key)),
+        Call::Take(key) => spell(rt, text, entries.take(&key)),
+        Call::Deliver(key, of) => spell(rt, text, deliver(rt, alloc, entries, key, of)),
+        Call::DeliverBelow(end) => deliver_below(rt, alloc, entries, end),
+        Call::Redeliver(key) => spell(rt, text, redeliver(rt, alloc, entries, key)),
+        Call::Accept(key) => accept(rt, entries, key),
+        Call::Discard(key) => entries.discard_response(&key),
+        Call::Complete(number, verdict) => spell(rt, text, entries.completed(number, verdict)),
+        Call::CompleteBelow(end) => spell(rt, text, complete_below(entries, end)),
+        Call::Retain(end) => spell(rt, text, retain(entries, end)),
+        Call::Drain => spell(rt, text, entries.drain()),
+        Call::Clear => entries.clear(),
+        Call::Look(look) => spell_look(rt, text, entries, look),
+    }
+}
+
+/// Writes what is seen.
+fn spell_look(rt: &impl Abort, text: &mut String, entries: &Tracked, look: Look) {
+    match look {
+        Look::Contains(key) => spell(rt, text, entries.contains(&key)),
+        Look::IsAccepted(key) => spell(rt, text, entries.response_accepted(&key)),
+        Look::Response(key) => spell(rt, text, entries.response(&key)),
+        Look::Number(key) => spell(rt, text, entries.number(&key)),
+        Look::Open(number) => spell(rt, text, entries.open(number)),
+        Look::Entry(key) => spell(rt, text, entries.get(&key)),
+        Look::Keys => spell_keys(rt, text, entries),
     }
 }
 
@@ -104,224 +168,215 @@ fn spell_keys(rt: &impl Abort, text: &mut String, entries: &Tracked) {
     }
 }
 
-/// Makes a call of keys, or one of the others.
-fn change(rt: &impl Abort, text: &mut String, entries: &mut Tracked, word: &str, numbers: &[u128]) {
-    let key = short(numbers, 0);
-    match word {
-        "insert" => spell(rt, text, insert(rt, entries, key, long(numbers, 1))),
-        "insert_new" => insert_new(rt, entries, key),
-        "remove" => spell(rt, text, entries.remove(&key)),
-        "take" => spell(rt, text, entries.take(&key)),
-        "set_state" => entries.set_state(&key, long(numbers, 1)),
-        _ => change_all(rt, text, entries, word, numbers),
+/// What calls of new entries answer.
+fn told(rt: &impl Abort, alloc: Global, calls: &[Call]) -> String {
+    let mut text = String::new(alloc);
+    let mut entries = Entries::new(alloc);
+    for call in calls {
+        change(rt, &mut text, &mut entries, *call);
     }
+    drop(entries);
+    text
 }
 
-/// Makes a call of many keys, or one of the others.
-fn change_all(
-    rt: &impl Abort,
-    text: &mut String,
-    entries: &mut Tracked,
-    word: &str,
-    numbers: &[u128],
-) {
-    let key = short(numbers, 0);
-    match word {
-        "insert_below" => spell(rt, text, insert_below(rt, entries, key)),
-        "deliver_below" => deliver_below(rt, *text.allocator(), entries, key),
-        "retain" => spell(rt, text, retain(entries, key)),
-        "drain" => spell(rt, text, entries.drain()),
-        "clear" => entries.clear(),
-        _ => hand_out(rt, text, entries, word, numbers),
-    }
-}
+/// Calls, and what they answer together.
+type Row<'a> = (&'a [Call], &'a str);
 
-/// Makes a call of deliveries, or one of the others.
-fn hand_out(
-    rt: &impl Abort,
-    text: &mut String,
-    entries: &mut Tracked,
-    word: &str,
-    numbers: &[u128],
-) {
-    let alloc = *text.allocator();
-    let key = short(numbers, 0);
-    match word {
-        "deliver" => spell(rt, text, deliver(rt, alloc, entries, key, long(numbers, 1))),
-        "redeliver" => spell(rt, text, redeliver(rt, alloc, entries, key)),
-        "accept" => accept(rt, entries, key),
-        "discard" => entries.discard_response(&key),
-        _ => close(rt, text, entries, word, numbers),
-    }
-}
+const COMPLETE: Option<Outcome> = Some(Outcome::Resolved(Resolution::Complete));
 
-/// Makes a call of verdicts, or looks.
-fn close(rt: &impl Abort, text: &mut String, entries: &mut Tracked, word: &str, numbers: &[u128]) {
-    let number = long(numbers, 0);
-    match word {
-        "complete" | "invalid" | "ignored" | "dropped" => {
-            spell(rt, text, entries.completed(number, verdict_of(word)));
-        }
-        "complete_below" => spell(rt, text, complete_below(entries, number)),
-        "open" => spell(rt, text, entries.open(number)),
-        "keys" => spell_keys(rt, text, entries),
-        _ => look(rt, text, entries, word, short(numbers, 0)),
-    }
-}
+const INVALID: Option<Outcome> = Some(Outcome::Invalid);
 
-/// Writes what is seen of a key. Ends the test where no call has this word.
-fn look(rt: &impl Abort, text: &mut String, entries: &Tracked, word: &str, key: u16) {
-    match word {
-        "contains" => spell(rt, text, entries.contains(&key)),
-        "is_accepted" => spell(rt, text, entries.response_accepted(&key)),
-        "response" => spell(rt, text, entries.response(&key)),
-        "number" => spell(rt, text, entries.number(&key)),
-        "entry" => spell(rt, text, (entries.get(&key), entries.state(&key))),
-        _ => holds(rt, false),
-    }
-}
-
-impl Called for Tracked {
-    fn call(&mut self, rt: &impl Abort, text: &mut String, word: &str, numbers: &[u128]) {
-        change(rt, text, self, word, numbers);
-    }
-}
+const IGNORED: Option<Outcome> = Some(Outcome::Ignored);
 
 /// Keys come and go: each for itself, all but the first, and all at once. What was kept of one is given as it
 /// goes, and the numbers of deliveries go on.
-const KEYS: &[&str] = &[
-    "
-        contains 1 = false
-        insert 1 0 = true
-        contains 1 = true
-        insert 1 0 = false
-        remove 1 = true
-        contains 1 = false
-        remove 1 = false",
-    "
-        insert_below 10 = 10
-        retain 3 = 7
-        keys = 0 1 2
-        drain = 3
-        contains 0 = false",
-    "
-        insert 1 0 = true
-        deliver 1 40 = 0
-        entry 1 = (Some(Entry { number: Some(0), response: Some(Response { name: 0, value: 5, context: 40, accepted: false }), state: 0 }), Some(0))
-        entry 2 = (None, None)
-        clear
-        entry 1 = (None, None)
-        open 0 = None
-        insert 1 0 = true
-        deliver 1 41 = 1",
-    "
-        insert_new 1
-        insert_new 2
-        deliver 1 40 = 0
-        take 1 = Some(Entry { number: Some(0), response: Some(Response { name: 0, value: 5, context: 40, accepted: false }), state: 0 })
-        contains 1 = false
-        take 1 = None
-        insert_new 1
-        take 2 = Some(Entry { number: None, response: None, state: 0 })
-        keys = 1
-        number 1 = None",
+const KEYS: &[Row] = &[
+    (
+        &[
+            Call::Look(Look::Contains(1)),
+            Call::Insert(1),
+            Call::Look(Look::Contains(1)),
+            Call::Insert(1),
+            Call::Remove(1),
+            Call::Look(Look::Contains(1)),
+            Call::Remove(1),
+        ],
+        " false true true false true false false",
+    ),
+    (
+        &[
+            Call::InsertBelow(10),
+            Call::Retain(3),
+            Call::Look(Look::Keys),
+            Call::Drain,
+            Call::Look(Look::Contains(0)),
+        ],
+        " 10 7 0 1 2 3 false",
+    ),
+    (
+        &[
+            Call::Insert(1),
+            Call::Deliver(1, 40),
+            Call::Look(Look::Entry(1)),
+            Call::Look(Look::Entry(2)),
+            Call::Clear,
+            Call::Look(Look::Entry(1)),
+            Call::Look(Look::Open(0)),
+            Call::Insert(1),
+            Call::Deliver(1, 41),
+        ],
+        " true 0 Some(Entry { number: Some(0), response: Some(Response { name: 0, value: 5, context: 40, \
+        accepted: false }), state: () }) None None None true 1",
+    ),
+    (
+        &[
+            Call::InsertNew(1),
+            Call::InsertNew(2),
+            Call::Deliver(1, 40),
+            Call::Take(1),
+            Call::Look(Look::Contains(1)),
+            Call::Take(1),
+            Call::InsertNew(1),
+            Call::Take(2),
+            Call::Look(Look::Keys),
+            Call::Look(Look::Number(1)),
+        ],
+        " 0 Some(Entry { number: Some(0), response: Some(Response { name: 0, value: 5, context: 40, \
+        accepted: false }), state: () }) false None \
+        Some(Entry { number: None, response: None, state: () }) 1 None",
+    ),
 ];
 
 /// A response is kept until it is discarded, and handed out again. An old delivery of a key that came back is
 /// told from its new one.
-const RESPONSES: &[&str] = &[
-    "
-        insert 1 0 = true
-        is_accepted 1 = false
-        deliver 1 40 = 0
-        number 1 = Some(0)
-        is_accepted 1 = false
-        accept 1
-        is_accepted 1 = true
-        response 1 = Some(Response { name: 0, value: 5, context: 40, accepted: true })
-        open 0 = Some(Open { response: 0, delivery: Delivery { key: 1, subscribers: NonEmptyVec { items: [(10, 7)] } }, context: 40, accepted: false })
-        discard 1
-        response 1 = None
-        is_accepted 1 = false",
-    "
-        insert 1 0 = true
-        deliver 1 40 = 0
-        remove 1 = true
-        insert 1 0 = true
-        deliver 1 41 = 1
-        invalid 0 = Ok(Completion { response: 0, context: 40, delivery: Delivery { key: 1, subscribers: NonEmptyVec { items: [(10, 7)] } }, outcome: Some(Invalid), canceled: true, previously_accepted: false })
-        number 1 = Some(1)
-        accept 1
-        dropped 1 = Ok(Completion { response: 1, context: 41, delivery: Delivery { key: 1, subscribers: NonEmptyVec { items: [(10, 7)] } }, outcome: None, canceled: false, previously_accepted: false })
-        redeliver 1 = 2
-        invalid 2 = Ok(Completion { response: 1, context: 41, delivery: Delivery { key: 1, subscribers: NonEmptyVec { items: [(10, 7)] } }, outcome: Some(Invalid), canceled: false, previously_accepted: true })",
+const RESPONSES: &[Row] = &[
+    (
+        &[
+            Call::Insert(1),
+            Call::Look(Look::IsAccepted(1)),
+            Call::Deliver(1, 40),
+            Call::Look(Look::Number(1)),
+            Call::Look(Look::IsAccepted(1)),
+            Call::Accept(1),
+            Call::Look(Look::IsAccepted(1)),
+            Call::Look(Look::Response(1)),
+            Call::Look(Look::Open(0)),
+            Call::Discard(1),
+            Call::Look(Look::Response(1)),
+            Call::Look(Look::IsAccepted(1)),
+        ],
+        " true false 0 Some(0) false true Some(Response { name: 0, value: 5, context: 40, accepted: true }) \
+        Some(Open { response: 0, delivery: Delivery { key: 1, subscribers: NonEmptyVec { items: [(10, 7)] } }, \
+        context: 40, accepted: false }) None false",
+    ),
+    (
+        &[
+            Call::Insert(1),
+            Call::Deliver(1, 40),
+            Call::Remove(1),
+            Call::Insert(1),
+            Call::Deliver(1, 41),
+            Call::Complete(0, INVALID),
+            Call::Look(Look::Number(1)),
+            Call::Accept(1),
+            Call::Complete(1, None),
+            Call::Redeliver(1),
+            Call::Complete(2, INVALID),
+        ],
+        " true 0 true true 1 Ok(Completion { response: 0, context: 40, delivery: Delivery { key: 1, \
+        subscribers: NonEmptyVec { items: [(10, 7)] } }, outcome: Some(Invalid), canceled: true, \
+        previously_accepted: false }) Some(1) Ok(Completion { response: 1, context: 41, \
+        delivery: Delivery { key: 1, subscribers: NonEmptyVec { items: [(10, 7)] } }, outcome: None, \
+        canceled: false, previously_accepted: false }) 2 Ok(Completion { response: 1, context: 41, \
+        delivery: Delivery { key: 1, subscribers: NonEmptyVec { items: [(10, 7)] } }, outcome: Some(Invalid), \
+        canceled: false, previously_accepted: true })",
+    ),
 ];
 
+/// A key is put, its delivery begun and closed twice with this verdict, and its number asked for. The key stays
+/// there, goes before, or goes and comes back.
+macro_rules! closing {
+    ([$($call:expr),*], $verdict:expr, $wanted:expr) => {
+        (
+            &[
+                Call::Insert(1),
+                Call::Deliver(1, 40),
+                $($call,)*
+                Call::Complete(0, $verdict),
+                Call::Complete(0, $verdict),
+                Call::Look(Look::Number(1)),
+            ],
+            $wanted,
+        )
+    };
+}
+
 /// A delivery's number is closed twice: with its key there, without it, and with it removed and back.
-const CLOSINGS: &[&str] = &[
-    "
-        insert 1 0 = true
-        deliver 1 40 = 0
-        complete 0 = Ok(Completion { response: 0, context: 40, delivery: Delivery { key: 1, subscribers: NonEmptyVec { items: [(10, 7)] } }, outcome: Some(Resolved(Complete)), canceled: false, previously_accepted: false })
-        complete 0 = Err(Aborted)
-        number 1 = None",
-    "
-        insert 1 0 = true
-        deliver 1 40 = 0
-        dropped 0 = Ok(Completion { response: 0, context: 40, delivery: Delivery { key: 1, subscribers: NonEmptyVec { items: [(10, 7)] } }, outcome: None, canceled: false, previously_accepted: false })
-        dropped 0 = Err(Aborted)
-        number 1 = None",
-    "
-        insert 1 0 = true
-        deliver 1 40 = 0
-        invalid 0 = Ok(Completion { response: 0, context: 40, delivery: Delivery { key: 1, subscribers: NonEmptyVec { items: [(10, 7)] } }, outcome: Some(Invalid), canceled: false, previously_accepted: false })
-        invalid 0 = Err(Aborted)
-        number 1 = None",
-    "
-        insert 1 0 = true
-        deliver 1 40 = 0
-        remove 1 = true
-        complete 0 = Ok(Completion { response: 0, context: 40, delivery: Delivery { key: 1, subscribers: NonEmptyVec { items: [(10, 7)] } }, outcome: Some(Resolved(Complete)), canceled: true, previously_accepted: false })
-        complete 0 = Err(Aborted)
-        number 1 = None",
-    "
-        insert 1 0 = true
-        deliver 1 40 = 0
-        remove 1 = true
-        dropped 0 = Err(Aborted)
-        dropped 0 = Err(Aborted)
-        number 1 = None",
-    "
-        insert 1 0 = true
-        deliver 1 40 = 0
-        remove 1 = true
-        insert 1 0 = true
-        ignored 0 = Ok(Completion { response: 0, context: 40, delivery: Delivery { key: 1, subscribers: NonEmptyVec { items: [(10, 7)] } }, outcome: Some(Ignored), canceled: true, previously_accepted: false })
-        ignored 0 = Err(Aborted)
-        number 1 = None",
-    "
-        insert 1 0 = true
-        deliver 1 40 = 0
-        remove 1 = true
-        insert 1 0 = true
-        dropped 0 = Err(Aborted)
-        dropped 0 = Err(Aborted)
-        number 1 = None",
+const CLOSINGS: &[Row] = &[
+    closing!(
+        [],
+        COMPLETE,
+        " true 0 Ok(Completion { response: 0, context: 40, delivery: Delivery { key: 1, \
+        subscribers: NonEmptyVec { items: [(10, 7)] } }, outcome: Some(Resolved(Complete)), canceled: false, \
+        previously_accepted: false }) Err(Aborted) None"
+    ),
+    closing!(
+        [],
+        None,
+        " true 0 Ok(Completion { response: 0, context: 40, delivery: Delivery { key: 1, \
+        subscribers: NonEmptyVec { items: [(10, 7)] } }, outcome: None, canceled: false, \
+        previously_accepted: false }) Err(Aborted) None"
+    ),
+    closing!(
+        [],
+        INVALID,
+        " true 0 Ok(Completion { response: 0, context: 40, delivery: Delivery { key: 1, \
+        subscribers: NonEmptyVec { items: [(10, 7)] } }, outcome: Some(Invalid), canceled: false, \
+        previously_accepted: false }) Err(Aborted) None"
+    ),
+    closing!(
+        [Call::Remove(1)],
+        COMPLETE,
+        " true 0 true Ok(Completion { response: 0, context: 40, delivery: Delivery { key: 1, \
+        subscribers: NonEmptyVec { items: [(10, 7)] } }, outcome: Some(Resolved(Complete)), canceled: true, \
+        previously_accepted: false }) Err(Aborted) None"
+    ),
+    closing!(
+        [Call::Remove(1)],
+        None,
+        " true 0 true Err(Aborted) Err(Aborted) None"
+    ),
+    closing!(
+        [Call::Remove(1), Call::Insert(1)],
+        IGNORED,
+        " true 0 true true Ok(Completion { response: 0, context: 40, delivery: Delivery { key: 1, \
+        subscribers: NonEmptyVec { items: [(10, 7)] } }, outcome: Some(Ignored), canceled: true, \
+        previously_accepted: false }) Err(Aborted) None"
+    ),
+    closing!(
+        [Call::Remove(1), Call::Insert(1)],
+        None,
+        " true 0 true true Err(Aborted) Err(Aborted) None"
+    ),
 ];
 
 /// Of ten thousand deliveries each was open. None is then, and no key has one.
-const TEN_THOUSAND: &str = "
-    deliver_below 10000
-    complete_below 10000 = 10000
-    open 0 = None
-    number 9999 = None";
+const TEN_THOUSAND: &[Row] = &[(
+    &[
+        Call::DeliverBelow(10_000),
+        Call::CompleteBelow(10_000),
+        Call::Look(Look::Open(0)),
+        Call::Look(Look::Number(9_999)),
+    ],
+    " 10000 None None",
+)];
 
-/// The calls of each script, of new entries, answer what stands there.
-fn answer(rt: &impl Abort, alloc: Global, scripts: &[&str]) {
-    for script in scripts {
-        let mut entries: Tracked = Entries::new(alloc);
-        goes(rt, alloc, &mut entries, script);
-        drop(entries);
+/// The calls of each row, of new entries, answer what stands there.
+fn answer(rt: &impl Abort, alloc: Global, rows: &[Row]) {
+    for (calls, wanted) in rows {
+        let text = told(rt, alloc, calls);
+        equal_texts(rt, text.as_str(), wanted);
+        drop(text);
     }
 }
 
@@ -338,27 +393,29 @@ fn keys_and_responses(rt: HostRuntime) {
 
 #[test]
 fn closes_ten_thousand_backwards(rt: HostRuntime) {
-    answer(&rt, rt.alloc(), &[TEN_THOUSAND]);
+    answer(&rt, rt.alloc(), TEN_THOUSAND);
+}
+
+/// A key is put with a state twice, and then states are set, of it and of a key that isn't there. Writes
+/// whether it was new, and the states that are there.
+fn stages(rt: &impl Abort, text: &mut String, entries: &mut Entries<u16, u16, u8, u64, u32>) {
+    let is_new = entries.insert_state(1, 20).expect(rt, "memory");
+    let is_new_again = entries.insert_state(1, 30).expect(rt, "memory");
+    spell(rt, text, is_new);
+    spell(rt, text, is_new_again);
+    spell(rt, text, entries.state(&1));
+    entries.set_state(&1, 40);
+    entries.set_state(&2, 50);
+    spell(rt, text, entries.state(&1));
+    spell(rt, text, entries.state(&2));
 }
 
 #[test]
 fn keeps_a_state(rt: HostRuntime) {
-    const STATES: &str = "
-        insert 1 20 = true
-        insert 1 30 = false
-        entry 1 = (Some(Entry { number: None, response: None, state: 20 }), Some(20))
-        set_state 1 40
-        set_state 2 50
-        entry 1 = (Some(Entry { number: None, response: None, state: 40 }), Some(40))
-        entry 2 = (None, None)";
-    answer(&rt, rt.alloc(), &[STATES]);
-}
-
-#[test]
-fn a_key_without_a_state_is_new_once(rt: HostRuntime) {
-    let mut entries: Entries<u16, u16, u8, u64, ()> = Entries::new(rt.alloc());
-    let is_new = entries.insert(1).expect(&rt, "memory");
-    let is_new_again = entries.insert(1).expect(&rt, "memory");
+    let mut text = String::new(rt.alloc());
+    let mut entries = Entries::new(rt.alloc());
+    stages(&rt, &mut text, &mut entries);
     drop(entries);
-    equal(&rt, &[is_new, is_new_again], &[true, false]);
+    equal_texts(&rt, text.as_str(), " true false Some(20) Some(40) None");
+    drop(text);
 }
