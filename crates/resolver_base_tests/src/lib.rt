@@ -5,6 +5,8 @@
 #![tactic(auto)]
 
 #[cfg(test)]
+mod actor;
+#[cfg(test)]
 mod asserts;
 #[cfg(test)]
 mod calls;

@@ -6,14 +6,14 @@ ghost use Rattle.resolver_base.specs.declared.base.fault.Fault.TheVariants.{Exha
 ghost use Rattle.resolver_ingress.specs.Backlog.{told_of};
 ghost use Rattle.resolver_desk.specs.Book.{Close, Take, call_of, closes, puts_of};
 ghost use Rattle.resolver_desk.specs.Desk.{book_of, empty_book, next_of, number_of, with_call, with_put_of};
-ghost use Rattle.indexmap.specs.IndexMap.{spare};
+ghost use Rattle.std.specs.HashMap.{spare};
 
 use crate::book::Book;
 use crate::entry::{Entry, Posted};
-use indexmap::IndexMap;
 use resolver_base::base::Fault;
 use resolver_ingress::ingress::Message;
 use std::alloc::{AllocError, Global};
+use std::collections::HashMap;
 
 impl<K: Drop, S: Drop, M: Drop, Q: Drop> Book<K, S, M, Q> {
     /// A book without calls.
@@ -22,7 +22,7 @@ impl<K: Drop, S: Drop, M: Drop, Q: Drop> Book<K, S, M, Q> {
     {
         Ok(Book {
             calls: Vec::with_capacity(alloc, 1)?,
-            counts: IndexMap::new(alloc),
+            counts: HashMap::new(alloc),
             next_handle: 0,
         })
     }

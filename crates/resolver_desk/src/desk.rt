@@ -9,7 +9,7 @@ ghost use Rattle.resolver_root.specs.Names.{names};
 ghost use Rattle.resolver_ingress.specs.Backlog.{IsRight, behind_first, handled, told_of, waiting};
 ghost use Rattle.resolver_desk.specs.Book.{Close, Take, call_of, closes};
 ghost use Rattle.resolver_desk.specs.Desk.{IsKept, IsOver, answered, book_of, calls_of, desk_closed, desk_put, desk_taken, empty_book, empty_desk, feedback_of, has_room, next_of, number_of, with_call, with_put};
-ghost use Rattle.indexmap.specs.IndexMap.{spare};
+ghost use Rattle.std.specs.HashMap.{spare};
 
 use crate::book::Book;
 use crate::entry::Entry;

@@ -3,10 +3,10 @@
 use crate::names::{Below, Peer};
 use crate::world::{Asked, Held, World, peers};
 use bytes::Bytes;
+use resolver::p2p::Mailbox;
 use resolver_base::base::{Fault, Feedback};
 use resolver_loop::{Resolver, TargetedResolver};
-use resolver_p2p::Mailbox;
-use resolver_p2p::mocks::Key;
+use resolver_mailbox::mocks::Key;
 use resolver_root::{Fetch, NonEmptyVec, Outcome};
 use std::alloc::Global;
 use std::sync::Wait;

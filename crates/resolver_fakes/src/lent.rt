@@ -13,7 +13,7 @@ use futures::channel::{mpsc, oneshot};
 use futures::task::{Context, Poll};
 use resolver_base::base::{Check, Draws, Fault, Feedback, Seeded, Sender, Unreliable};
 use resolver_loop::{Blocker, Consumer, Producer, Provider, Receiver};
-use resolver_p2p::mocks::Key;
+use resolver_mailbox::mocks::Key;
 use resolver_root::{Delivery, Outcome};
 use std::alloc::Global;
 

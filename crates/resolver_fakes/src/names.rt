@@ -5,7 +5,7 @@ ghost use Rattle.std.proofs.Common.{rules};
 
 use resolver_base::base::{Faithful, PublicKey};
 use resolver_mailbox::mailbox::Exact;
-use resolver_p2p::mocks::Key;
+use resolver_mailbox::mocks::Key;
 use resolver_root::Predicate;
 
 /// A name of a peer.

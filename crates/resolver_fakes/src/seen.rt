@@ -4,7 +4,7 @@ use crate::names::Peer;
 use bytes::Bytes;
 use futures::channel::mpsc;
 use resolver_base::base::Check;
-use resolver_p2p::mocks::Key;
+use resolver_mailbox::mocks::Key;
 use resolver_root::Delivery;
 use std::alloc::AllocError;
 use std::fmt;

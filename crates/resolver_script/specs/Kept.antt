@@ -1,6 +1,6 @@
 -- Which subscribers a line of a script keeps.
 use Rattle.std.specs.Prelude.{ℕ, Bool, not, ◌==◌}
-use Rattle.resolver_p2p.specs.declared.mocks.Key.{Key}
+use Rattle.resolver_mailbox.specs.declared.mocks.Key.{Key}
 use Rattle.resolver_script.specs.declared.kept.Kept.{Kept}
 use Rattle.resolver_script.specs.declared.kept.Kept.TheVariants.{Subscriber, AllBut}
 

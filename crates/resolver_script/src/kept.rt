@@ -4,7 +4,7 @@ ghost use Rattle.std.proofs.Common.{rules};
 ghost use Rattle.resolver_script.specs.Kept.{is_kept};
 
 use resolver_base::base::Faithful;
-use resolver_p2p::mocks::Key;
+use resolver_mailbox::mocks::Key;
 use resolver_root::Predicate;
 
 /// What a line keeps.

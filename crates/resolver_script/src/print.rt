@@ -7,7 +7,7 @@ use crate::endings::{Fault, written};
 use bytes::Bytes;
 use itoa::Buffer;
 use resolver_base::base;
-use resolver_p2p::mocks::Key;
+use resolver_mailbox::mocks::Key;
 use resolver_root::Delivery;
 use std::io;
 use std::io::Write;

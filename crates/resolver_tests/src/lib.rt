@@ -5,8 +5,6 @@
 #![tactic(auto)]
 
 #[cfg(test)]
-mod actor;
-#[cfg(test)]
 mod asserting;
 #[cfg(test)]
 mod closing;
@@ -34,5 +32,3 @@ mod playing;
 mod running;
 #[cfg(test)]
 mod serves;
-#[cfg(test)]
-mod subscribers;

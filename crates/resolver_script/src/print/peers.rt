@@ -7,7 +7,7 @@ use crate::print::{
 use resolver_engine::effects::Effect;
 use resolver_engine::rows::{Phase, Row};
 use resolver_fetch::fetcher::Ask;
-use resolver_p2p::mocks::Key;
+use resolver_mailbox::mocks::Key;
 use resolver_peer::named::Source;
 use std::io;
 use std::io::Write;

@@ -1,10 +1,10 @@
 ghost use Rattle.std.specs.Prelude.{not, true, ◌==◌};
 ghost use Rattle.std.proofs.Common.{rules};
 
-use crate::asserting::assert_same;
-use resolver::ingress::{FetchKey, Predicate};
-use resolver::opaque::{Actor, Effect, Event, Input, Phase, Row};
+use crate::asserts::equal_lists;
+use resolver_actor::opaque::{Actor, Effect, Event, Input, Phase, Row};
 use resolver_base::base::{Fault, Numbers};
+use resolver_ingress::ingress::{FetchKey, Predicate};
 use resolver_root::{NonEmptyVec, Outcome, Resolution};
 use std::alloc::Global;
 use std::panic::Expect;
@@ -103,7 +103,7 @@ fn run_shows(rt: &impl Abort, alloc: Global, table: &[Step]) {
 /// That this was seen.
 fn assert_seen(rt: &impl Abort, alloc: Global, table: &[Step], seen: Vec<Seen>) {
     let expected = expected_of(rt, alloc, table);
-    assert_same(rt, seen.as_slice(), expected.as_slice());
+    equal_lists(rt, seen.as_slice(), expected.as_slice());
     drop(expected);
     drop(seen);
 }
@@ -555,7 +555,7 @@ fn fetched_at_once(rt: &impl Abort, alloc: Global, keys: &[u64]) -> Vec<Seen> {
 
 fn assert_fetched(rt: &impl Abort, alloc: Global, keys: &[u64], expected: &[Seen]) {
     let seen = fetched_at_once(rt, alloc, keys);
-    assert_same(rt, seen.as_slice(), expected);
+    equal_lists(rt, seen.as_slice(), expected);
     drop(seen);
 }
 
@@ -708,6 +708,6 @@ fn ten_thousand_deliveries(rt: HostRuntime) {
         Tally(Some(5_000), 0, None),
     ];
     let tallies = play_crowd(&rt, rt.alloc());
-    assert_same(&rt, tallies.as_slice(), EXPECTED);
+    equal_lists(&rt, tallies.as_slice(), EXPECTED);
     drop(tallies);
 }

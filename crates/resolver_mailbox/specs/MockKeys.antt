@@ -1,6 +1,6 @@
 -- A key of one byte, and that byte.
 use Rattle.std.specs.Prelude.{◌≡◌, ℕ, List, [], ◌∷◌, Option, None, Some}
-use Rattle.resolver_p2p.specs.declared.mocks.Key.{Key}
+use Rattle.resolver_mailbox.specs.declared.mocks.Key.{Key}
 
 abbrev pub bytes_of : Key → List ℕ
 bytes_of key = key.0 ∷ []

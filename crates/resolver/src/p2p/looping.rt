@@ -3,8 +3,8 @@
 ghost use Rattle.futures.specs.Poll.{OnPending};
 ghost use Rattle.futures.specs.Task.{IsArmed, Keeps};
 
-use crate::hands::Hands;
-use crate::mail::{Mail, poll_mail};
+use crate::p2p::hands::Hands;
+use crate::p2p::mail::{Mail, poll_mail};
 use bytes::Bytes;
 use futures::Future;
 use futures::task::{Context, Poll};

@@ -1,12 +1,10 @@
-//! Parts for tests of what stands on a resolver.
+//! A key for tests of what stands on a mailbox.
 
 ghost use Rattle.std.proofs.Common.{rules};
 
+use crate::mailbox::Exact;
 use bytes::{BufMut, BytesMut};
 use resolver_base::base::{Faithful, Span};
-pub use resolver_loop::mocks::{Consumer, Producer, Quiet};
-use resolver_mailbox::mailbox::Exact;
-pub use resolver_request::wire::{Message, Payload};
 use std::alloc::AllocError;
 use std::fmt;
 
@@ -23,7 +21,7 @@ impl fmt::Display for Key {
 
 impl Span for Key {
     ghost use Rattle.std.proofs.Common.{lit<, refl, eq-eqb};
-    ghost use Rattle.resolver_p2p.specs.MockKeys.{bytes_of, read_from, bytes_of-read_from};
+    ghost use Rattle.resolver_mailbox.specs.MockKeys.{bytes_of, read_from, bytes_of-read_from};
 
     ghost SIZE = { 1 };
 

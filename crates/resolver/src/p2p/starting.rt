@@ -3,7 +3,7 @@
 ghost use Rattle.std.specs.Prelude.{◌≡◌, IfErr, IfOk};
 ghost use Rattle.resolver_base.specs.declared.base.fault.Fault.TheVariants.{OutOfMemory};
 
-use crate::engine::Engine;
+use crate::p2p::engine::Engine;
 use bytes::Bytes;
 use futures::Future;
 use resolver_base::base::{Draws, Faithful, Fault, PublicKey, Sender, Span};

@@ -4,7 +4,7 @@ ghost use Rattle.std.specs.Prelude.{◌≡◌, IfErr};
 ghost use Rattle.futures.specs.Task.{Keeps};
 ghost use Rattle.resolver_base.specs.declared.base.fault.Fault.TheVariants.{OutOfMemory};
 
-use crate::asking::Asking;
+use crate::p2p::asking::Asking;
 use bytes::Bytes;
 use futures::task::{Context, Poll};
 use resolver_base::base::{Draws, Faithful, Fault, PublicKey, Sender, Span};

@@ -1,6 +1,6 @@
 -- What an engine's configuration says of its fetcher.
 use Rattle.resolver_trying.specs.declared.config.Config.{Config as Fetching}
-use Rattle.resolver_p2p.specs.declared.config.Config.{Config}
+use Rattle.resolver.specs.declared.p2p.config.Config.{Config}
 
 -- how requests are made
 abbrev pub fetching : {P D B C O : Type 0} → Config P D B C O → Fetching P
