@@ -1,5 +1,7 @@
 //! An engine's core by itself, and what tests give it.
 
+use crate::fakes::names::{Below, Peer};
+use crate::fakes::world::peers;
 use bytes::Bytes;
 use resolver::Outcome;
 use resolver::base::{Check, NonEmptyVec};
@@ -9,8 +11,6 @@ use resolver::p2p::effects::Effect;
 use resolver::p2p::fetcher::{Answer, Config};
 use resolver::p2p::inputs::{Event, Happening, Input};
 use resolver::p2p::mocks::Key;
-use resolver_fakes::names::{Below, Peer};
-use resolver_fakes::world::peers;
 use std::alloc::Global;
 use std::panic::Expect;
 use std::process::Abort;

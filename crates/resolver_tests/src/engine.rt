@@ -1,5 +1,6 @@
 use crate::asserting::assert_same;
 use crate::cores::{Given, PlainEffect, PlainInput, input_of, make_core};
+use crate::fakes::names::{Below, Peer};
 use bytes::Bytes;
 use resolver::base::Fault;
 use resolver::p2p::effects::Effect;
@@ -7,7 +8,6 @@ use resolver::p2p::fetcher::Ask;
 use resolver::p2p::mocks::{Consumer, Key, Producer, Quiet};
 use resolver::p2p::rows::{Phase, Row};
 use resolver::p2p::{Config, Engine, Metrics};
-use resolver_fakes::names::{Below, Peer};
 use std::alloc::Global;
 use std::fmt::Write;
 use std::num::NonZeroUsize;

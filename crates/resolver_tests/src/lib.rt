@@ -1,5 +1,6 @@
-//! Tests of `resolver`: of both machines, of the engine and of the laws, through public calls, and of the machines'
-//! loops over fakes in memory, which are polled by hand or run in threads of their own.
+//! Tests of `resolver`: of the engine with its core, of the mocks and of the laws, through public calls, and of the loops
+//! of both machines over `fakes`, which are polled by hand or run in threads of their own. Beside some loops goes a
+//! `twin`: a second core is given by hand what a loop takes from its sources, and is to ask and to await the same.
 //!
 //! They stand in a crate of their own, so that the libraries aren't proved a second time with them.
 #![tactic(auto)]
@@ -15,6 +16,10 @@ mod engine;
 #[cfg(test)]
 mod every;
 #[cfg(test)]
+mod failing;
+#[cfg(test)]
+mod fakes;
+#[cfg(test)]
 mod laws;
 #[cfg(test)]
 mod leaving;
@@ -27,8 +32,18 @@ mod opaque_lent;
 #[cfg(test)]
 mod opaque_loop;
 #[cfg(test)]
+mod pair;
+#[cfg(test)]
 mod playing;
 #[cfg(test)]
 mod running;
 #[cfg(test)]
+mod scan;
+#[cfg(test)]
+mod script;
+#[cfg(test)]
 mod serves;
+#[cfg(test)]
+mod twin;
+#[cfg(test)]
+mod two_engines;

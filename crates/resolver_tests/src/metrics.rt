@@ -2,9 +2,9 @@
 
 use crate::asserting::assert_same;
 use crate::cores::{Given, Plain, make_core, take};
+use crate::fakes::names::Peer;
 use resolver::p2p::{Durations, Metrics, Tally};
 use resolver::{Outcome, Resolution};
-use resolver_fakes::names::Peer;
 use std::alloc::Global;
 use std::fmt::Write;
 use std::panic::Expect;

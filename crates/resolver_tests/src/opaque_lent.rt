@@ -1,5 +1,11 @@
 //! An actor's loop in memory over an opaque source, and what its test holds of it.
 
+use crate::fakes::acts::wanted;
+use crate::fakes::lent::Judge;
+use crate::fakes::names::{Below, Peer};
+use crate::fakes::seen::{Seen, Wrong};
+use crate::fakes::watch::{Standing, Telling, Watch};
+use crate::fakes::world::{Polled, judge};
 use crate::playing::spell_said;
 use bytes::Bytes;
 use futures::Future;
@@ -11,12 +17,6 @@ use resolver::mailbox::Unrecorded;
 use resolver::opaque::{Fetcher, Loop};
 use resolver::p2p::mocks::Key;
 use resolver::{Ending, Outcome, Resolution, Resolver, opaque};
-use resolver_fakes::acts::wanted;
-use resolver_fakes::lent::Judge;
-use resolver_fakes::names::{Below, Peer};
-use resolver_fakes::seen::{Seen, Wrong};
-use resolver_fakes::watch::{Standing, Telling, Watch};
-use resolver_fakes::world::{Polled, judge};
 use std::alloc::Global;
 use std::panic::Expect;
 use std::process::Abort;

@@ -1,12 +1,12 @@
 use crate::asserting::assert_same;
+use crate::fakes::seen::Wrong;
+use crate::fakes::world::Polled;
 use crate::opaque_lent::{Asking, Ends, Held, Lent, Looped, Pollable, lend};
 use crate::playing::{spell_feedback, spell_said, turn};
 use futures::channel::oneshot;
 use futures::test::MockTask;
 use resolver::base::Fault;
 use resolver::opaque::open;
-use resolver_fakes::seen::Wrong;
-use resolver_fakes::world::Polled;
 use std::alloc::AllocGlobal;
 use std::num::NonZeroUsize;
 use std::panic::Expect;

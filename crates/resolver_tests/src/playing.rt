@@ -1,14 +1,14 @@
 //! What a test does to a loop that it polls by hand, and what is seen of that.
 
 use crate::asserting::assert_same;
+use crate::fakes::acts::{Act, Asks};
+use crate::fakes::seen::{Seen, Wrong, spell};
+use crate::fakes::world::{Polled, Setting, World, make_loop, settle};
 use futures::channel::mpsc;
 use futures::task::Poll;
 use futures::test::MockTask;
 use resolver::Ending;
 use resolver::base::Feedback;
-use resolver_fakes::acts::{Act, Asks};
-use resolver_fakes::seen::{Seen, Wrong, spell};
-use resolver_fakes::world::{Polled, Setting, World, make_loop, settle};
 use std::alloc::{AllocGlobal, Global};
 use std::fmt::{Display, Write};
 use std::panic::Expect;

@@ -1,4 +1,7 @@
 use crate::asserting::assert_same;
+use crate::fakes::acts::{Act, Asks};
+use crate::fakes::seen::{Seen, Wrong};
+use crate::fakes::world::{Setting, World, make_world, start};
 use crate::opaque_lent::{Asking, Held, Lent, Looked, answer_look, lend};
 use crate::playing::spell_said;
 use bytes::Bytes;
@@ -9,9 +12,6 @@ use resolver::base::Fault;
 use resolver::opaque::init;
 use resolver::p2p::mocks::Key;
 use resolver::{Outcome, Resolution};
-use resolver_fakes::acts::{Act, Asks};
-use resolver_fakes::seen::{Seen, Wrong};
-use resolver_fakes::world::{Setting, World, make_world, start};
 use std::alloc::AllocGlobal;
 use std::fmt::Write;
 use std::num::NonZeroUsize;

@@ -1,15 +1,15 @@
 //! Two engines over one network in memory, which serve each other keys while their peer sets change and
 //! every seventh send is refused.
 
+use crate::fakes::acts::Act;
+use crate::fakes::seen::Wrong;
+use crate::fakes::world::Setting;
 use crate::pair::{Acts, Play, judge_end, with_pairs};
 use crate::twin::{Hands, awaited};
 use bytes::Bytes;
 use resolver::base::{Draws, Seeded};
 use resolver::p2p::mocks::Key;
 use resolver::{Outcome, Resolution};
-use resolver_fakes::acts::Act;
-use resolver_fakes::seen::Wrong;
-use resolver_fakes::world::Setting;
 use std::alloc::AllocGlobal;
 use std::io::Print;
 use std::panic::Expect;

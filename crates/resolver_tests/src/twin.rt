@@ -1,5 +1,11 @@
 //! A second core, which is given by hand what the loop takes from its sources: it asks fakes of its own.
 
+use crate::fakes::acts;
+use crate::fakes::acts::Act;
+use crate::fakes::lent::{Dice, Wire};
+use crate::fakes::names::{Below, Peer};
+use crate::fakes::seen::{Seen, Told, spell, tell};
+use crate::fakes::world::{Setting, peers};
 use crate::scan::{Scan, Shown, Stage, shown_of};
 use crate::script::{write_answer, write_event, write_number};
 use bytes::Bytes;
@@ -12,12 +18,6 @@ use resolver::p2p::inputs::{Event, Happening, Input};
 use resolver::p2p::mocks::Key;
 use resolver::p2p::{Core, FetchKey as Wanted};
 use resolver::{Delivery, Outcome};
-use resolver_fakes::acts;
-use resolver_fakes::acts::Act;
-use resolver_fakes::lent::{Dice, Wire};
-use resolver_fakes::names::{Below, Peer};
-use resolver_fakes::seen::{Seen, Told, spell, tell};
-use resolver_fakes::world::{Setting, peers};
 use std::alloc::Global;
 use std::collections::VecDeque;
 use std::fmt::Write;

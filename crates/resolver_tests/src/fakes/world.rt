@@ -1,10 +1,10 @@
 //! An engine's loop in memory, and what its test holds of it.
 
-use crate::both::both;
-use crate::lent::{Dice, Given, Judge, Store, Wire};
-use crate::names::{Below, Peer};
-use crate::seen::{Seen, Told, Wrong};
-use crate::watch::{Standing, Watch};
+use crate::fakes::both::both;
+use crate::fakes::lent::{Dice, Given, Judge, Store, Wire};
+use crate::fakes::names::{Below, Peer};
+use crate::fakes::seen::{Seen, Told, Wrong};
+use crate::fakes::watch::{Standing, Watch};
 use bytes::Bytes;
 use futures::channel::{mpsc, oneshot};
 use futures::task::Poll;

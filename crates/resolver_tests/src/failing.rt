@@ -1,12 +1,12 @@
 //! Checks that say Until, and sends that are refused: for each place of these in a run that fetches three
 //! keys from three peers.
 
+use crate::fakes::acts::Act;
+use crate::fakes::seen::Wrong;
+use crate::fakes::world::Setting;
 use crate::pair::{Acts, Play, judge_end, with_pairs};
 use crate::twin::{Counts, Hands, NONE, asked_in, message};
 use resolver::{Outcome, Resolution};
-use resolver_fakes::acts::Act;
-use resolver_fakes::seen::Wrong;
-use resolver_fakes::world::Setting;
 use std::alloc::AllocGlobal;
 use std::io::Print;
 use std::panic::Expect;

@@ -1,7 +1,7 @@
 //! What a test does to a world, one thing at a time.
 
-use crate::names::{Below, Peer};
-use crate::world::{Asked, Held, World, peers};
+use crate::fakes::names::{Below, Peer};
+use crate::fakes::world::{Asked, Held, World, peers};
 use bytes::Bytes;
 use resolver::p2p::Mailbox;
 use resolver_base::base::{Fault, Feedback};

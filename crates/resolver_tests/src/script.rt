@@ -1,6 +1,10 @@
 //! What an engine's core takes, as lines of a script for `resolver-replay`, and what such a script has.
 
-use crate::asserting::assert_text;
+use crate::asserting::assert_same;
+use crate::fakes::acts::Act;
+use crate::fakes::names::Peer;
+use crate::fakes::seen::{Hex, Wrong};
+use crate::fakes::world::Setting;
 use crate::pair::{Acts, Play, with_pairs};
 use crate::twin::Happened;
 use resolver::base::Check;
@@ -9,10 +13,6 @@ use resolver::p2p::fetcher::Answer;
 use resolver::p2p::inputs::Event;
 use resolver::p2p::mocks::Key;
 use resolver::{Outcome, Resolution};
-use resolver_fakes::acts::Act;
-use resolver_fakes::names::Peer;
-use resolver_fakes::seen::{Hex, Wrong};
-use resolver_fakes::world::Setting;
 use std::fmt::{Display, Write};
 use std::io::Print;
 use std::panic::Expect;
@@ -160,7 +160,7 @@ impl Play for Scripted {
     fn play<A: Acts>(&mut self, rt: &(impl Abort + Print), pairs: &mut [A]) {
         for pair in pairs {
             act_all(rt, pair, ACTS);
-            assert_text(rt, pair.hands().script.as_bytes(), LINES.as_bytes());
+            assert_same(rt, pair.hands().script.as_str(), LINES);
         }
     }
 }

@@ -4,7 +4,6 @@
 //! consumer, a producer, a network and draws that write down what they are asked, which `seen` spells.
 //! `world` is an engine with the ends by which a test gives and answers, and `acts` what a test does to it.
 //! `both` ties what two calls make that may want memory.
-#![tactic(auto)]
 
 pub mod acts;
 pub mod both;

@@ -5,8 +5,8 @@ ghost use Rattle.futures.specs.Poll.{OnPending};
 ghost use Rattle.futures.specs.Task.{IsArmed, Keeps};
 ghost use Rattle.resolver_base.specs.declared.base.fault.Fault.TheVariants.{OutOfMemory};
 
-use crate::names::Peer;
-use crate::seen::{Seen, Told, Wrong, tell};
+use crate::fakes::names::Peer;
+use crate::fakes::seen::{Seen, Told, Wrong, tell};
 use bytes::Bytes;
 use futures::Stream;
 use futures::channel::{mpsc, oneshot};

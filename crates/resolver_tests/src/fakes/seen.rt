@@ -1,6 +1,6 @@
 //! What goes wrong around an engine, and what its fakes are asked, as lines.
 
-use crate::names::Peer;
+use crate::fakes::names::Peer;
 use bytes::Bytes;
 use futures::channel::mpsc;
 use resolver_base::base::Check;
