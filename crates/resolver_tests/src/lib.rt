@@ -44,6 +44,8 @@ mod script;
 #[cfg(test)]
 mod serves;
 #[cfg(test)]
+mod subscribers;
+#[cfg(test)]
 mod twin;
 #[cfg(test)]
 mod two_engines;
