@@ -3,9 +3,9 @@
 #![tactic(auto)]
 
 pub mod endings;
-mod kept;
+pub mod kept;
 mod opaque;
-mod peer;
+pub mod peer;
 mod peers;
 mod print;
 pub mod replay;

@@ -1,7 +1,13 @@
-//! What tests assert, as a call.
+//! What tests assert, as calls.
 
+use std::fmt::Debug;
 use std::process::Abort;
 use std::str;
+
+/// That this is what was found.
+pub fn assert_same<T: PartialEq + Debug + Copy>(rt: &impl Abort, found: T, expected: T) {
+    assert_eq!(rt; found, expected);
+}
 
 /// That this text was found.
 pub fn assert_text(rt: &impl Abort, found: &[u8], expected: &[u8]) {

@@ -1,9 +1,18 @@
-//! Tests of scripts, through the public calls of `resolver_script`.
+//! Tests of a peer engine that takes no turns: of its core and of the engine with it, which take inputs, and of the
+//! scripts that feed a core, through the public calls of `resolver` and `resolver_script`.
 //!
-//! They stand in a crate of their own, so that the library isn't proved a second time with them.
+//! They stand in a crate of their own, so that the libraries aren't proved a second time with them.
 #![tactic(auto)]
 
 #[cfg(test)]
 mod asserting;
 #[cfg(test)]
+mod cores;
+#[cfg(test)]
+mod engine;
+#[cfg(test)]
+mod metrics;
+#[cfg(test)]
 mod replayed;
+#[cfg(test)]
+mod serves;

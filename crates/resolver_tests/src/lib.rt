@@ -1,4 +1,4 @@
-//! Tests of `resolver`: of the engine with its core, of the mocks and of the laws, through public calls, and of the loops
+//! Tests of `resolver`: of the mocks and of the laws, through public calls, and of the loops
 //! of both machines over `fakes`, which are polled by hand or run in threads of their own. Beside some loops goes a
 //! `twin`: a second core is given by hand what a loop takes from its sources, and is to ask and to await the same.
 //!
@@ -10,10 +10,6 @@ mod asserting;
 #[cfg(test)]
 mod closing;
 #[cfg(test)]
-mod cores;
-#[cfg(test)]
-mod engine;
-#[cfg(test)]
 mod every;
 #[cfg(test)]
 mod failing;
@@ -23,8 +19,6 @@ mod fakes;
 mod laws;
 #[cfg(test)]
 mod leaving;
-#[cfg(test)]
-mod metrics;
 #[cfg(test)]
 mod mocks;
 #[cfg(test)]
@@ -41,8 +35,6 @@ mod running;
 mod scan;
 #[cfg(test)]
 mod script;
-#[cfg(test)]
-mod serves;
 #[cfg(test)]
 mod subscribers;
 #[cfg(test)]

@@ -1,6 +1,5 @@
 use crate::asserting::assert_same;
 use crate::cores::{Given, PlainEffect, PlainInput, input_of, make_core};
-use crate::fakes::names::{Below, Peer};
 use bytes::Bytes;
 use resolver::base::Fault;
 use resolver::p2p::effects::Effect;
@@ -8,6 +7,8 @@ use resolver::p2p::fetcher::Ask;
 use resolver::p2p::mocks::{Consumer, Key, Producer, Quiet};
 use resolver::p2p::rows::{Phase, Row};
 use resolver::p2p::{Config, Engine, Metrics};
+use resolver_script::kept::Kept;
+use resolver_script::peer::Peer;
 use std::alloc::Global;
 use std::fmt::Write;
 use std::num::NonZeroUsize;
@@ -23,7 +24,7 @@ type Silent<R> = Engine<
     u16,
     Consumer<Key, Bytes, u16>,
     Producer<Key, &'static str>,
-    Below,
+    Kept,
     R,
 >;
 

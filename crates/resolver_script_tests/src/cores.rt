@@ -1,7 +1,5 @@
 //! An engine's core by itself, and what tests give it.
 
-use crate::fakes::names::{Below, Peer};
-use crate::fakes::world::peers;
 use bytes::Bytes;
 use resolver::Outcome;
 use resolver::base::{Check, NonEmptyVec};
@@ -11,18 +9,20 @@ use resolver::p2p::effects::Effect;
 use resolver::p2p::fetcher::{Answer, Config};
 use resolver::p2p::inputs::{Event, Happening, Input};
 use resolver::p2p::mocks::Key;
+use resolver_script::kept::Kept;
+use resolver_script::peer::Peer;
 use std::alloc::Global;
 use std::panic::Expect;
 use std::process::Abort;
 
-/// A core at the names of the fakes.
-pub type Plain = Core<Key, Peer, u16, Below>;
+/// A core at the names of a script.
+pub type Plain = Core<Key, Peer, u16, Kept>;
 
 /// What it takes.
-pub type PlainInput = Input<Key, Peer, u16, Below>;
+pub type PlainInput = Input<Key, Peer, u16, Kept>;
 
 /// What happens around it.
-type PlainEvent = Event<Key, Peer, u16, Below>;
+type PlainEvent = Event<Key, Peer, u16, Kept>;
 
 /// What it tells.
 pub type PlainEffect = Effect<Key, Peer, u16>;
@@ -34,8 +34,7 @@ pub enum Given {
     Peers(&'static [u8]),
     /// The subscriber wants the key, with the trace mark 7.
     Fetch(u8, u16),
-    /// The subscribers below this one are kept.
-    Retain(u16),
+    Retain(Kept),
     Wake,
     TimeOut,
     Verdict(u64, Option<Outcome>),
@@ -70,6 +69,14 @@ fn fetch(rt: &impl Abort, alloc: Global, key: u8, subscriber: u16) -> PlainEvent
     Event::Fetch(items)
 }
 
+fn peers(rt: &impl Abort, alloc: Global, numbers: &[u8]) -> Vec<Peer> {
+    let mut peers = Vec::new(alloc);
+    for number in numbers {
+        peers.push(Peer(*number)).expect(rt, "memory");
+    }
+    peers
+}
+
 fn served(serve: u64, is_answered: bool) -> PlainEvent {
     let value = if is_answered {
         Some(Bytes::from_static(&[104, 105]))
@@ -84,10 +91,10 @@ fn event_of(rt: &impl Abort, alloc: Global, given: Given) -> Result<PlainEvent, 
     match given {
         Given::Peers(names) => Ok(Event::PeerSet {
             index: 1,
-            peers: peers(alloc, names).expect(rt, "memory"),
+            peers: peers(rt, alloc, names),
         }),
         Given::Fetch(key, subscriber) => Ok(fetch(rt, alloc, key, subscriber)),
-        Given::Retain(below) => Ok(Event::Retain(Below(below))),
+        Given::Retain(kept) => Ok(Event::Retain(kept)),
         Given::Wake => Ok(Event::PendingDue),
         Given::TimeOut => Ok(Event::ActiveDue),
         Given::Verdict(number, outcome) => Ok(Event::Verdict { number, outcome }),
