@@ -1,6 +1,6 @@
-//! Tests of `resolver`: of the mocks and of the laws, through public calls, and of the loops
-//! of both machines over `fakes`, which are polled by hand or run in threads of their own. Beside some loops goes a
-//! `twin`: a second core is given by hand what a loop takes from its sources, and is to ask and to await the same.
+//! Tests of `resolver`: of the mocks, through public calls, and of the loops of both machines over `fakes`, which are
+//! polled by hand or run in threads of their own. Beside some loops goes a `twin`: a second core is given by hand what
+//! a loop takes from its sources, and is to ask and to await the same.
 //!
 //! They stand in a crate of their own, so that the libraries aren't proved a second time with them.
 #![tactic(auto)]
@@ -15,8 +15,6 @@ mod every;
 mod failing;
 #[cfg(test)]
 mod fakes;
-#[cfg(test)]
-mod laws;
 #[cfg(test)]
 mod leaving;
 #[cfg(test)]
@@ -35,8 +33,6 @@ mod running;
 mod scan;
 #[cfg(test)]
 mod script;
-#[cfg(test)]
-mod subscribers;
 #[cfg(test)]
 mod twin;
 #[cfg(test)]
