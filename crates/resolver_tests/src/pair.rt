@@ -5,7 +5,7 @@ use crate::fakes::world::{Polled, Setting, World, make_loop, settle};
 use crate::scan::Shown;
 use crate::twin::{Deadlines, Hands, Steps, Twin, make_core, spell_turn};
 use futures::test::MockTask;
-use std::alloc::AllocGlobal;
+use std::alloc::{AllocGlobal, Global};
 use std::io::Print;
 use std::panic::Expect;
 use std::process::Abort;
@@ -23,6 +23,21 @@ pub struct Looping<M, L> {
     task: MockTask,
     looped: Box<L>,
     world: World<M>,
+}
+
+impl<M: Drop, L: Drop> Looping<M, L> {
+    /// A loop in its world.
+    fn new(
+        rt: &(impl Abort + Wait + RandomSource + AllocGlobal),
+        alloc: Global,
+        (world, looped): (World<M>, L),
+    ) -> Self {
+        Looping {
+            task: MockTask::new(rt).expect(rt, "a task"),
+            looped: Box::new(alloc, looped).expect(rt, "memory"),
+            world,
+        }
+    }
 }
 
 impl<M: Drop, L: Drop> Drop for Looping<M, L> {
@@ -51,6 +66,25 @@ pub struct Pair<S, C> {
     side: S,
     said: String,
     expected: String,
+}
+
+impl<S, C: Steps> Pair<S, C> {
+    /// A loop beside the twin of its core, whose scans are judged where the peers of each key are counted.
+    fn new(
+        rt: &impl Abort,
+        alloc: Global,
+        side: S,
+        core: C,
+        setting: Setting,
+        eligible: Option<usize>,
+    ) -> Self {
+        Pair {
+            twin: Twin::new(rt, alloc, core, setting, eligible),
+            side,
+            said: String::new(alloc),
+            expected: String::new(alloc),
+        }
+    }
 }
 
 impl<S: Drop, C: Drop> Drop for Pair<S, C> {
@@ -106,19 +140,10 @@ where
     let alloc = rt.alloc();
     let mut pairs = Vec::new(alloc);
     for setting in settings {
-        let (world, looped) = make_loop(rt, alloc, *setting).expect(&rt, "a loop");
-        let side = Looping {
-            task: MockTask::new(&rt).expect(&rt, "a task"),
-            looped: Box::new(alloc, looped).expect(&rt, "memory"),
-            world,
-        };
+        let made = make_loop(rt, alloc, *setting).expect(&rt, "a loop");
+        let side = Looping::new(&rt, alloc, made);
         let core = make_core(alloc, setting.me);
-        let pair = Pair {
-            twin: Twin::new(&rt, alloc, core, *setting, eligible),
-            side,
-            said: String::new(alloc),
-            expected: String::new(alloc),
-        };
+        let pair = Pair::new(&rt, alloc, side, core, *setting, eligible);
         pairs.push(pair).expect(&rt, "memory");
     }
     play.play(&rt, pairs.as_mut_slice());
