@@ -1,0 +1,6 @@
+mod Lasting
+mod Running
+mod Stepped
+mod Shown
+mod RunLaws
+mod Settled

@@ -4,7 +4,7 @@
 //! proved without what a fetcher is. One that a fetcher may not be given now ends the test.
 
 ghost use Rattle.std.specs.Prelude.{◌≡◌};
-ghost use Rattle.resolver_fetch.specs.Fetcher.{IsTimely};
+ghost use Rattle.resolver_trying.specs.Fetcher.{IsTimely};
 
 use crate::asserts::{holds, spell};
 use crate::lines::{Called, byte, goes_on, long, number};

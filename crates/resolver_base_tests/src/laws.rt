@@ -1,7 +1,8 @@
 use crate::calls::{Node, delayed};
 use resolver_fetch::fetcher::Fetcher;
-use resolver_fetch::fetcher::laws::{
-    chooses_below, draw_counts, keeps_weights, needs_pairs, tries_all, tries_pairs, wakes_later,
+use resolver_fetch::fetcher::laws::draw_counts;
+use resolver_trying::laws::{
+    chooses_below, keeps_weights, needs_pairs, tries_all, tries_pairs, wakes_later,
 };
 
 #[test]

@@ -5,7 +5,7 @@ use Rattle.std.specs.Prelude.{find, nat_lt}
 use Rattle.std.specs.Map.{set_value}
 use Rattle.resolver_request.specs.declared.score.Averages.{Averages}
 use Rattle.resolver_trying.specs.declared.trail.Try.{Try}
-use Rattle.resolver_fetch.specs.Fetcher.{Fetcher, snapshot}
+use Rattle.resolver_trying.specs.Fetcher.{Fetcher, snapshot}
 use Rattle.resolver_trying.specs.Known.{askable, is_target, may_be_asked}
 use Rattle.resolver_trying.specs.Orders.{Orders}
 use Rattle.resolver_trying.specs.Scan.{can_be_tried, is_due, left, was_tried}

@@ -16,7 +16,7 @@ use Rattle.resolver_trying.specs.Snapshot.{Snapshot, eligible}
 use Rattle.resolver_trying.specs.Scan.{can_be_tried, is_due, left, was_tried}
 use Rattle.resolver_trying.specs.Trying.{Trying, apart_from, trying, trying_for, weighed}
 use Rattle.resolver_trying.specs.Waiting.{Waiting}
-use Rattle.resolver_fetch.proofs.NeedsPairs.{any-append}
+use Rattle.resolver_trying.proofs.NeedsPairs.{any-append}
 use Rattle.resolver_fetch.proofs.Seeking.{weighed-filter}
 
 -- Who passes two tests passes the one and then the other.

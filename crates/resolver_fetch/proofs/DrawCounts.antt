@@ -24,7 +24,7 @@ use Rattle.resolver_trying.specs.Waiting.{Waiting}
 use Rattle.resolver_trying.specs.Known.{is_eligible}
 use Rattle.resolver_trying.specs.Snapshot.{Snapshot, eligible, known}
 use Rattle.resolver_trying.specs.Scan.{Scan, weights, by_place, by_weight, left, was_tried, draws, answered}
-use Rattle.resolver_fetch.specs.FetcherLaws.{IsAmong, DrawCounts, leads_to, is_weighted, is_check}
+use Rattle.resolver_trying.specs.FetcherLaws.{IsAmong, DrawCounts, leads_to, is_weighted, is_check}
 
 eqb-suc : (m n : ℕ) → (suc m == suc n) ≡ (m == n)
 eqb-suc m n =

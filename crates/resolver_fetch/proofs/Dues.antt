@@ -13,7 +13,7 @@ use Rattle.std.specs.declared.cmp.Ordering.TheVariants.{Less}
 use Rattle.resolver_priorities.specs.Priorities.{from, pair_order}
 use Rattle.resolver_trying.specs.declared.place.Place.{Place}
 use Rattle.resolver_trying.specs.declared.trail.Try.{Try}
-use Rattle.resolver_fetch.specs.Fetcher.{Fetcher, waiting_of}
+use Rattle.resolver_trying.specs.Fetcher.{Fetcher, waiting_of}
 use Rattle.resolver_trying.specs.Orders.{Orders}
 use Rattle.resolver_waiting.specs.Pending.{later_due}
 use Rattle.resolver_waiting.specs.Queues.{placed}

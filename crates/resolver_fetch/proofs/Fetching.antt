@@ -2,7 +2,7 @@
 use Rattle.std.proofs.Common.{◌≡◌, refl, ap, subst, ◌∙◌, List, [], ◌∷◌, ◌++◌, Option, None, Some}
 use Rattle.resolver_trying.specs.declared.scan.Answer.{Answer}
 use Rattle.resolver_trying.specs.declared.scan.Ask.{Ask}
-use Rattle.resolver_fetch.specs.Fetcher.{Fetcher, asked_by, question}
+use Rattle.resolver_trying.specs.Fetcher.{Fetcher, asked_by, question}
 use Rattle.resolver_fetch.specs.Fetching.{GoesOn, Lent, Outside, TakesAll, TakesOne}
 use Rattle.resolver_trying.specs.Orders.{Orders}
 use Rattle.resolver_fetch.specs.Progress.{Keeps, KeepsWith}

@@ -12,7 +12,7 @@ use Rattle.resolver_asked.specs.Requests.{IsTaken, ids_of, is_asked, matching, o
 use Rattle.resolver_trying.specs.declared.cursor.Cursor.{Cursor}
 use Rattle.resolver_trying.specs.declared.place.Place.{Place}
 use Rattle.resolver_fetch.specs.Cursor.{IsKept, scan_of}
-use Rattle.resolver_fetch.specs.Fetcher.{Fetcher, charge, pop_active, pop_missing, popped_active, popped_missing}
+use Rattle.resolver_trying.specs.Fetcher.{Fetcher, charge, pop_active, pop_missing, popped_active, popped_missing}
 use Rattle.resolver_request.specs.Times.{elapsed_since}
 use Rattle.resolver_trying.specs.Orders.{Orders}
 use Rattle.resolver_trying.specs.Waiting.{place_order}

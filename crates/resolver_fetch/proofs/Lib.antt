@@ -1,11 +1,3 @@
-pub mod OneOf
-pub mod Trails
-pub mod InVain
-pub mod TriesAll
-pub mod TriesPairs
-pub mod WakesLater
-pub mod NeedsPairs
-pub mod ChoosesBelow
 pub mod DrawCounts
 pub mod Askable
 pub mod Among

@@ -5,7 +5,7 @@ use Rattle.resolver_trying.specs.declared.trail.Expected.TheVariants.{Mode}
 use Rattle.resolver_trying.specs.declared.trail.Try.{Try}
 use Rattle.resolver_trying.specs.declared.trying.Next.TheVariants.{Try as Tries, Wait}
 use Rattle.resolver_request.specs.Times.{never}
-use Rattle.resolver_fetch.specs.Fetcher.{Fetcher, snapshot, turned}
+use Rattle.resolver_trying.specs.Fetcher.{Fetcher, snapshot, turned}
 use Rattle.resolver_trying.specs.Orders.{Orders}
 use Rattle.resolver_waiting.specs.Pending.{waits_until}
 use Rattle.resolver_trying.specs.Scan.{goes_on_with, least, next}

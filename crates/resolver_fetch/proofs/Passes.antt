@@ -15,7 +15,7 @@ use Rattle.std.specs.declared.cmp.Ordering.TheVariants.{Less}
 use Rattle.resolver_priorities.specs.Priorities.{after, pair_order}
 use Rattle.resolver_trying.specs.declared.place.Place.{Place}
 use Rattle.resolver_trying.specs.declared.trail.Try.{Try}
-use Rattle.resolver_fetch.specs.Fetcher.{Fetcher, snapshot, waiting_of}
+use Rattle.resolver_trying.specs.Fetcher.{Fetcher, snapshot, waiting_of}
 use Rattle.resolver_trying.specs.Orders.{Orders, same_key}
 use Rattle.resolver_trying.specs.Scan.{can_be_tried, is_due, left}
 use Rattle.resolver_request.specs.Scores.{weight_of}

@@ -15,7 +15,7 @@ use Rattle.resolver_asked.specs.Ids.{is_held}
 use Rattle.resolver_asked.specs.Requests.{ids_of, is_asked, is_for, request_of, without_request}
 use Rattle.resolver_trying.specs.declared.place.Place.{Place}
 use Rattle.resolver_trying.specs.declared.trail.Try.{Try}
-use Rattle.resolver_fetch.specs.Fetcher.{EachOnce, Fetcher, snapshot, waiting_of}
+use Rattle.resolver_trying.specs.Fetcher.{EachOnce, Fetcher, snapshot, waiting_of}
 use Rattle.resolver_trying.specs.Orders.{Orders}
 use Rattle.resolver_trying.specs.Scan.{can_be_tried}
 use Rattle.resolver_fetch.specs.Seeking.{scan_at, tried_next}

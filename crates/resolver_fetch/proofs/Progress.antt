@@ -23,16 +23,16 @@ use Rattle.resolver_trying.specs.declared.trail.Reason.TheVariants.{Limited, Ref
 use Rattle.resolver_trying.specs.declared.trail.Try.{Try}
 use Rattle.resolver_trees.specs.Choice.{chosen}
 use Rattle.resolver_request.specs.Modes.{means_weighted}
-use Rattle.resolver_fetch.specs.Fetcher.{Fetcher, answered as answered_with, asked_by, question, scan_answer, scan_begin, scan_taken, snapshot, turned}
+use Rattle.resolver_trying.specs.Fetcher.{Fetcher, answered as answered_with, asked_by, question, scan_answer, scan_begin, scan_taken, snapshot, turned}
 use Rattle.resolver_trying.specs.Orders.{Orders, same_key, same_peer}
 use Rattle.resolver_fetch.specs.Progress.{ExpectsLeft, Fits, IsAnswerable, IsSound, IsSoundWith, IsTrying, Keeps, answers_left, answers_with, is_left, pairs_left, stage}
 use Rattle.resolver_request.specs.Scores.{weight_of}
 use Rattle.resolver_trying.specs.Snapshot.{Snapshot}
 use Rattle.resolver_trying.specs.Scan.{Scan, Turn, answered, asks_for, by_place, by_weight, can_be_tried, clears, draws, fails, goes_on, goes_on_with, is_due, left, next, question_for, question_of, takes_for, weights}
 use Rattle.resolver_trying.specs.Waiting.{Waiting}
-use Rattle.resolver_fetch.proofs.ChoosesBelow.{chooses_below}
+use Rattle.resolver_trying.proofs.ChoosesBelow.{chooses_below}
 use Rattle.resolver_fetch.proofs.Continues.{left-after}
-use Rattle.resolver_fetch.proofs.OneOf.{found-passes}
+use Rattle.resolver_trying.proofs.OneOf.{found-passes}
 
 module _ {X : Type 0} where
   some-same : (x y : X) → Some x ≡ Some y → x ≡ y

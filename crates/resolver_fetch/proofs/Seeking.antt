@@ -11,7 +11,7 @@ use Rattle.resolver_priorities.specs.Priorities.{after}
 use Rattle.resolver_request.specs.declared.score.Averages.{Averages}
 use Rattle.resolver_trying.specs.declared.place.Place.{Place}
 use Rattle.resolver_trying.specs.declared.trail.Try.{Try}
-use Rattle.resolver_fetch.specs.Fetcher.{Fetcher, snapshot, waiting_of}
+use Rattle.resolver_trying.specs.Fetcher.{Fetcher, snapshot, waiting_of}
 use Rattle.resolver_trying.specs.Orders.{Orders}
 use Rattle.resolver_waiting.specs.Queues.{IsQueued, fresh_queue, placed, retry_queue}
 use Rattle.resolver_trying.specs.Scan.{can_be_tried, left}

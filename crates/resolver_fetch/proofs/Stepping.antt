@@ -21,7 +21,7 @@ use Rattle.resolver_request.specs.Modes.{means_weighted}
 use Rattle.resolver_asked.specs.declared.requests.request.Request.{Request}
 use Rattle.resolver_trying.specs.declared.cursor.Cursor.{Cursor}
 use Rattle.resolver_fetch.specs.Cursor.{ExpectsNewId, TakesNewId, scan_of}
-use Rattle.resolver_fetch.specs.Fetcher.{AsksNewId, Fetcher, answered as answered_with, question, scan_answer, scan_taken, snapshot, turned}
+use Rattle.resolver_trying.specs.Fetcher.{AsksNewId, Fetcher, answered as answered_with, question, scan_answer, scan_taken, snapshot, turned}
 use Rattle.resolver_trying.specs.Orders.{Orders}
 use Rattle.resolver_request.specs.Scores.{weight_of}
 use Rattle.resolver_fetch.specs.Seeking.{scan_at, tried_next}

@@ -18,7 +18,7 @@ use Rattle.resolver_request.specs.declared.score.Averages.{Averages}
 use Rattle.resolver_request.specs.declared.score.Averages.TheVariants.{Unobserved, Observed}
 use Rattle.resolver_request.specs.Scores.{Observation, averaged, weight_of}
 use Rattle.resolver_trying.specs.declared.trail.Try.{Try}
-use Rattle.resolver_fetch.specs.Fetcher.{Fetcher, snapshot, targets_of}
+use Rattle.resolver_trying.specs.Fetcher.{Fetcher, snapshot, targets_of}
 use Rattle.resolver_trying.specs.Known.{Known, eligible, is_eligible}
 use Rattle.resolver_trying.specs.Orders.{Orders, is_one_of}
 use Rattle.resolver_trying.specs.Peers.{averages_in, observed}

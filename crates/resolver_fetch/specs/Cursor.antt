@@ -9,7 +9,7 @@ use Rattle.resolver_trying.specs.declared.step.Step.{Step}
 use Rattle.resolver_trying.specs.declared.step.Step.TheVariants as steps
 use Rattle.resolver_trying.specs.declared.trail.Expected.{Expected}
 use Rattle.resolver_trying.specs.declared.trail.Expected.TheVariants.{FirstId, Sending}
-use Rattle.resolver_fetch.specs.Fetcher.{EachOnce, Fetcher, IsTimely}
+use Rattle.resolver_trying.specs.Fetcher.{EachOnce, Fetcher, IsTimely}
 use Rattle.resolver_trying.specs.Orders.{Orders}
 use Rattle.resolver_trying.specs.Scan.{Scan}
 use Rattle.resolver_fetch.specs.Seeking.{tried_next}

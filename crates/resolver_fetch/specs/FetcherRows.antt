@@ -11,7 +11,7 @@ use Rattle.resolver_trying.specs.declared.scan.Ask.TheVariants as asks
 use Rattle.resolver_trying.specs.Orders.{Orders, orders}
 use Rattle.resolver_waiting.specs.Queues.{fresh_queue, retry_queue}
 use Rattle.resolver_asked.specs.Ids.{next_id}
-use Rattle.resolver_fetch.specs.Fetcher.{Fetcher, opening, reconcile, set_blocked, add_ready, add_retry, add_targets, scan_begin, scan_answer, question, pending_deadline, active_deadline, pop_response, pop_missing, weight}
+use Rattle.resolver_trying.specs.Fetcher.{Fetcher, opening, reconcile, set_blocked, add_ready, add_retry, add_targets, scan_begin, scan_answer, question, pending_deadline, active_deadline, pop_response, pop_missing, weight}
 
 abbrev numbers : Orders ℕ ℕ
 numbers = orders nat_cmp nat_cmp

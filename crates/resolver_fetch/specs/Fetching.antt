@@ -9,7 +9,7 @@ use Rattle.resolver_trying.specs.declared.scan.Ask.{Ask}
 use Rattle.resolver_trying.specs.declared.scan.Ask.TheVariants as asks
 use Rattle.resolver_request.specs.declared.wire.Message.{Message}
 use Rattle.resolver_request.specs.declared.wire.Payload.TheVariants.{Request}
-use Rattle.resolver_fetch.specs.Fetcher.{Fetcher, question, scan_answer, scan_begin}
+use Rattle.resolver_trying.specs.Fetcher.{Fetcher, question, scan_answer, scan_begin}
 use Rattle.resolver_trying.specs.Orders.{Orders}
 use Rattle.resolver_request.specs.Spelling.{spelling}
 

@@ -1,7 +1,7 @@
 -- The peers that a scan draws from for a waiting key.
 use Rattle.std.specs.Prelude.{not, List, filter, Option}
 use Rattle.resolver_trying.specs.declared.trail.Try.{Try}
-use Rattle.resolver_fetch.specs.Fetcher.{Fetcher, snapshot, targets_of}
+use Rattle.resolver_trying.specs.Fetcher.{Fetcher, snapshot, targets_of}
 use Rattle.resolver_trying.specs.Orders.{Orders}
 use Rattle.resolver_trying.specs.Pools.{IsWhole, Pool, whole}
 use Rattle.resolver_trying.specs.Scan.{was_tried}

@@ -1,9 +1,7 @@
-pub mod Fetcher
 pub mod Seeking
 pub mod Stepping
 pub mod Progress
 pub mod Fetching
 pub mod FetcherRows
-pub mod FetcherLaws
 pub mod Cursor
 pub mod Left

@@ -9,7 +9,7 @@ use Rattle.resolver_trying.specs.declared.scan.Ask.TheVariants as asks
 use Rattle.resolver_trying.specs.declared.trail.Expected.{Expected}
 use Rattle.resolver_trying.specs.declared.trail.Expected.TheVariants.{Mode, ByWeight, ByPlace, Checking, FirstId, Sending}
 use Rattle.resolver_trying.specs.declared.trail.Try.{Try}
-use Rattle.resolver_fetch.specs.Fetcher.{Fetcher, snapshot}
+use Rattle.resolver_trying.specs.Fetcher.{Fetcher, snapshot}
 use Rattle.resolver_fetch.specs.Fetching.{given_up}
 use Rattle.resolver_trying.specs.Orders.{Orders, same_peer}
 use Rattle.resolver_trying.specs.Scan.{Scan, left, next}

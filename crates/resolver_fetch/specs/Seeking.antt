@@ -11,7 +11,7 @@ use Rattle.resolver_trying.specs.Snapshot.{eligible}
 use Rattle.resolver_trying.specs.Scan.{Scan, can_be_tried, trail_moment, was_tried}
 use Rattle.resolver_trying.specs.Trying.{Trying, weighed, trying, trying_for}
 use Rattle.resolver_trying.specs.Waiting.{place_order}
-use Rattle.resolver_fetch.specs.Fetcher.{Fetcher, opening, retries_of, snapshot, targets_of, waiting_of}
+use Rattle.resolver_trying.specs.Fetcher.{Fetcher, opening, retries_of, snapshot, targets_of, waiting_of}
 
 -- a scan that tried this so far
 abbrev pub scan_at : {K P : Type 0} → (moment : ℕ) → List (Try K P) → Scan K P

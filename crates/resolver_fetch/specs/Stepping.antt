@@ -7,7 +7,7 @@ use Rattle.resolver_fetch.specs.Seeking.{scan_at}
 use Rattle.resolver_trying.specs.Orders.{Orders}
 use Rattle.resolver_trying.specs.Scan.{Scan, asks_for, goes_on}
 use Rattle.resolver_trying.specs.Steps.{stepped}
-use Rattle.resolver_fetch.specs.Fetcher.{Fetcher, snapshot, turned}
+use Rattle.resolver_trying.specs.Fetcher.{Fetcher, snapshot, turned}
 
 module _ {K P : Type 0} (o : Orders K P) where
   -- a scan takes a step

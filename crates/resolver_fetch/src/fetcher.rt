@@ -15,8 +15,8 @@ ghost use Rattle.std.specs.Fn.{FnReturnsAt};
 ghost use Rattle.resolver_base.specs.Answering.{AnswersBy};
 ghost use Rattle.resolver_priorities.specs.Priorities.{has_item};
 ghost use Rattle.resolver_base.specs.declared.base.fault.Fault.TheVariants.{OutOfMemory};
-ghost use Rattle.resolver_fetch.specs.Fetcher as calls;
-ghost use Rattle.resolver_fetch.specs.Fetcher.{EachOnce, IsTimely, opening};
+ghost use Rattle.resolver_trying.specs.Fetcher as calls;
+ghost use Rattle.resolver_trying.specs.Fetcher.{EachOnce, IsTimely, opening};
 ghost use Rattle.resolver_trying.specs.Orders.{orders};
 ghost use Rattle.resolver_waiting.specs.Queues.{IsQueued, fresh_queue, retry_queue};
 ghost use Rattle.resolver_asked.specs.Requests.{is_asked, request_for};
@@ -27,7 +27,7 @@ use resolver_asked::requests::Requests;
 pub use resolver_asked::requests::{ID, Request};
 use resolver_base::base::Fault;
 use resolver_priorities::PrioritySet;
-use resolver_request::score::DURATION_MAX;
+use resolver_request::score::{DURATION_MAX, elapsed_since};
 use resolver_root::NonEmptyVec;
 pub use resolver_trying::config::Config;
 use resolver_trying::cursor::Cursor;
@@ -77,7 +77,7 @@ pub struct Fetcher<K: Ord, P: Ord> {
 impl<K: Ord, P: Ord> Model for Fetcher<K, P> {
     ghost use Rattle.std.specs.Prelude.{IfSome, option_map};
     ghost use Rattle.resolver_fetch.specs.Cursor.{IsKept, IsRight, scan_of};
-    ghost use Rattle.resolver_fetch.specs.Fetcher.{Fetcher};
+    ghost use Rattle.resolver_trying.specs.Fetcher.{Fetcher};
     ghost use Rattle.resolver_trying.specs.Orders.{orders};
     ghost use Rattle.resolver_fetch.specs.Seeking.{searched};
 
@@ -486,15 +486,6 @@ impl<K: Ord + Drop, P: Ord + Drop> Fetcher<K, P> {
         self.peers.record(&request.peer, time, 0);
         Some(request.key)
     }
-}
-
-/// How many nanoseconds ago something began, at most `DURATION_MAX`; nothing where the clock went
-/// back.
-#[inline]
-pub fn elapsed_since(start: u128, now: u128) -> u128
-    ensures { result ≡ elapsed_since start now }
-{
-    now.saturating_sub(start).min(DURATION_MAX)
 }
 
 /// What a peer is charged that did not help for some time.

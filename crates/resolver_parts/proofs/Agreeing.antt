@@ -5,7 +5,7 @@ use Rattle.std.specs.Result.{IfErr, OnOk}
 use Rattle.resolver_base.specs.declared.base.fault.Fault.{Fault}
 use Rattle.resolver_base.specs.declared.base.fault.Fault.TheVariants.{OutOfMemory}
 use Rattle.resolver_trying.specs.declared.trail.Expected.{Expected}
-use Rattle.resolver_fetch.specs.Fetcher.{Fetcher}
+use Rattle.resolver_trying.specs.Fetcher.{Fetcher}
 use Rattle.resolver_peer.specs.Parties.{Parties}
 use Rattle.resolver_peer.specs.Peer.{Done, Machine, quiet}
 use Rattle.resolver_parts.specs.declared.parts.Parts.{Parts}

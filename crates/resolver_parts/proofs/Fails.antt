@@ -9,9 +9,9 @@ use Rattle.resolver_asked.specs.Requests.{by_id, matching, overdue, without_requ
 use Rattle.resolver_request.specs.Times.{elapsed_since}
 use Rattle.resolver_trying.specs.declared.place.Place.{Place}
 use Rattle.resolver_trying.specs.declared.trail.Expected.{Expected}
-use Rattle.resolver_fetch.specs.Fetcher as fetchers
-use Rattle.resolver_fetch.specs.Fetcher.{Fetcher, unless_over}
-use Rattle.resolver_fetch.specs.FetcherLaws.{IsAmong}
+use Rattle.resolver_trying.specs.Fetcher as fetchers
+use Rattle.resolver_trying.specs.Fetcher.{Fetcher, unless_over}
+use Rattle.resolver_trying.specs.FetcherLaws.{IsAmong}
 use Rattle.resolver_trying.specs.Waiting.{retry_at}
 use Rattle.resolver_peer.specs.Parties.{Parties, orders_of}
 use Rattle.resolver_peer.specs.PeerRows.{Asked, Row, request_in, request_of}

@@ -20,8 +20,8 @@ use Rattle.resolver_demand.specs.Entries.{changed_at, delivered, is_tracked, num
 use Rattle.resolver_asked.specs.declared.requests.request.Request.{Request}
 use Rattle.resolver_asked.specs.Requests.{by_id, without_request}
 use Rattle.resolver_request.specs.Times.{elapsed_since}
-use Rattle.resolver_fetch.specs.Fetcher as fetchers
-use Rattle.resolver_fetch.specs.Fetcher.{Fetcher}
+use Rattle.resolver_trying.specs.Fetcher as fetchers
+use Rattle.resolver_trying.specs.Fetcher.{Fetcher}
 use Rattle.resolver_machine.proofs.Mapped.{insert_entry-seen, set_value-seen}
 use Rattle.resolver_peer.specs.declared.named.Source.{Source}
 use Rattle.resolver_peer.specs.Parties.{Parties, names_of, orders_of}
@@ -30,7 +30,7 @@ use Rattle.resolver_peer.specs.Peer.{Deliver, Done, Machine, Open, answered, han
 use Rattle.resolver_peer.specs.declared.effects.Effect.{Effect as Told}
 use Rattle.resolver_peer.specs.declared.effects.Effect.TheVariants as told
 use Rattle.resolver_parts.specs.declared.parts.Parts.{Parts}
-use Rattle.resolver_acts.specs.Again.{IsRefusal}
+use Rattle.resolver_peer.specs.Again.{IsRefusal}
 use Rattle.resolver_parts.specs.Going.{Goes, Went}
 use Rattle.resolver_parts.specs.Said.{Codec}
 use Rattle.resolver_parts.specs.Tied.{Agrees, AreOwn, Holds, IsSound, demand_of, fetcher_of, held_of, holds_in, holds_of, open_of, place_in, place_of, retries_in, same_id, sorted, targets_in}

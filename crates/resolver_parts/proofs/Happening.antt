@@ -9,7 +9,7 @@ use Rattle.resolver_base.specs.declared.base.fault.Fault.TheVariants.{OutOfMemor
 use Rattle.resolver_asked.specs.declared.requests.request.Request.{Request}
 use Rattle.resolver_asked.specs.Requests.{overdue}
 use Rattle.resolver_trying.specs.declared.scan.Answer.{Answer}
-use Rattle.resolver_fetch.specs.Fetcher.{Fetcher, unless_over}
+use Rattle.resolver_trying.specs.Fetcher.{Fetcher, unless_over}
 use Rattle.resolver_trying.specs.Scan.{is_over, takes}
 use Rattle.resolver_peer.specs.declared.named.Serve.{Serve}
 use Rattle.resolver_peer.specs.Parties.{Parties, orders_of}

@@ -3,7 +3,7 @@ use Rattle.std.proofs.Common.{◌≡◌, ap, Bool, [], map, None}
 use Rattle.std.specs.List.{IsDistinct}
 use Rattle.std.specs.List.Sorted.{IsStrictlySortedBy}
 use Rattle.resolver_trying.specs.declared.config.Config.{Config}
-use Rattle.resolver_fetch.specs.Fetcher as fetchers
+use Rattle.resolver_trying.specs.Fetcher as fetchers
 use Rattle.resolver_peer.specs.Parties.{Parties}
 use Rattle.resolver_peer.specs.Peer.{opening}
 use Rattle.resolver_parts.specs.declared.parts.Parts.{Parts}

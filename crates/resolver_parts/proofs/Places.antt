@@ -13,7 +13,7 @@ use Rattle.resolver_priorities.specs.Priorities.{has_item}
 use Rattle.resolver_asked.specs.declared.requests.request.Request.{Request}
 use Rattle.resolver_asked.specs.Requests.{by_id, is_asked, is_for}
 use Rattle.resolver_trying.specs.declared.place.Place.{Place}
-use Rattle.resolver_fetch.specs.Fetcher.{AsksNewId, Fetcher}
+use Rattle.resolver_trying.specs.Fetcher.{AsksNewId, Fetcher}
 use Rattle.resolver_trying.specs.Scan.{Scan, next, question_of}
 use Rattle.resolver_trying.specs.Snapshot.{Snapshot}
 use Rattle.resolver_trying.specs.Waiting.{Waiting}

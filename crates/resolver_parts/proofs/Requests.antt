@@ -13,7 +13,7 @@ use Rattle.std.specs.declared.cmp.Ordering.TheVariants.{Less, Equal, Greater}
 use Rattle.resolver_asked.specs.declared.requests.request.Request.{Request}
 use Rattle.resolver_asked.specs.Requests.{by_id, if_of, if_overdue, is_sooner, matching, overdue, sooner, soonest}
 use Rattle.resolver_asked.specs.Requests as requests
-use Rattle.resolver_fetch.specs.FetcherLaws.{IsAmong}
+use Rattle.resolver_trying.specs.FetcherLaws.{IsAmong}
 use Rattle.resolver_parts.specs.Tied.{same_id}
 use Rattle.resolver_parts.proofs.Queues.{all-by_id}
 

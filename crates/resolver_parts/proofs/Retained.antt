@@ -25,8 +25,8 @@ use Rattle.resolver_demand.specs.Entries.{retained as keeping}
 use Rattle.resolver_asked.specs.declared.requests.request.Request.{Request}
 use Rattle.resolver_asked.specs.Requests.{by_id}
 use Rattle.resolver_trying.specs.declared.place.Place.{Place}
-use Rattle.resolver_fetch.specs.Fetcher as calls
-use Rattle.resolver_fetch.specs.Fetcher.{Fetcher, unless_over}
+use Rattle.resolver_trying.specs.Fetcher as calls
+use Rattle.resolver_trying.specs.Fetcher.{Fetcher, unless_over}
 use Rattle.resolver_trying.specs.Scan.{Scan}
 use Rattle.resolver_trying.specs.Waiting.{place_order}
 use Rattle.resolver_machine.proofs.Rows.{each_found}
@@ -37,7 +37,7 @@ use Rattle.resolver_peer.specs.PeerRows.{Row, Phase, Waits, Asked, Judged, reque
 use Rattle.resolver_peer.specs.Peer.{Machine, Open, cancel_in, cancels, end, has_subscribers, pruned, retain}
 use Rattle.resolver_peer.specs.declared.effects.Effect.TheVariants as told
 use Rattle.resolver_parts.specs.declared.parts.Parts.{Parts}
-use Rattle.resolver_acts.specs.Canceled.{all_canceled, canceled, each_canceled}
+use Rattle.resolver_peer.specs.Canceled.{all_canceled, canceled, each_canceled}
 use Rattle.resolver_parts.specs.Said.{Codec, written}
 use Rattle.resolver_parts.specs.Tied.{Agrees, AreOwn, Holds, IsOwn, IsSound, count_of, demand_of, fetcher_of, held_of, holds_in, holds_of, open_of, place_in, place_of, retries_in, same_id, sorted, targets_in}
 use Rattle.resolver_parts.proofs.Keeping.{AreApart, all-both, all-by, all-imply, all-in_turn, all-kept, all-map-back, in_turn, kept-given, kept-in_turn, kept-map, none-kept}

@@ -11,7 +11,7 @@ use Rattle.resolver_priorities.specs.Priorities.{put}
 use Rattle.resolver_asked.specs.declared.requests.request.Request.{Request}
 use Rattle.resolver_asked.specs.Requests.{by_id, without_request}
 use Rattle.resolver_trying.specs.declared.place.Place.{Place}
-use Rattle.resolver_fetch.specs.FetcherLaws.{IsAmong}
+use Rattle.resolver_trying.specs.FetcherLaws.{IsAmong}
 use Rattle.resolver_trying.specs.Waiting.{once_more, place_order}
 use Rattle.resolver_peer.specs.Parties.{Parties}
 use Rattle.resolver_peer.specs.PeerRows.{Row, Phase, Waits, Asked, Judged, change_entry, request_in, request_of}

@@ -23,8 +23,8 @@ use Rattle.resolver_root.specs.Table as tables
 use Rattle.resolver_demand.specs.declared.delivery.entry.Response.{Response}
 use Rattle.resolver_demand.specs.Entries.{Numbered, accepted, begun_again, changed, changed_at, number_of, numbered, removed, response_of, with_response}
 use Rattle.resolver_asked.specs.Requests.{by_id, is_asked}
-use Rattle.resolver_fetch.specs.Fetcher as fetchers
-use Rattle.resolver_fetch.specs.Fetcher.{Fetcher}
+use Rattle.resolver_trying.specs.Fetcher as fetchers
+use Rattle.resolver_trying.specs.Fetcher.{Fetcher}
 use Rattle.resolver_trying.specs.Waiting.{retry_at}
 use Rattle.resolver_machine.specs.declared.ruling.Ruling.{Ruling}
 use Rattle.resolver_machine.specs.declared.ruling.Ruling.TheVariants as rulings
@@ -37,13 +37,13 @@ use Rattle.resolver_peer.specs.Peer.{Deliver, Done, Machine, Open, hand_out, han
 use Rattle.resolver_peer.specs.declared.effects.Effect.{Effect as Told}
 use Rattle.resolver_peer.specs.declared.effects.Effect.TheVariants as told
 use Rattle.resolver_parts.specs.declared.parts.Parts.{Parts}
-use Rattle.resolver_acts.specs.Again.{IsRefusal}
+use Rattle.resolver_peer.specs.Again.{IsRefusal}
 use Rattle.resolver_parts.specs.Going.{Goes, Went}
-use Rattle.resolver_acts.specs.Again.{flagged, handed_again}
+use Rattle.resolver_peer.specs.Again.{flagged, handed_again}
 use Rattle.resolver_parts.specs.Ruled.{IsClosed, Names}
 use Rattle.resolver_parts.specs.Said.{Codec}
 use Rattle.resolver_parts.specs.Tied.{Agrees, Holds, IsSound, AreOwn, demand_of, fetcher_of, held_of, holds_in, holds_of, open_of, place_of, retries_in, same_id, sorted, targets_in}
-use Rattle.resolver_acts.proofs.Cached.{Caches, accepts-is, flagged-found, flagged-going, flagged-next, flagged-response, flagged_entry, noted, response-is}
+use Rattle.resolver_peer.proofs.Cached.{Caches, accepts-is, flagged-found, flagged-going, flagged-next, flagged-response, flagged_entry, noted, response-is}
 use Rattle.resolver_parts.proofs.Handed.{Entered, entered, goes-refused}
 use Rattle.resolver_parts.proofs.Numbered.{below-grown, lookup-new, own-grown}
 use Rattle.resolver_parts.proofs.Places.{demand-at, holds-at, idle-asked, idle-waiting, none-asked, own-slot, place_at, request_at, requests-at, retries-at, targets-at, waiting-at}

@@ -11,8 +11,8 @@ use Rattle.resolver_trying.specs.declared.scan.Answer.{Answer}
 use Rattle.resolver_trying.specs.declared.scan.Ask.{Ask}
 use Rattle.resolver_trying.specs.declared.trail.Expected.{Expected}
 use Rattle.resolver_trying.specs.declared.trail.Expected.TheVariants.{Mode}
-use Rattle.resolver_fetch.specs.Fetcher as fetchers
-use Rattle.resolver_fetch.specs.Fetcher.{AsksNewId, Fetcher, unless_over}
+use Rattle.resolver_trying.specs.Fetcher as fetchers
+use Rattle.resolver_trying.specs.Fetcher.{AsksNewId, Fetcher, unless_over}
 use Rattle.resolver_trying.specs.Scan.{Scan, Turn, begins, goes_on_with, next, question_of, takes, takes_for}
 use Rattle.resolver_trying.specs.Snapshot.{Snapshot}
 use Rattle.resolver_trying.specs.Waiting.{Waiting}

@@ -12,8 +12,8 @@ use Rattle.resolver_asked.specs.Requests.{by_id}
 use Rattle.resolver_trying.specs.declared.place.Place.{Place}
 use Rattle.resolver_trying.specs.declared.scan.Ask.{Ask}
 use Rattle.resolver_trying.specs.declared.trail.Expected.{Expected}
-use Rattle.resolver_fetch.specs.Fetcher as fetchers
-use Rattle.resolver_fetch.specs.Fetcher.{AsksNewId, Fetcher, unless_over}
+use Rattle.resolver_trying.specs.Fetcher as fetchers
+use Rattle.resolver_trying.specs.Fetcher.{AsksNewId, Fetcher, unless_over}
 use Rattle.resolver_trying.specs.Scan.{Scan, Turn, next, question as question_by, question_of}
 use Rattle.resolver_trying.specs.Snapshot.{Snapshot}
 use Rattle.resolver_trying.specs.Waiting.{Waiting}

@@ -14,8 +14,8 @@ use Rattle.std.specs.declared.cmp.Ordering.{Ordering}
 use Rattle.std.specs.declared.cmp.Ordering.TheVariants.{Less, Equal, Greater}
 use Rattle.resolver_priorities.specs.Priorities.{pair_order}
 use Rattle.resolver_trying.specs.declared.place.Place.{Place}
-use Rattle.resolver_fetch.specs.Fetcher as fetchers
-use Rattle.resolver_fetch.specs.Fetcher.{Fetcher}
+use Rattle.resolver_trying.specs.Fetcher as fetchers
+use Rattle.resolver_trying.specs.Fetcher.{Fetcher}
 use Rattle.resolver_trying.specs.Orders.{same_key}
 use Rattle.resolver_trying.specs.Snapshot.{Snapshot}
 use Rattle.resolver_trying.specs.Waiting as waits

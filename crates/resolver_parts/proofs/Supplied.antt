@@ -2,7 +2,7 @@
 use Rattle.std.proofs.Common.{◌≡◌, ap, sym, ◌∙◌, subst, ℕ, ◌<◌, true, false, List, map, Option, None, Some, if◌then◌else◌, arith}
 use Rattle.std.proofs.lemmas.Bool.Decides.{nat_tests}
 use Rattle.std.specs.Prelude.{is_some, nat_lt}
-use Rattle.resolver_fetch.specs.Fetcher as fetchers
+use Rattle.resolver_trying.specs.Fetcher as fetchers
 use Rattle.resolver_peer.specs.Parties.{Parties, orders_of}
 use Rattle.resolver_peer.specs.Peer.{Machine, is_newer, peer_set}
 use Rattle.resolver_trying.specs.Peers.{replaced}

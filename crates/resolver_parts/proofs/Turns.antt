@@ -25,11 +25,11 @@ use Rattle.resolver_trying.specs.declared.trail.Expected.{Expected}
 use Rattle.resolver_trying.specs.declared.trail.Expected.TheVariants.{Mode, ByWeight, ByPlace, Checking, FirstId, Sending}
 use Rattle.resolver_trying.specs.declared.trail.Reason.{Reason}
 use Rattle.resolver_trying.specs.declared.trail.Reason.TheVariants.{Limited, Refused}
-use Rattle.resolver_fetch.specs.Fetcher.{AsksNewId}
-use Rattle.resolver_fetch.specs.FetcherLaws.{IsAmong}
+use Rattle.resolver_trying.specs.Fetcher.{AsksNewId}
+use Rattle.resolver_trying.specs.FetcherLaws.{IsAmong}
 use Rattle.resolver_trying.specs.Scan.{Scan, Turn, answered, asks_for, begins, by_place, by_weight, can_be_tried, clears, draws, fails, goes_on, goes_on_with, left, next, question_for, question_of, sends, takes, takes_for}
 use Rattle.resolver_trying.specs.Waiting.{Waiting, in_order, waiting_order}
-use Rattle.resolver_fetch.proofs.OneOf.{found-among}
+use Rattle.resolver_trying.proofs.OneOf.{found-among}
 use Rattle.resolver_peer.specs.Parties.{Parties, orders_of}
 use Rattle.resolver_peer.specs.PeerRows.{Row, Phase, Waits, Asked, Judged, request_of, waiting_in, waiting_of}
 use Rattle.resolver_peer.specs.Peer.{Machine, question, snapshot}

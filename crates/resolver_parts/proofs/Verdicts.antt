@@ -24,7 +24,7 @@ use Rattle.resolver_demand.specs.declared.delivery.entry.Open.{Open as Begun}
 use Rattle.resolver_demand.specs.declared.delivery.entry.Response.{Response}
 use Rattle.resolver_demand.specs.Entries.{Numbered, changed, changed_at, completed, completed_from, completion, completion_of, ended, is_live, is_number, number_of}
 use Rattle.resolver_demand.specs.Entries as entries
-use Rattle.resolver_fetch.specs.Fetcher.{Fetcher}
+use Rattle.resolver_trying.specs.Fetcher.{Fetcher}
 use Rattle.resolver_machine.specs.Verdicts.{ruling}
 use Rattle.resolver_machine.proofs.Mapped.{remove_entry-seen, set_value-seen}
 use Rattle.resolver_peer.specs.declared.named.Source.{Source}

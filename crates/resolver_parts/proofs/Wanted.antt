@@ -15,8 +15,8 @@ use Rattle.resolver_root.specs.Table.{asked_one}
 use Rattle.resolver_root.specs.Table as tables
 use Rattle.resolver_demand.specs.Entries.{fresh, inserted}
 use Rattle.resolver_asked.specs.Requests.{by_id, is_asked}
-use Rattle.resolver_fetch.specs.Fetcher as fetchers
-use Rattle.resolver_fetch.specs.Fetcher.{Fetcher, unless_over}
+use Rattle.resolver_trying.specs.Fetcher as fetchers
+use Rattle.resolver_trying.specs.Fetcher.{Fetcher, unless_over}
 use Rattle.resolver_trying.specs.Peers.{with_targets}
 use Rattle.resolver_trying.specs.Waiting.{fresh_at, place_order}
 use Rattle.resolver_machine.proofs.Mapped.{insert_entry-seen}
@@ -24,7 +24,7 @@ use Rattle.resolver_peer.specs.Parties.{Parties, names_of, orders_of}
 use Rattle.resolver_peer.specs.PeerRows.{Row, Waits, change_entry, request_of}
 use Rattle.resolver_peer.specs.Peer.{Item, Machine, fetch, fetch_one, is_key, row_of, targets_with, waiter_with}
 use Rattle.resolver_parts.specs.declared.parts.Parts.{Parts}
-use Rattle.resolver_acts.specs.Aiming.{aimed, readied}
+use Rattle.resolver_parts.specs.Aiming.{aimed, readied}
 use Rattle.resolver_parts.specs.Tied.{Agrees, AreOwn, IsSound, demand_of, fetcher_of, held_of, holds_in, holds_of, open_of, place_of, retries_in, same_id, sorted, targets_in}
 use Rattle.resolver_parts.proofs.Places.{apart-places-first, apart-places-last, demand-at, holds-at, idle-asked, idle-waiting, none-asked, own-after, own-before, own-here, own-slot, requests-at, retries-at, targets-at, waiting-at}
 use Rattle.resolver_parts.proofs.Queues.{put-waits}

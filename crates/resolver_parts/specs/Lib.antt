@@ -1,3 +1,4 @@
+pub mod Aiming
 pub mod Answering
 pub mod EngineSteps
 pub mod Going

@@ -11,7 +11,7 @@ use Rattle.resolver_demand.specs.declared.delivery.entry.Entry.{Entry}
 use Rattle.resolver_demand.specs.declared.delivery.entry.Open.{Open as Begun}
 use Rattle.resolver_demand.specs.declared.delivery.entry.Response.{Response}
 use Rattle.resolver_trying.specs.declared.place.Place.{Place}
-use Rattle.resolver_fetch.specs.Fetcher.{AsksNewId, Fetcher, unless_over}
+use Rattle.resolver_trying.specs.Fetcher.{AsksNewId, Fetcher, unless_over}
 use Rattle.resolver_trying.specs.Waiting.{place_order}
 use Rattle.resolver_asked.specs.Requests.{by_id}
 use Rattle.resolver_peer.specs.declared.named.Source.{Source}

@@ -5,7 +5,7 @@ ghost use Rattle.std.specs.Option.{option_and_then};
 ghost use Rattle.resolver_demand.specs.Entries.{delivered, is_tracked, number_of};
 ghost use Rattle.resolver_peer.specs.Parties.{parties};
 ghost use Rattle.resolver_peer.specs.Peer.{Machine, answered, responds, row_of};
-ghost use Rattle.resolver_acts.specs.Again.{IsRefusal};
+ghost use Rattle.resolver_peer.specs.Again.{IsRefusal};
 ghost use Rattle.resolver_parts.specs.Going.{Goes, IsTied};
 ghost use Rattle.resolver_parts.specs.Said.{Codec};
 ghost use Rattle.resolver_parts.specs.Tied.{Agrees};
@@ -13,12 +13,13 @@ ghost use Rattle.resolver_peer.specs.declared.effects.Effect.TheVariants.{Delive
 
 use crate::parts::Parts;
 use bytes::Bytes;
-use resolver_acts::handing::copies;
-use resolver_acts::inflight::Inflight;
 use resolver_base::base::Fault;
-use resolver_fetch::fetcher::{Request, elapsed_since};
+use resolver_fetch::fetcher::Request;
 use resolver_peer::effects::Effect;
+use resolver_peer::handing::copies;
+use resolver_peer::inflight::Inflight;
 use resolver_peer::named::Source;
+use resolver_request::score::elapsed_since;
 use resolver_root::Delivery;
 
 impl<K: Ord + Clone + Drop, P: Ord + Clone + Drop, S: Ord + Clone + Drop> Parts<K, P, S> {

@@ -8,11 +8,11 @@ ghost use Rattle.resolver_parts.specs.Going.{IsTied};
 ghost use Rattle.resolver_parts.specs.Said.{item_of};
 ghost use Rattle.resolver_parts.specs.Tied.{Agrees};
 
+use crate::aiming::{aim, ready};
 use crate::parts::Parts;
-use resolver_acts::aiming::{aim, ready};
-use resolver_acts::inflight::Start;
 use resolver_base::base::Fault;
 use resolver_ingress::ingress::FetchKey;
+use resolver_peer::inflight::Start;
 use resolver_root::NonEmptyVec;
 
 /// A key to fetch, who wants it, and the peers that may be asked, if not any.

@@ -6,6 +6,7 @@
 #![tactic(auto)]
 
 mod advancing;
+mod aiming;
 mod answering;
 mod failing;
 mod fetching;

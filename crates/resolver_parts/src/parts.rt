@@ -2,17 +2,17 @@
 
 ghost use Rattle.std.specs.Prelude.{◌≡◌, None, false, is_some, IfErr, OnOk};
 ghost use Rattle.resolver_base.specs.declared.base.fault.Fault.TheVariants.{OutOfMemory};
-ghost use Rattle.resolver_fetch.specs.Fetcher.{IsTimely};
+ghost use Rattle.resolver_trying.specs.Fetcher.{IsTimely};
 ghost use Rattle.resolver_peer.specs.Parties.{parties};
 ghost use Rattle.resolver_peer.specs.Peer.{Machine, opening, peer_set, block};
 ghost use Rattle.resolver_parts.specs.Tied.{Agrees};
 
-use resolver_acts::inflight::Inflight;
-use resolver_acts::serving::OpenServe;
 use resolver_base::base::{Fault, Numbers};
 use resolver_demand::delivery::Entries;
 use resolver_demand::subscribers::Tracker;
 use resolver_fetch::fetcher::{Config, Fetcher};
+use resolver_peer::inflight::Inflight;
+use resolver_peer::serving::OpenServe;
 use std::alloc::Global;
 use std::collections::BTreeMap;
 

@@ -1,6 +1,11 @@
 //! What is no longer wanted: subscribers that a predicate doesn't keep, or all of them.
 
 ghost use Rattle.std.specs.Prelude.{◌≡◌, Some, false, is_some};
+ghost use Rattle.resolver_demand.specs.Entries.{retained};
+ghost use Rattle.resolver_root.specs.Names.{names};
+ghost use Rattle.resolver_root.specs.Table.{is_asked};
+ghost use Rattle.resolver_trying.specs.Fetcher as calls;
+ghost use Rattle.resolver_trying.specs.Orders.{orders};
 ghost use Rattle.resolver_peer.specs.Parties.{parties};
 ghost use Rattle.resolver_peer.specs.Peer.{Machine, end, retain};
 ghost use Rattle.resolver_parts.specs.Going.{Goes};
@@ -8,9 +13,12 @@ ghost use Rattle.resolver_parts.specs.Said.{codec};
 ghost use Rattle.resolver_parts.specs.Tied.{Agrees};
 
 use crate::parts::Parts;
-use resolver_acts::canceling::{cancel_all, cancel_each, forget};
 use resolver_base::base::{Fault, Span};
+use resolver_demand::subscribers::Tracker;
+use resolver_fetch::fetcher::Fetcher;
+use resolver_peer::canceling::{cancel_all, cancel_each};
 use resolver_peer::effects::Effect;
+use resolver_peer::inflight::Inflight;
 use resolver_root::Predicate;
 
 impl<K: Span + Drop, P: Ord + Drop, S: Ord + Drop> Parts<K, P, S> {
@@ -48,4 +56,19 @@ impl<K: Span + Drop, P: Ord + Drop, S: Ord + Drop> Parts<K, P, S> {
         self.serves.clear();
         Ok(())
     }
+}
+
+/// Lets the keys go that nobody wants.
+fn forget<K: Ord + Drop, P: Ord + Drop, S: Ord + Drop>(
+    demand: &Tracker<K, S>,
+    entries: &mut Inflight<K, P, S>,
+    fetcher: &mut Fetcher<K, P>,
+)
+    requires closed { is_some fetcher.old.scan ≡ false }
+    ensures entries { entries.new ≡ retained (is_asked (names K.cmp S.cmp) demand.now) entries.old }
+    ensures fetcher { fetcher.new ≡ calls.retain (orders K.cmp P.cmp)
+        (is_asked (names K.cmp S.cmp) demand.now) fetcher.old }
+{
+    entries.retain(|key| demand.contains(key));
+    fetcher.retain(|key| demand.contains(key));
 }

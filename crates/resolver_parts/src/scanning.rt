@@ -11,9 +11,9 @@ ghost use Rattle.resolver_parts.specs.Said.{codec};
 ghost use Rattle.resolver_parts.specs.Tied.{Agrees};
 
 use crate::parts::Parts;
-use resolver_acts::asking::tell_asked;
 use resolver_base::base::{Fault, Span};
 use resolver_fetch::fetcher::Answer;
+use resolver_peer::asking::tell_asked;
 use resolver_peer::effects::Effect;
 
 impl<K: Ord + Drop, P: Ord + Drop, S: Ord + Drop> Parts<K, P, S> {

@@ -11,10 +11,10 @@ ghost use Rattle.resolver_parts.specs.Tied.{Agrees};
 
 use crate::parts::Parts;
 use bytes::Bytes;
-use resolver_acts::serving::{OpenServe, reply};
 use resolver_base::base::{Fault, Span};
 use resolver_peer::effects::Effect;
 use resolver_peer::named::Serve;
+use resolver_peer::serving::{OpenServe, reply};
 
 impl<K: Span + Drop, P: Ord + Drop, S: Ord + Drop> Parts<K, P, S> {
     /// Hands a peer's request to the producer, under the next number. There is none once

@@ -23,8 +23,8 @@ use Rattle.resolver_trying.specs.declared.trail.Expected.{Expected}
 use Rattle.resolver_trying.specs.declared.trail.Expected.TheVariants.{Mode, ByWeight, ByPlace, Checking, FirstId, Sending}
 use Rattle.resolver_trying.specs.Scan.{Scan, Turn, can_be_tried, goes_on_with, is_over, next, question_of, succeeds, takes, takes_for}
 use Rattle.resolver_trying.specs.Waiting.{Waiting, in_order, once_more, retry_at, waiting_order}
-use Rattle.resolver_fetch.specs.FetcherLaws.{IsAmong}
-use Rattle.resolver_fetch.proofs.OneOf.{found-among}
+use Rattle.resolver_trying.specs.FetcherLaws.{IsAmong}
+use Rattle.resolver_trying.proofs.OneOf.{found-among}
 use Rattle.resolver_machine.specs.declared.ruling.Ruling.{Ruling}
 use Rattle.resolver_machine.specs.declared.ruling.Ruling.TheVariants as rulings
 use Rattle.resolver_machine.specs.Verdicts.{ruling}

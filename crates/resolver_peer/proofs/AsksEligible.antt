@@ -20,9 +20,9 @@ use Rattle.resolver_request.specs.declared.wire.Payload.TheVariants as payloads
 use Rattle.resolver_machine.specs.declared.ruling.Ruling.{Ruling}
 use Rattle.resolver_machine.specs.declared.ruling.Ruling.TheVariants as rulings
 use Rattle.resolver_machine.specs.Verdicts.{ruling}
-use Rattle.resolver_fetch.specs.FetcherLaws.{AllAre, IsAmong, IsOnce}
-use Rattle.resolver_fetch.proofs.OneOf.{IsOneOf, among-filter, found-among}
-use Rattle.resolver_fetch.proofs.Trails.{IsFine, IsFineAfter, IsFineTurn, IsSoundAt, begins-fine, grows-once, takes-fine}
+use Rattle.resolver_trying.specs.FetcherLaws.{AllAre, IsAmong, IsOnce}
+use Rattle.resolver_trying.proofs.OneOf.{IsOneOf, among-filter, found-among}
+use Rattle.resolver_trying.proofs.Trails.{IsFine, IsFineAfter, IsFineTurn, IsSoundAt, begins-fine, grows-once, takes-fine}
 use Rattle.resolver_peer.specs.Parties.{Parties, orders_of}
 use Rattle.resolver_peer.specs.PeerRows.{Row, Phase, Waits, Asked, Judged}
 use Rattle.resolver_peer.specs.declared.named.Serve.{Serve}

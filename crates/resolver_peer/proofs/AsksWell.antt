@@ -2,7 +2,7 @@
 use Rattle.std.proofs.Common.{◌≡◌, ◌≢◌, ap, sym, ◌∙◌, subst, List, [], ◌∷◌, Result, Ok, Err}
 use Rattle.resolver_base.specs.declared.base.fault.Fault.{Fault}
 use Rattle.resolver_base.specs.declared.base.fault.Fault.TheVariants as faults
-use Rattle.resolver_fetch.specs.FetcherLaws.{AllAre}
+use Rattle.resolver_trying.specs.FetcherLaws.{AllAre}
 use Rattle.resolver_peer.specs.Parties.{Parties}
 use Rattle.resolver_peer.specs.Peer.{Machine, Effect, Failed, step}
 use Rattle.resolver_peer.specs.PeerRun.{Fed, effects_of}

@@ -19,7 +19,7 @@ use Rattle.resolver_trying.specs.declared.trail.Expected.TheVariants.{Mode, ByWe
 use Rattle.resolver_trying.specs.declared.trail.Reason.TheVariants.{Limited, Refused}
 use Rattle.resolver_trying.specs.Waiting.{Waiting}
 use Rattle.resolver_trying.specs.Scan.{Scan, Turn, answered, asks_for, begins, by_place, by_weight, clears, draws, goes_on_with, is_over, left, next, question_of, sends, takes, takes_for}
-use Rattle.resolver_fetch.specs.FetcherLaws.{AllAre}
+use Rattle.resolver_trying.specs.FetcherLaws.{AllAre}
 use Rattle.resolver_peer.specs.Parties.{Parties, orders_of}
 use Rattle.resolver_peer.specs.PeerRows.{Row, Phase, request_in, request_of}
 use Rattle.resolver_peer.specs.Peer.{Machine, Done, Effect, Ask, Deliver, Cancel, Produce, Reply, Credit, Block, Status, Running, Ended, Failed, Input, Happens, Answers, and_then, snapshot, turned, with_sent, does, is_due, wake_up, scanned_if, scanned, step_of, answer_of, step_running, step_in, step, opening}

@@ -15,7 +15,7 @@ use Rattle.std.specs.declared.cmp.Ordering.TheVariants.{Less, Equal, Greater}
 use Rattle.resolver_priorities.proofs.Ordered.{above-less}
 use Rattle.resolver_trying.specs.declared.place.Place.{Place}
 use Rattle.resolver_trying.specs.Waiting.{Waiting, in_order, place_order, waiting_order}
-use Rattle.resolver_fetch.specs.FetcherLaws.{IsAmong}
+use Rattle.resolver_trying.specs.FetcherLaws.{IsAmong}
 use Rattle.resolver_peer.specs.Parties.{Parties, orders_of}
 use Rattle.resolver_peer.specs.Peer.{is_key}
 use Rattle.resolver_peer.specs.PeerRows.{Row, Phase, Waits, Asked, Judged, change_entry, waiting_in, waiting_of}

@@ -17,3 +17,5 @@ pub mod AskedOnce
 pub mod PeerRunLaws
 pub mod IdsAreNew
 pub mod StaysAwake
+pub mod Refusals
+pub mod Cached

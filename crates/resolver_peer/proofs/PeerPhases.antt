@@ -15,7 +15,7 @@ use Rattle.resolver_request.specs.Times.{elapsed_since}
 use Rattle.resolver_request.specs.declared.wire.Payload.{Payload}
 use Rattle.resolver_request.specs.declared.wire.Payload.TheVariants as payloads
 use Rattle.resolver_trying.specs.Waiting.{fresh_at, retry_at}
-use Rattle.resolver_fetch.specs.FetcherLaws.{AllAre}
+use Rattle.resolver_trying.specs.FetcherLaws.{AllAre}
 use Rattle.resolver_machine.specs.declared.ruling.Ruling.{Ruling}
 use Rattle.resolver_machine.specs.declared.ruling.Ruling.TheVariants as rulings
 use Rattle.resolver_machine.specs.Verdicts.{ruling}

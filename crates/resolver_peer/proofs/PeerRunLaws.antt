@@ -4,7 +4,7 @@ use Rattle.std.specs.Prelude.{MatchBool, ⊤}
 use Rattle.std.specs.Cmp.{IsTotalOrder}
 use Rattle.resolver_base.specs.declared.base.fault.Fault.{Fault}
 use Rattle.resolver_base.specs.declared.base.fault.Fault.TheVariants as faults
-use Rattle.resolver_fetch.specs.FetcherLaws.{AllAre}
+use Rattle.resolver_trying.specs.FetcherLaws.{AllAre}
 use Rattle.resolver_peer.specs.Parties.{Parties}
 use Rattle.resolver_machine.specs.Steps.{Runs, Takes, stops}
 use Rattle.resolver_peer.specs.Peer.{Machine, Effect, Failed}

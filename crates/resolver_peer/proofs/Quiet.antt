@@ -16,10 +16,10 @@ use Rattle.resolver_trying.specs.Waiting.{Waiting}
 use Rattle.resolver_trying.specs.Snapshot.{Snapshot, eligible}
 use Rattle.resolver_trying.specs.Scan as scans
 use Rattle.resolver_trying.specs.Scan.{Scan, Turn, answered, asks_for, begins, by_place, by_weight, clears, draws, ends, goes_on, goes_on_with, least, left, next, next_due, sends, takes, takes_for, trail_moment, waiter_of, was_tried}
-use Rattle.resolver_fetch.specs.FetcherLaws.{AllAre, HasTriedAll, IsAmong, IsInVain, IsLaterIfAny}
-use Rattle.resolver_fetch.proofs.InVain.{goes-on, takes-in-vain}
-use Rattle.resolver_fetch.proofs.OneOf.{IsOneOf}
-use Rattle.resolver_fetch.proofs.TriesAll.{tries_all}
+use Rattle.resolver_trying.specs.FetcherLaws.{AllAre, HasTriedAll, IsAmong, IsInVain, IsLaterIfAny}
+use Rattle.resolver_trying.proofs.InVain.{goes-on, takes-in-vain}
+use Rattle.resolver_trying.proofs.OneOf.{IsOneOf}
+use Rattle.resolver_trying.proofs.TriesAll.{tries_all}
 use Rattle.resolver_peer.specs.Parties.{Parties, orders_of}
 use Rattle.resolver_peer.specs.Peer.{Machine, is_due, snapshot, turned}
 use Rattle.resolver_peer.specs.PeerAwake.{can_be_tried}

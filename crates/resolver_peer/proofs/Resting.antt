@@ -16,8 +16,8 @@ use Rattle.resolver_request.specs.declared.wire.Payload.TheVariants as payloads
 use Rattle.resolver_trying.specs.Known.{is_eligible}
 use Rattle.resolver_trying.specs.Snapshot.{eligible, known}
 use Rattle.resolver_trying.specs.Waiting.{Waiting, in_order}
-use Rattle.resolver_fetch.specs.FetcherLaws.{IsAmong}
-use Rattle.resolver_fetch.proofs.OneOf.{IsOneOf}
+use Rattle.resolver_trying.specs.FetcherLaws.{IsAmong}
+use Rattle.resolver_trying.proofs.OneOf.{IsOneOf}
 use Rattle.resolver_machine.specs.declared.ruling.Ruling.{Ruling}
 use Rattle.resolver_machine.specs.declared.ruling.Ruling.TheVariants as rulings
 use Rattle.resolver_machine.specs.Verdicts.{ruling}

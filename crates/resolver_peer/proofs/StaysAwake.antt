@@ -17,7 +17,7 @@ use Rattle.resolver_trying.specs.Waiting as waits
 use Rattle.resolver_trying.specs.Waiting.{Waiting, in_order, waiting_order, place_order}
 use Rattle.resolver_trying.specs.Snapshot.{eligible}
 use Rattle.resolver_trying.specs.Scan.{Scan, Turn, begins, is_over, takes, trail_moment, was_tried}
-use Rattle.resolver_fetch.specs.FetcherLaws.{AllAre, IsAmong}
+use Rattle.resolver_trying.specs.FetcherLaws.{AllAre, IsAmong}
 use Rattle.resolver_peer.specs.Parties.{Parties, orders_of}
 use Rattle.resolver_peer.specs.PeerRows.{Row, Phase, Waits, Asked, Judged, waiting_in, waiting_of}
 use Rattle.resolver_peer.specs.Peer.{Machine, Done, Status, Running, Ended, Failed, Input, Happens, Answers, and_then, snapshot, turned, with_sent, does, is_due, wake_up, scanned_if, scanned, step_of, answer_of, step_running, step_in, step, opening}

@@ -1,7 +1,7 @@
 -- Effects one after another, and a scan that expects nothing.
 use Rattle.std.proofs.Common.{◌≡◌, refl, true, List, [], ◌∷◌, ◌++◌, Option, None, Some}
 use Rattle.std.specs.Prelude.{is_none}
-use Rattle.resolver_fetch.specs.FetcherLaws.{AllAre}
+use Rattle.resolver_trying.specs.FetcherLaws.{AllAre}
 
 module _ {X : Type 0} where
   pub all-append : (Q : X → Type 0) (xs ys : List X) → AllAre Q xs → AllAre Q ys → AllAre Q (xs ++ ys)

@@ -10,3 +10,5 @@ pub mod PeerAwake
 pub mod PeerLaws
 pub mod PeerDemandRows
 pub mod PeerRunLaws
+pub mod Again
+pub mod Canceled

@@ -11,7 +11,7 @@ use Rattle.resolver_asked.specs.Ids.{is_held}
 use Rattle.resolver_trying.specs.declared.scan.Answer.TheVariants.{Sent}
 use Rattle.resolver_trying.specs.Waiting.{Waiting, once_more, retry_at}
 use Rattle.resolver_trying.specs.Snapshot.{eligible}
-use Rattle.resolver_fetch.specs.FetcherLaws.{AllAre, IsAmong, IsOnce}
+use Rattle.resolver_trying.specs.FetcherLaws.{AllAre, IsAmong, IsOnce}
 use Rattle.resolver_machine.specs.Account.{Change, Handed, pairs, nothing_asked, account_of}
 use Rattle.resolver_machine.specs.Lawful.{Each, IsLawful}
 use Rattle.resolver_peer.specs.Parties.{Parties, names_of, orders_of}

@@ -2,7 +2,7 @@
 use Rattle.std.specs.Prelude.{◌≡◌, ◌<◌, ◌^◌, Bool, false, List, [], ◌∷◌, length, Result, ⊤}
 use Rattle.resolver_base.specs.declared.base.fault.Fault.{Fault}
 use Rattle.resolver_trying.specs.declared.config.Config.{Config}
-use Rattle.resolver_fetch.specs.FetcherLaws.{AllAre}
+use Rattle.resolver_trying.specs.FetcherLaws.{AllAre}
 use Rattle.resolver_peer.specs.Parties.{Parties}
 use Rattle.resolver_machine.specs.Steps as steps
 use Rattle.resolver_machine.specs.Steps.{stops}

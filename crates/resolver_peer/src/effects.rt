@@ -2,8 +2,8 @@
 
 use crate::named::Source;
 use bytes::Bytes;
-use resolver_fetch::fetcher::Ask;
 use resolver_root::Delivery;
+use resolver_trying::scan::Ask;
 
 /// What the engine wants done. A response goes by the number of the first delivery that carried it.
 #[derive(Debug, Drop)]

@@ -3,9 +3,9 @@
 ghost use Rattle.std.specs.Prelude.{◌<◌, ◌^◌};
 
 use bytes::Bytes;
-use resolver_fetch::fetcher::Answer;
 use resolver_ingress::ingress::FetchKey;
 use resolver_root::{NonEmptyVec, Outcome};
+use resolver_trying::scan::Answer;
 
 /// What happens around the engine.
 #[derive(Debug, Drop)]

@@ -5,6 +5,7 @@
 ghost use Rattle.std.specs.Prelude.{◌≡◌, ◌≤◌, ◌-◌, ◌^◌};
 ghost use Rattle.resolver_request.specs.declared.score.Averages.TheVariants.{Unobserved};
 ghost use Rattle.resolver_request.specs.Scores.{Observation, averaged, weight_of};
+ghost use Rattle.resolver_request.specs.Times.{elapsed_since};
 
 use std::marker::Model;
 
@@ -92,4 +93,13 @@ impl Score {
             }
         }
     }
+}
+
+/// How many nanoseconds ago something began, at most `DURATION_MAX`; nothing where the clock went
+/// back.
+#[inline]
+pub fn elapsed_since(start: u128, now: u128) -> u128
+    ensures { result ≡ elapsed_since start now }
+{
+    now.saturating_sub(start).min(DURATION_MAX)
 }

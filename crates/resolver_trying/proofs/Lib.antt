@@ -3,3 +3,11 @@ pub mod Outcomes
 pub mod Tried
 pub mod Pools
 pub mod Searched
+pub mod OneOf
+pub mod Trails
+pub mod InVain
+pub mod TriesAll
+pub mod TriesPairs
+pub mod WakesLater
+pub mod NeedsPairs
+pub mod ChoosesBelow

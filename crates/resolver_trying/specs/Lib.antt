@@ -8,3 +8,5 @@ pub mod Tried
 pub mod Trying
 pub mod Steps
 pub mod Pools
+pub mod Fetcher
+pub mod FetcherLaws

@@ -5,14 +5,14 @@ ghost use Rattle.std.specs.List.{IsDistinct};
 ghost use Rattle.std.specs.List.Sorted.{IsStrictlySortedBy};
 ghost use Rattle.std.specs.Ordering.{is_eq};
 ghost use Rattle.resolver_base.specs.declared.base.fault.Fault.TheVariants.{OutOfMemory};
-ghost use Rattle.resolver_fetch.specs.Fetcher.{IsTimely};
+ghost use Rattle.resolver_trying.specs.Fetcher.{IsTimely};
 ghost use Rattle.resolver_peer.specs.Parties.{parties};
 ghost use Rattle.resolver_peer.specs.Peer as machines;
 ghost use Rattle.resolver_peer.specs.Peer.{Machine, active_deadline, opening, wake_up};
-ghost use Rattle.resolver_engine.specs.EngineLaws.{RunsWell};
+ghost use Rattle.resolver.specs.EngineLaws.{RunsWell};
 ghost use Rattle.resolver_parts.specs.EngineSteps.{Takes, all_fed};
-ghost use Rattle.resolver_engine.specs.Listed.{listed};
-ghost use Rattle.resolver_engine.specs.Matching.{Matches};
+ghost use Rattle.resolver.specs.Listed.{listed};
+ghost use Rattle.resolver.specs.Matching.{Matches};
 ghost use Rattle.resolver_parts.specs.Said.{answer_of, codec, fed_of};
 ghost use Rattle.resolver_parts.specs.Tied.{fetcher_of};
 ghost use Rattle.resolver.specs.Configured.{fetching};
@@ -22,18 +22,18 @@ use crate::p2p::config::Config;
 use crate::p2p::hands::Hands;
 use crate::p2p::looping::Loop;
 use crate::p2p::mail::Mail;
+use crate::p2p::rows::Row;
+use crate::p2p::stepping::Core;
 use bytes::Bytes;
 use resolver_asking::mailbox::Mailbox;
 use resolver_base::base::{Draws, Faithful, Fault, PublicKey, Sender, Span};
-use resolver_engine::effects::Effect;
-use resolver_engine::engine::Core;
-use resolver_engine::inputs::Input;
-use resolver_engine::rows::Row;
 use resolver_fetch::fetcher;
 use resolver_loop::{Blocker, Clock, Consumer, Peers, Producer, Provider, Receiver};
 use resolver_mailbox::mailbox;
 use resolver_mailbox::mailbox::Unrecorded;
 use resolver_metrics::metrics::Metrics;
+use resolver_peer::effects::Effect;
+use resolver_peer::inputs::Input;
 use resolver_root::Predicate;
 use std::alloc::Global;
 use std::hash::Hash;
@@ -93,7 +93,7 @@ impl<
 
 impl<P: Ord + Faithful + Drop, D, B, K: Ord + Hash, S: Ord, C, O, Q: Predicate<K, S>, R> Model
     for Engine<P, D, B, K, S, C, O, Q, R> {
-    ghost use Rattle.resolver_engine.specs.Matching as matching;
+    ghost use Rattle.resolver.specs.Matching as matching;
 
     ghost Value = { matching.Engine K S P };
 

@@ -8,10 +8,10 @@ use crate::p2p::asking::Asking;
 use bytes::Bytes;
 use futures::task::{Context, Poll};
 use resolver_base::base::{Draws, Faithful, Fault, PublicKey, Sender, Span};
-use resolver_engine::effects::Effect;
-use resolver_engine::inputs::Event;
 use resolver_fetch::fetcher::Answer;
 use resolver_loop::{Blocker, Consumer, Judging, Peers, Producer, Provider, Serving};
+use resolver_peer::effects::Effect;
+use resolver_peer::inputs::Event;
 use std::alloc::Global;
 
 /// What an engine's effects go to: the sources of peers, the consumer, the producer, and the way to

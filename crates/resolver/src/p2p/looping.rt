@@ -5,16 +5,16 @@ ghost use Rattle.futures.specs.Task.{IsArmed, Keeps};
 
 use crate::p2p::hands::Hands;
 use crate::p2p::mail::{Mail, poll_mail};
+use crate::p2p::stepping::Core;
 use bytes::Bytes;
 use futures::Future;
 use futures::task::{Context, Poll};
 use resolver_base::base::{Draws, Faithful, PublicKey, Sender, Span};
-use resolver_engine::engine::Core;
-use resolver_engine::inputs::{Event, Happening, Input};
 use resolver_loop::{
     Blocker, Clock, Consumer, Ending, Producer, Provider, Receiver, TURNS, Turn, earlier,
     poll_moment,
 };
+use resolver_peer::inputs::{Event, Happening, Input};
 use resolver_root::Predicate;
 use std::hash::Hash;
 use std::sync::Wait;

@@ -2,7 +2,7 @@
 
 ghost use Rattle.std.specs.Prelude.{◌≡◌, ◌<◌, ◌^◌, false, Some, None, is_some, IfErr, IfOk, OnErr, OnOk};
 ghost use Rattle.resolver_base.specs.declared.base.fault.Fault.TheVariants.{OutOfMemory};
-ghost use Rattle.resolver_fetch.specs.Fetcher.{question};
+ghost use Rattle.resolver_trying.specs.Fetcher.{question};
 ghost use Rattle.resolver_fetch.specs.Fetching.{Fetches, GoesOn, MaySay, Says, Stops, TakesOne, Wants, given_up, lent, outside, request_of};
 ghost use Rattle.resolver_trying.specs.Orders.{orders};
 ghost use Rattle.resolver_fetch.specs.Progress.{Fits, IsAnswerable, IsSound, Keeps, answers_left};

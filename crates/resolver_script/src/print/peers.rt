@@ -4,10 +4,10 @@ use crate::peer::Peer;
 use crate::print::{
     Lined, bytes, deliver, demand, line_of_number, line_of_numbers, word_and_number,
 };
-use resolver_engine::effects::Effect;
-use resolver_engine::rows::{Phase, Row};
+use resolver::p2p::rows::{Phase, Row};
 use resolver_fetch::fetcher::Ask;
 use resolver_mailbox::mocks::Key;
+use resolver_peer::effects::Effect;
 use resolver_peer::named::Source;
 use std::io;
 use std::io::Write;

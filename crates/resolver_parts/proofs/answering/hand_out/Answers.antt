@@ -1,5 +1,5 @@
 use Rattle.std.proofs.Common.{◌∙◌, ap, refl, subst, ◌<◌, ◌^◌, rules}
-use Rattle.resolver_acts.proofs.Refusals.{refused, refused-as, refusal-is}
+use Rattle.resolver_peer.proofs.Refusals.{refused, refused-as, refusal-is}
 use Rattle.resolver_parts.proofs.answering.hand_out.Goals as goal
 
 pub deliver-requires-clause-contexts_clone : goal.deliver-requires-clause-contexts_clone

@@ -1,5 +1,5 @@
 use Rattle.std.proofs.Common.{◌∙◌, refl, sym, append-nil}
-use Rattle.resolver_acts.proofs.Refusals.{refused, refused-as}
+use Rattle.resolver_peer.proofs.Refusals.{refused, refused-as}
 use Rattle.resolver_parts.proofs.judging.account.Goals as goal
 
 pub returns-then-accepted-clause-told : goal.returns-then-accepted-clause-told

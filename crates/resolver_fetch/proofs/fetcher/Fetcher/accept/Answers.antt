@@ -1,6 +1,6 @@
 use Rattle.std.proofs.Common.{ap, ◌∙◌, ◌+◌, is_some}
 use Rattle.resolver_asked.specs.declared.requests.request.Request.{Request}
-use Rattle.resolver_fetch.specs.Fetcher.{Fetcher}
+use Rattle.resolver_trying.specs.Fetcher.{Fetcher}
 use Rattle.resolver_trying.specs.Orders.{orders}
 use Rattle.resolver_trying.specs.Trying.{Trying}
 use Rattle.resolver_trying.specs.declared.step.Step.TheVariants.{Accept}

@@ -5,7 +5,7 @@ use Rattle.resolver_trying.specs.Orders.{orders}
 use Rattle.resolver_trying.specs.Scan.{clears}
 use Rattle.resolver_trying.proofs.Outcomes.{onto-ok}
 use Rattle.resolver_fetch.specs.Cursor.{scan_of}
-use Rattle.resolver_fetch.specs.Fetcher.{Fetcher, snapshot, turned}
+use Rattle.resolver_trying.specs.Fetcher.{Fetcher, snapshot, turned}
 use Rattle.resolver_fetch.specs.Stepping.{expecting}
 use Rattle.resolver_fetch.proofs.fetcher.Fetcher.clear_to_send.Goals as goal
 

@@ -1,5 +1,5 @@
 use Rattle.std.proofs.Common.{◌≡◌}
-use Rattle.resolver_fetch.specs.Fetcher.{question}
+use Rattle.resolver_trying.specs.Fetcher.{question}
 use Rattle.resolver_fetch.specs.Fetching.{GoesOn, lent, outside}
 use Rattle.resolver_trying.specs.Orders.{orders}
 use Rattle.resolver_fetch.specs.Progress.{IsSound, Keeps, answers_left}

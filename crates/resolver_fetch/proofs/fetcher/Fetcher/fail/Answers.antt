@@ -2,7 +2,7 @@ use Rattle.std.proofs.Common.{refl, ap, ◌∙◌, sym, ◌<◌, [], ◌∷◌, 
 use Rattle.std.proofs.lemmas.Bool.{eqb-true, eqb-false}
 use Rattle.resolver_trying.specs.declared.trail.Try.{Try}
 use Rattle.resolver_fetch.specs.Cursor.{opened}
-use Rattle.resolver_fetch.specs.Fetcher.{snapshot}
+use Rattle.resolver_trying.specs.Fetcher.{snapshot}
 use Rattle.resolver_trying.specs.Orders.{orders}
 use Rattle.resolver_trying.specs.Trying.{apart_from}
 use Rattle.resolver_fetch.proofs.Continues.{goes-on-with-key}

@@ -1,7 +1,7 @@
 use Rattle.std.proofs.Common.{refl, ap, sym, ◌∙◌}
 use Rattle.std.proofs.lemmas.Result.{IfOk-weaker}
 use Rattle.resolver_trying.specs.Orders.{orders}
-use Rattle.resolver_fetch.specs.Fetcher.{question}
+use Rattle.resolver_trying.specs.Fetcher.{question}
 use Rattle.resolver_trying.proofs.Outcomes.{if-both}
 use Rattle.resolver_fetch.proofs.fetcher.Fetcher.go.Goals as goal
 

@@ -2,7 +2,7 @@ use Rattle.std.proofs.Common.{◌≡◌, ◌+◌, ◌∷◌, ◌∙◌, ap, sym,
 use Rattle.resolver_fetch.specs.Left.{pool_for, whole_for}
 use Rattle.resolver_trying.specs.Orders.{orders}
 use Rattle.resolver_trying.specs.Pools.{Pool}
-use Rattle.resolver_fetch.specs.Fetcher.{snapshot, targets_of}
+use Rattle.resolver_trying.specs.Fetcher.{snapshot, targets_of}
 use Rattle.resolver_trying.specs.Snapshot.{eligible}
 use Rattle.resolver_trying.proofs.Outcomes.{refused, refused-as}
 use Rattle.resolver_fetch.proofs.Weighing.{drop-all, drop-first, untried, untried-left, untried-more, untried-none}

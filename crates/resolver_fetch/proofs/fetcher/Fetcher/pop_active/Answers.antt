@@ -1,7 +1,7 @@
 use Rattle.std.proofs.Common.{ap, sym, ◌∙◌, is_some, rules}
 use Rattle.resolver_asked.specs.Requests.{IsTaken}
 use Rattle.resolver_trying.specs.Orders.{orders}
-use Rattle.resolver_fetch.specs.Fetcher.{Fetcher, pop_active}
+use Rattle.resolver_trying.specs.Fetcher.{Fetcher, pop_active}
 use Rattle.resolver_fetch.proofs.Kept.{active-none, active-popped, closed-any, kept-taken}
 use Rattle.resolver_fetch.proofs.Phases.{idle-then}
 use Rattle.resolver_fetch.proofs.fetcher.Fetcher.pop_active.Goals as goal

@@ -1,6 +1,6 @@
 use Rattle.std.proofs.Common.{ap, ◌∙◌, is_some, rules}
 use Rattle.resolver_asked.specs.Requests.{IsTaken}
-use Rattle.resolver_fetch.specs.Fetcher.{Fetcher}
+use Rattle.resolver_trying.specs.Fetcher.{Fetcher}
 use Rattle.resolver_fetch.proofs.Kept.{closed-any, kept-taken}
 use Rattle.resolver_fetch.proofs.Phases.{idle-then}
 use Rattle.resolver_fetch.proofs.fetcher.Fetcher.pop_request.Goals as goal

@@ -1,7 +1,7 @@
 use Rattle.std.proofs.Common.{◌≡◌, ◌∙◌, ap, subst, sym, filter, is_some, rules}
 use Rattle.std.proofs.lemmas.Map.Made.{filter_same_pairs}
 use Rattle.std.specs.Fn.{FnReturnsAt}
-use Rattle.resolver_fetch.specs.Fetcher.{Fetcher, retain}
+use Rattle.resolver_trying.specs.Fetcher.{Fetcher, retain}
 use Rattle.resolver_trying.specs.Orders.{orders}
 use Rattle.resolver_waiting.specs.Pending.{with_kept}
 use Rattle.resolver_fetch.proofs.Kept.{closed-any, kept-fewer}

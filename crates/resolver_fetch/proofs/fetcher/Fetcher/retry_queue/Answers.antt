@@ -1,5 +1,5 @@
 use Rattle.std.proofs.Common.{◌≡◌, ap, ◌∙◌}
-use Rattle.resolver_fetch.specs.Fetcher.{Fetcher}
+use Rattle.resolver_trying.specs.Fetcher.{Fetcher}
 use Rattle.resolver_waiting.specs.Queues.{retry_queue}
 use Rattle.resolver_fetch.proofs.fetcher.Fetcher.retry_queue.Goals as goal
 

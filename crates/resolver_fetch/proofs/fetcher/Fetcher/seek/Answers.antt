@@ -1,6 +1,6 @@
 use Rattle.std.proofs.Common.{◌≡◌, refl, ap, sym, ◌∙◌, false, None, rules}
 use Rattle.std.proofs.lemmas.Result.{IfOk-weaker}
-use Rattle.resolver_fetch.specs.Fetcher.{Fetcher}
+use Rattle.resolver_trying.specs.Fetcher.{Fetcher}
 use Rattle.resolver_trying.specs.Orders.{orders}
 use Rattle.resolver_waiting.specs.Queues.{IsQueued, fresh_queue, placed}
 use Rattle.resolver_fetch.specs.Seeking.{first_until}

@@ -3,7 +3,7 @@ use Rattle.std.proofs.lemmas.Result.{IfOk-weaker}
 use Rattle.std.specs.Ordering.{nat_cmp}
 use Rattle.resolver_priorities.specs.Priorities.{after}
 use Rattle.resolver_trying.specs.declared.place.Place.{Place}
-use Rattle.resolver_fetch.specs.Fetcher.{Fetcher}
+use Rattle.resolver_trying.specs.Fetcher.{Fetcher}
 use Rattle.resolver_trying.specs.Orders.{orders}
 use Rattle.resolver_waiting.specs.Queues.{IsQueued, fresh_queue, placed, retry_queue}
 use Rattle.resolver_fetch.specs.Seeking.{first_until, scan_at, tried_behind}

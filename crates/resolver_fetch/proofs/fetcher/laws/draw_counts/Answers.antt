@@ -1,5 +1,5 @@
 use Rattle.std.proofs.lemmas.Cmp.{eq_by_cmp_equiv}
-use Rattle.resolver_fetch.specs.Fetcher.{snapshot}
+use Rattle.resolver_trying.specs.Fetcher.{snapshot}
 use Rattle.resolver_trying.specs.Orders.{orders}
 use Rattle.resolver_fetch.proofs.DrawCounts.{draw_counts}
 use Rattle.resolver_fetch.proofs.fetcher.laws.draw_counts.Goals as goal

@@ -3,7 +3,7 @@ use Rattle.resolver_peer.specs.Parties.{parties}
 use Rattle.resolver_peer.specs.Peer.{quiet}
 use Rattle.resolver_parts.specs.Said.{codec}
 use Rattle.resolver_parts.proofs.Agreeing.{goes-quiet}
-use Rattle.resolver_acts.proofs.Refusals.{done}
+use Rattle.resolver_peer.proofs.Refusals.{done}
 use Rattle.resolver_parts.proofs.parts.Parts.advance.Goals as goal
 
 pub returns-in-Fetch-clause-goes : goal.returns-in-Fetch-clause-goes

@@ -3,7 +3,7 @@ use Rattle.std.proofs.lemmas.List.{nil_from_length}
 use Rattle.std.specs.Vec.Iter.{into_iter_items}
 use Rattle.resolver_peer.specs.Parties.{parties}
 use Rattle.resolver_parts.specs.Said.{item_of}
-use Rattle.resolver_acts.proofs.Refusals.{refused, refused-as}
+use Rattle.resolver_peer.proofs.Refusals.{refused, refused-as}
 use Rattle.resolver_parts.proofs.Wanted.{Fetches, fetches-all, fetches-closed, fetches-first, fetches-next}
 use Rattle.resolver_parts.proofs.parts.Parts.fetch.Goals as goal
 

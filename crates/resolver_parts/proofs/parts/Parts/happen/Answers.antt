@@ -3,7 +3,7 @@ use Rattle.resolver_peer.specs.Parties.{parties}
 use Rattle.resolver_parts.specs.Said.{codec, event_of}
 use Rattle.resolver_parts.proofs.Agreeing.{agrees-later, closed-over}
 use Rattle.resolver_parts.proofs.Happening.{closed-behind, happened, refused-behind, wanting-behind}
-use Rattle.resolver_acts.proofs.Refusals.{refused-with}
+use Rattle.resolver_peer.proofs.Refusals.{refused-with}
 use Rattle.resolver_parts.proofs.parts.Parts.happen.Goals as goal
 
 pub scan-requires-clause-closed : goal.scan-requires-clause-closed

@@ -3,7 +3,7 @@ use Rattle.resolver_peer.specs.Parties.{parties}
 use Rattle.resolver_parts.specs.Said.{codec}
 use Rattle.resolver_parts.proofs.Fails.{over}
 use Rattle.resolver_parts.proofs.Handed.{answers, answers-goes, at, idle-number, none-goes, row, tracked-here, wanted-here}
-use Rattle.resolver_acts.proofs.Refusals.{refused-with}
+use Rattle.resolver_peer.proofs.Refusals.{refused-with}
 use Rattle.resolver_parts.proofs.parts.Parts.respond.Goals as goal
 
 none-some : {X : Type 0} (x : X) → None ≡ Some x → ⊥

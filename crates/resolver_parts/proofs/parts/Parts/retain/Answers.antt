@@ -2,7 +2,7 @@ use Rattle.std.proofs.Common.{ap, ◌∙◌, refl, ◌++◌}
 use Rattle.resolver_root.specs.Table.{emptied}
 use Rattle.resolver_peer.specs.Parties.{parties}
 use Rattle.resolver_peer.specs.Peer.{retain}
-use Rattle.resolver_acts.specs.Canceled.{each_canceled}
+use Rattle.resolver_peer.specs.Canceled.{each_canceled}
 use Rattle.resolver_parts.specs.Said.{codec}
 use Rattle.resolver_parts.proofs.Retained.{agrees-retained, gone-told, over-closed}
 use Rattle.resolver_parts.proofs.parts.Parts.retain.Goals as goal

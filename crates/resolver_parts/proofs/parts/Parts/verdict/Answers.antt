@@ -8,7 +8,7 @@ use Rattle.resolver_parts.specs.Going.{Goes}
 use Rattle.resolver_parts.specs.Ruled.{Names, earned, paid}
 use Rattle.resolver_parts.proofs.Fails.{over}
 use Rattle.resolver_parts.proofs.Verdicts.{aborted-goes, accounted, dead-goes, handed, live-goes, live-tied, opened, opened-some, paid-closed}
-use Rattle.resolver_acts.proofs.Refusals.{done, refused-with}
+use Rattle.resolver_peer.proofs.Refusals.{done, refused-with}
 use Rattle.resolver_parts.proofs.parts.Parts.verdict.Goals as goal
 
 pub returns-in_default-clause-goes : goal.returns-in_default-clause-goes

@@ -1,3 +1,0 @@
-pub mod Aiming
-pub mod Again
-pub mod Canceled

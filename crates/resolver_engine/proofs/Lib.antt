@@ -1,6 +1,0 @@
-mod Lasting
-mod Running
-mod Stepped
-mod Shown
-mod RunLaws
-mod Settled

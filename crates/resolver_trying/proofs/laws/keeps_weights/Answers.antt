@@ -1,0 +1,6 @@
+use Rattle.resolver_trying.specs.Orders.{orders}
+use Rattle.resolver_trying.proofs.WakesLater.{keeps_weights}
+use Rattle.resolver_trying.proofs.laws.keeps_weights.Goals as goal
+
+pub returns : goal.returns
+returns g c = keeps_weights (orders g.K.Ord.cmp g.P.Ord.cmp)
