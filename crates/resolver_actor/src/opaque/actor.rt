@@ -1,9 +1,10 @@
 //! The actor's machine: inputs, effects, and one step after another.
 
-ghost use Rattle.std.specs.Prelude.{◌≡◌, ◌<◌, ◌^◌, [], None, IfErr, IfOk, IfSome, map};
+ghost use Rattle.std.specs.Prelude.{◌≡◌, ◌<◌, ◌^◌, ◌++◌, ◌∷◌, [], None, IfErr, IfOk, IfSome, OnOk, map};
 ghost use Rattle.std.specs.Map.{keys_of};
 ghost use Rattle.resolver_stages.specs.declared.effects.Effect.TheVariants.{Deliver};
 ghost use Rattle.resolver_machine.specs.Steps.{stops};
+ghost use Rattle.resolver_base.specs.declared.base.fault.Fault.TheVariants.{OutOfMemory};
 
 use resolver_base::base::{Fault, Numbers};
 use resolver_demand::subscribers::Tracker;
@@ -144,13 +145,20 @@ impl<K: Ord + Clone, V: Clone, S: Ord + Clone, Q: Predicate<K, S> + Drop> Actor<
     {
         match self.status {
             Status::Running => {}
-            Status::Ended => return Err(Fault::Ended),
-            Status::Failed => return Err(Fault::Failed),
+            Status::Ended => {
+                drop(input);
+                return Err(Fault::Ended);
+            }
+            Status::Failed => {
+                drop(input);
+                return Err(Fault::Failed);
+            }
         }
         let mut effects = Vec::new(self.alloc);
         match self.advance(input.now, input.event, &mut effects) {
             Ok(()) => Ok(effects),
             Err(fault) => {
+                drop(effects);
                 self.status = Status::Failed;
                 Err(fault)
             }
@@ -296,13 +304,22 @@ impl<K: Ord + Clone, V: Clone, S: Ord + Clone, Q: Predicate<K, S> + Drop> Actor<
             (attached_all S.cmp [] subscribers))
             effects.old.items effects.new.items self.new result }
     {
-        let wanted = key.clone()?;
-        let tracked = key.clone()?;
-        self.demand.insert_new(wanted, subscribers)?;
+        let (wanted, tracked) = match two_copies(&key) {
+            Ok(copies) => copies,
+            Err(fault) => {
+                drop((key, subscribers));
+                return Err(fault);
+            }
+        };
+        if let Err(fault) = self.demand.insert_new(wanted, subscribers) {
+            drop((key, tracked));
+            return Err(fault);
+        }
         match self.stages.ask(tracked) {
-            Ok(attempt) => Ok(effects.push(Effect::Start { attempt, key })?),
+            Ok(attempt) => tell(effects, Effect::Start { attempt, key }),
             Err(fault) => {
                 self.demand.remove(&key);
+                drop(key);
                 Err(fault)
             }
         }
@@ -392,13 +409,15 @@ impl<K: Ord + Clone, V: Clone, S: Ord + Clone, Q: Predicate<K, S> + Drop> Actor<
                 return Err(fault);
             }
         };
-        effects.push(Effect::Deliver {
-            number,
-            response: number,
-            delivery: told,
-            value,
-        })?;
-        Ok(())
+        tell(
+            effects,
+            Effect::Deliver {
+                number,
+                response: number,
+                delivery: told,
+                value,
+            },
+        )
     }
 
     fn verdict(
@@ -489,8 +508,7 @@ impl<K: Ord + Clone, V: Clone, S: Ord + Clone, Q: Predicate<K, S> + Drop> Actor<
                 return Err(fault);
             }
         };
-        effects.push(Effect::Start { attempt, key })?;
-        Ok(())
+        tell(effects, Effect::Start { attempt, key })
     }
 
     fn end(&mut self, effects: &mut Vec<Effect<K, V, S>>) -> Result<(), Fault>
@@ -503,6 +521,28 @@ impl<K: Ord + Clone, V: Clone, S: Ord + Clone, Q: Predicate<K, S> + Drop> Actor<
         self.status = Status::Ended;
         Ok(())
     }
+}
+
+/// Two copies of a key.
+fn two_copies<K: Clone + Drop>(key: &K) -> Result<(K, K), Fault>
+    requires keys_clone { (x y : K) → K.is_clone x y → y ≡ x }
+    ensures copies { IfOk result (λ copies. copies ≡ (key.now, key.now)) }
+    ensures only { IfErr result (λ fault. fault ≡ OutOfMemory) }
+{
+    let first = key.clone()?;
+    let second = key.clone()?;
+    Ok((first, second))
+}
+
+/// One effect more.
+fn tell<K: Drop, V: Drop, S: Drop>(
+    effects: &mut Vec<Effect<K, V, S>>,
+    effect: Effect<K, V, S>,
+) -> Result<(), Fault>
+    ensures told { OnOk result (effects.new.items ≡ effects.old.items ++ effect ∷ []) }
+    ensures only { IfErr result (λ fault. fault ≡ OutOfMemory) }
+{
+    Ok(effects.push(effect)?)
 }
 
 /// Whether a run ends with this answer.

@@ -5,7 +5,7 @@ use Rattle.resolver_stages.specs.declared.effects.Effect.{Effect}
 use Rattle.resolver_stages.specs.declared.effects.Effect.TheVariants.{Deliver}
 use Rattle.resolver_root.specs.Names.{names}
 use Rattle.resolver_actor.specs.OpaqueActor.{status_of}
-use Rattle.resolver_source.proofs.Going.{hand_out_goes, agree-delivered, asked-idle, asked-stage, at-idle, idle-asked, idle-tracked, idle-free_number, asked-none}
+use Rattle.resolver_source.proofs.Going.{hand_out_goes, agree-delivered, asked-idle, asked-stage, at-idle, idle-asked, idle-tracked, idle-free_number, asked-none, goes-told}
 use Rattle.resolver_actor.proofs.opaque.actor.Actor.hand_out.Goals as goal
 
 pub unreachable-requires : goal.unreachable-requires
@@ -28,12 +28,6 @@ deliver-requires-clause-idle g c =
     let idle = asked-idle _ (rw (← c.self.view_is) at c.requires.asked) in
     idle-free_number (names g.K.Ord.cmp g.S.Ord.cmp) c.self.inside.demand c.self.inside.stages.entries.keys c.self.invariant.agree c.args.key idle
 
-pub invariant_of-self-in_err-push : goal.invariant_of-self-in_err-push
-invariant_of-self-in_err-push g c = record {
-  delay = c.self.invariant.delay;
-  agree = agree-delivered (names g.K.Ord.cmp g.S.Ord.cmp) c.self.inside.demand c.self.inside.stages.entries c.self.invariant.agree c.self.inside.stages.next_attempt c.self.inside.delay (status_of c.self.inside.status) c.args.key c.in-Ok-Some.subscribers c.in-Ok.copies.1 c.deliver.new.self.entries (ap (λ s. s.entries) c.in-Ok-deliver.ensures.ok);
-}
-
 pub invariant_of-self-2 : goal.invariant_of-self-2
 invariant_of-self-2 g c = record {
   delay = c.self.invariant.delay;
@@ -51,9 +45,10 @@ returns g c =
     let wanted = sym c.in-Ok-Some.ensures.ok ∙ c.in-Ok-Some.field-0-is in
     rw (← c.self.view_is, ap (λ s. s.next_attempt) c.in-Ok-deliver.ensures.ok)
     (at-idle _ _ idle (λ row found waits.
-    hand_out_goes (names g.K.Ord.cmp g.S.Ord.cmp) c.self.inside.demand c.self.inside.stages.entries c.self.invariant.agree c.self.inside.stages.next_attempt c.self.inside.delay (status_of c.self.inside.status) c.args.key row c.in-Ok-Some.subscribers c.args.value c.args.effects.now.items c.push.new.self.items c.deliver.new.self.entries c.in-Ok-deliver.number
+    goes-told _ c.args.effects.now.items c.tell.new.effects.items _ c.tell.result _ c.tell.ensures.told c.tell.ensures.only (λ told.
+    hand_out_goes (names g.K.Ord.cmp g.S.Ord.cmp) c.self.inside.demand c.self.inside.stages.entries c.self.invariant.agree c.self.inside.stages.next_attempt c.self.inside.delay (status_of c.self.inside.status) c.args.key row c.in-Ok-Some.subscribers c.args.value c.args.effects.now.items c.tell.new.effects.items c.deliver.new.self.entries c.in-Ok-deliver.number
     found wanted c.in-Ok-deliver.ensures.number (omega arith) put
-    (told-is _ _ _ _ _ _ c.in_ok-push.ensures.items (ap (λ copies. copies.0) c.in-Ok.ensures))))
+    (told-is _ _ _ _ _ _ told (ap (λ copies. copies.0) c.in-Ok.ensures)))))
 
 -- what holds of whatever is there
 of-any : {R : Type 0} (found : Option R) (P : R → Type 0) → ((row : R) → P row) → IfSome found P

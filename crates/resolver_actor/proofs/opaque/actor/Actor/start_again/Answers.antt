@@ -3,14 +3,8 @@ use Rattle.std.specs.Ordering.{is_eq}
 use Rattle.resolver_source.proofs.Joined.{keys-rows}
 use Rattle.resolver_root.specs.Names.{names}
 use Rattle.resolver_actor.specs.OpaqueActor.{status_of}
-use Rattle.resolver_source.proofs.Going.{start_again_goes, agree-staged, at-idle}
+use Rattle.resolver_source.proofs.Going.{start_again_goes, agree-staged, at-idle, goes-told}
 use Rattle.resolver_actor.proofs.opaque.actor.Actor.start_again.Goals as goal
-
-pub invariant_of-self-in_err-push : goal.invariant_of-self-in_err-push
-invariant_of-self-in_err-push g c = record {
-  delay = c.self.invariant.delay;
-  agree = agree-staged (names g.K.Ord.cmp g.S.Ord.cmp) c.self.inside.demand c.self.inside.stages.entries c.self.invariant.agree c.self.inside.stages.next_attempt c.self.inside.delay (status_of c.self.inside.status) c.args.key _ c.ask_again.new.self.entries (ap (λ s. s.entries) c.in-Ok.ensures.ok);
-}
 
 pub invariant_of-self-2 : goal.invariant_of-self-2
 invariant_of-self-2 g c = record {
@@ -24,8 +18,9 @@ returns g c =
     let next_is : c.ask_again.new.self.next_attempt ≡ c.self.inside.stages.next_attempt + 1 = ap (λ s. s.next_attempt) c.in-Ok.ensures.ok in
     rw (← c.self.view_is)
     (at-idle _ _ idle (λ row found waits.
-    start_again_goes (names g.K.Ord.cmp g.S.Ord.cmp) c.self.inside.demand c.self.inside.stages.entries c.self.invariant.agree c.self.inside.stages.next_attempt c.self.inside.delay (status_of c.self.inside.status) c.args.key row c.args.effects.now.items c.push.new.self.items c.ask_again.new.self.entries c.in-Ok.attempt c.ask_again.new.self.next_attempt
-    found waits c.in-Ok.ensures.attempt (search rules) next_is (rw c.in-Ok.ensures.attempt (ap (λ s. s.entries) c.in-Ok.ensures.ok)) (search rules)))
+    goes-told _ c.args.effects.now.items c.tell.new.effects.items _ c.tell.result _ c.tell.ensures.told c.tell.ensures.only (λ told.
+    start_again_goes (names g.K.Ord.cmp g.S.Ord.cmp) c.self.inside.demand c.self.inside.stages.entries c.self.invariant.agree c.self.inside.stages.next_attempt c.self.inside.delay (status_of c.self.inside.status) c.args.key row c.args.effects.now.items c.tell.new.effects.items c.ask_again.new.self.entries c.in-Ok.attempt c.ask_again.new.self.next_attempt
+    found waits c.in-Ok.ensures.attempt (search rules) next_is (rw c.in-Ok.ensures.attempt (ap (λ s. s.entries) c.in-Ok.ensures.ok)) told)))
 
 pub ask_again-requires-clause-own : goal.ask_again-requires-clause-own
 ask_again-requires-clause-own g c =
