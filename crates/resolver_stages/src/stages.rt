@@ -125,9 +125,13 @@ impl<K: Ord + Drop, S: Drop, V: Drop> Stages<K, S, V> {
         ensures err { OnErr result (self.new ≡ self.old) }
         ensures only { IfErr result (λ fault. fault ≡ refusal_at self.old.next_attempt) }
     {
-        let attempt = self.attempts.peek().ok_or(Fault::Exhausted)?;
-        let led = key.clone()?;
-        self.asked.insert(attempt, led)?;
+        let attempt = match lead(&mut self.asked, &self.attempts, &key) {
+            Ok(attempt) => attempt,
+            Err(fault) => {
+                drop(key);
+                return Err(fault);
+            }
+        };
         let asked = self.entries.insert_new(key, Stage::Asked { attempt });
         if let Err(fault) = asked {
             self.asked.remove(attempt);
@@ -154,9 +158,7 @@ impl<K: Ord + Drop, S: Drop, V: Drop> Stages<K, S, V> {
         ensures err { OnErr result (self.new ≡ self.old) }
         ensures only { IfErr result (λ fault. fault ≡ refusal_at self.old.next_attempt) }
     {
-        let attempt = self.attempts.peek().ok_or(Fault::Exhausted)?;
-        let led = key.clone()?;
-        self.asked.insert(attempt, led)?;
+        let attempt = lead(&mut self.asked, &self.attempts, key)?;
         leave(&mut self.asked, &self.entries, key);
         self.retries.remove(key);
         self.entries.set_state(key, Stage::Asked { attempt });
@@ -265,6 +267,27 @@ impl<K: Ord + Drop, S: Drop, V: Drop> Stages<K, S, V> {
     {
         self.entries.completed(number, verdict)
     }
+}
+
+/// The next attempt leads to this key, and is answered. Where none is left, or memory is wanting,
+/// nothing changes.
+fn lead<K: Clone + Drop>(
+    asked: &mut ByAttempt<K>,
+    attempts: &Numbers,
+    key: &K,
+) -> Result<u64, Fault>
+    requires keys_clone { (x y : K) → K.is_clone x y → y ≡ x }
+    ensures attempt { IfOk result (λ attempt. (attempt ≡ attempts.now) × (attempt < 2 ^ 64)) }
+    ensures ok { OnOk result ((a : ℕ) → lookup (is_at (nat_cmp a)) asked.new
+        ≡ if is_at (nat_cmp attempts.now) a then Some key.now
+        else lookup (is_at (nat_cmp a)) asked.old) }
+    ensures err { OnErr result (asked.new ≡ asked.old) }
+    ensures only { IfErr result (λ fault. fault ≡ refusal_at attempts.now) }
+{
+    let attempt = attempts.peek().ok_or(Fault::Exhausted)?;
+    let led = key.clone()?;
+    asked.insert(attempt, led)?;
+    Ok(attempt)
 }
 
 /// The attempt under which a key stands leads nowhere from now on.
