@@ -1,6 +1,6 @@
 //! The demanded keys of the actor: who wants each, and what is being done for it.
 
-ghost use Rattle.std.specs.Prelude.{◌≡◌, ◌<◌, ◌++◌, IfErr, IfOk, OnOk, length, map};
+ghost use Rattle.std.specs.Prelude.{◌≡◌, ◌<◌, ◌++◌, ◌∷◌, [], IfErr, IfOk, OnOk, length, map};
 ghost use Rattle.std.specs.List.Sorted.{IsStrictlySortedBy};
 ghost use Rattle.std.specs.Map.{keys_of};
 ghost use Rattle.resolver_base.specs.declared.base.fault.Fault.TheVariants.{OutOfMemory};
@@ -48,23 +48,27 @@ pub fn listed<K: Ord + Clone + Drop, V: Drop, S: Ord + Clone + Drop>(
         let Some((_, entry)) = rest.next() else {
             return Ok(list);
         };
-        list.push(row_at(alloc, key, subscribers, entry)?)?;
+        if let Err(failed) = add_row(&mut list, alloc, key, subscribers, entry) {
+            drop(list);
+            return Err(Fault::from(failed));
+        }
     }
     Ok(list)
 }
 
-/// One key as the actor's callers see it.
-fn row_at<K: Clone + Drop, V, S: Ord + Clone + Drop>(
+/// Lists one key as the actor's callers see it.
+fn add_row<K: Clone + Drop, V, S: Ord + Clone + Drop>(
+    list: &mut Vec<Row<K, S>>,
     alloc: Global,
     key: &K,
     subscribers: &Subscribers<S>,
     entry: &Entry<V, (), Stage>,
-) -> Result<Row<K, S>, AllocError>
+) -> Result<(), AllocError>
     requires keys_clone { (x y : K) → K.is_clone x y → y ≡ x }
     requires subscribers_clone { (x y : S) → S.is_clone x y → y ≡ x }
     requires some { 0 < length subscribers.now }
-    ensures { IfOk result
-        (λ row. row ≡ listed (key.now, row_of (subscribers.now, entry.now))) }
+    ensures { OnOk result (list.new.items
+        ≡ list.old.items ++ listed (key.now, row_of (subscribers.now, entry.now)) ∷ []) }
 {
     let Ok(subscribers) = NonEmptyVec::try_from(subscribers.copied(alloc)?) else {
         unreachable!()
@@ -73,11 +77,11 @@ fn row_at<K: Clone + Drop, V, S: Ord + Clone + Drop>(
         drop(subscribers);
         return Err(AllocError);
     };
-    Ok(Row {
+    Ok(list.push(Row {
         key,
         subscribers,
         phase: listed_phase(entry),
-    })
+    })?)
 }
 
 /// Calls off what is being done for each key.

@@ -4,8 +4,8 @@ use Rattle.resolver_source.specs.OpaqueTables.{row_of, rows_of}
 use Rattle.resolver_source.specs.OpaqueListed.{listed}
 use Rattle.resolver_source.proofs.rows.listed.Goals as goal
 
-pub row_at-requires : goal.row_at-requires
-row_at-requires g c = record {
+pub add_row-requires : goal.add_row-requires
+add_row-requires g c = record {
   keys_clone = c.requires.keys_clone;
   subscribers_clone = c.requires.subscribers_clone;
   some = (subst (AreListed g.S.Ord.cmp) c.in-Some.ensures.steps c.loop-key.invariant.some).0.some;
@@ -15,7 +15,7 @@ pub loop-key-preserved : goal.loop-key-preserved
 loop-key-preserved g c =
     let so_far = c.loop-key.list.items in
     let shown = listed (c.in-Some.key.now, row_of (c.in-Some.subscribers.now, c.in-Some-next.entry.now)) in
-    let pushed : c.push.new.self.items ≡ so_far ++ shown ∷ [] = c.in_ok-push.ensures.items ∙ ap (λ row. so_far ++ row ∷ []) c.in_ok-row_at.ensures in
+    let pushed : c.add_row.new.list.items ≡ so_far ++ shown ∷ [] = c.in_default-add_row.ensures in
     record {
       made =
           rw (pushed, append_assoc)
