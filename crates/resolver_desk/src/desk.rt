@@ -167,8 +167,10 @@ impl<
         let Some(front) = self.ready.front() else {
             return Ok(None);
         };
-        note_take(&mut self.book, front, self.alloc)?;
-        Ok(Some(serve(&mut self.ready, &mut self.pending)))
+        match note_take(&mut self.book, front, self.alloc) {
+            Ok(()) => Ok(Some(serve(&mut self.ready, &mut self.pending))),
+            Err(failed) => Err(Fault::from(failed)),
+        }
     }
 
     /// Whether the desk was closed.
