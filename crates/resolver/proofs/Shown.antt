@@ -16,7 +16,7 @@ use Rattle.std.specs.declared.cmp.Ordering.TheVariants.{Less, Equal, Greater}
 use Rattle.resolver_root.specs.Names.{same_key}
 use Rattle.resolver_priorities.specs.Priorities.{is_of}
 use Rattle.resolver_root.specs.Table.{is_asked}
-use Rattle.resolver_demand.specs.Entries.{Numbered, number_of}
+use Rattle.resolver_delivery.specs.Entries.{Numbered, number_of}
 use Rattle.resolver_asked.specs.declared.requests.request.Request.{Request}
 use Rattle.resolver_asked.specs.Requests.{is_for, request_for}
 use Rattle.resolver_trying.specs.declared.place.Place.{Place}

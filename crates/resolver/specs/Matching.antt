@@ -2,7 +2,7 @@
 use Rattle.std.specs.Prelude.{◌≡◌, ℕ, Bool, true, false, List, map, Option}
 use Rattle.resolver_base.specs.declared.base.fault.Fault.{Fault}
 use Rattle.resolver_base.specs.declared.base.fault.Fault.TheVariants as faults
-use Rattle.resolver_demand.specs.Entries.{Numbered}
+use Rattle.resolver_delivery.specs.Entries.{Numbered}
 use Rattle.resolver_trying.specs.Fetcher.{Fetcher}
 use Rattle.resolver_peer.specs.declared.named.Serve.{Serve}
 use Rattle.resolver_peer.specs.declared.named.Source.{Source}

@@ -1,5 +1,5 @@
 use crate::asserts::{copied, equal, holds};
-use resolver_demand::delivery::{Aborted, Completion};
+use resolver_delivery::{Aborted, Completion};
 use resolver_root::{Delivery, NonEmptyVec, Outcome, Resolution};
 use std::alloc::Global;
 use std::panic::Expect;

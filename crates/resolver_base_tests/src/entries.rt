@@ -6,7 +6,7 @@
 ghost use Rattle.std.specs.Prelude.{◌≡◌};
 
 use crate::asserts::{equal_texts, holds, spell};
-use resolver_demand::delivery::Entries;
+use resolver_delivery::Entries;
 use resolver_root::{Delivery, NonEmptyVec, Outcome, Resolution};
 use std::alloc::Global;
 use std::panic::Expect;

@@ -1,5 +1,5 @@
 pub use Rattle.resolver_root.specs.Names
-pub use Rattle.resolver_demand.specs.Entries
+pub use Rattle.resolver_delivery.specs.Entries
 pub mod Verdict
 pub mod Deadlines
 pub mod Endings

@@ -5,9 +5,9 @@ use Rattle.std.specs.Map.{lookup}
 use Rattle.std.specs.Ordering.{nat_cmp}
 use Rattle.std.specs.declared.cmp.Ordering.{Ordering}
 use Rattle.resolver_root.specs.declared.root.Outcome.{Outcome}
-use Rattle.resolver_demand.specs.declared.delivery.completion.Aborted.{Aborted}
-use Rattle.resolver_demand.specs.declared.delivery.completion.Completion.{Completion}
-use Rattle.resolver_demand.specs.Entries.{Numbered, completed}
+use Rattle.resolver_delivery.specs.declared.completion.Aborted.{Aborted}
+use Rattle.resolver_delivery.specs.declared.completion.Completion.{Completion}
+use Rattle.resolver_delivery.specs.Entries.{Numbered, completed}
 
 -- The answer and what is left are those of some open number and of some verdict on it, or none.
 abbrev pub Completes : {K S V C State : Type 0} → (K → K → Ordering) → Numbered K S V C State → Result (Completion K S C) Aborted → Numbered K S V C State → Type 0

@@ -4,7 +4,7 @@ ghost use Rattle.std.specs.Prelude.{◌≡◌, ◌≢◌, ◌≤◌, ◌^◌, []
 ghost use Rattle.std.specs.Option.{option_copied};
 ghost use Rattle.resolver_base.specs.Answering.{AnswersBy};
 ghost use Rattle.resolver_base.specs.declared.base.fault.Fault.TheVariants.{OutOfMemory, Exhausted};
-ghost use Rattle.resolver_demand.specs.Entries.{accepted, changed, completed, delivered, inserted, is_accepted, is_tracked, number_of, redelivered, removed, response_changed, response_of, retained, state_of, with_response};
+ghost use Rattle.resolver_delivery.specs.Entries.{accepted, changed, completed, delivered, inserted, is_accepted, is_tracked, number_of, redelivered, removed, response_changed, response_of, retained, state_of, with_response};
 ghost use Rattle.futures.specs.Poll.{IfReady, OnPending};
 ghost use Rattle.futures.specs.Task.{Keeps};
 ghost use Rattle.resolver_loop.specs.Polled.{Completes};
@@ -14,7 +14,7 @@ use crate::verdicts::Verdicts;
 use futures::task;
 use futures::task::Poll;
 use resolver_base::base::{Fault, Numbers};
-use resolver_demand::delivery::{Aborted, Completion, Entries};
+use resolver_delivery::{Aborted, Completion, Entries};
 use resolver_root::{Delivery, Outcome};
 use std::alloc::{AllocError, Global};
 use std::marker::Model;
@@ -32,7 +32,7 @@ pub struct Tracker<Con: Consumer, Context, State> {
 }
 
 impl<Con: Consumer, Context, State> Model for Tracker<Con, Context, State> {
-    ghost use Rattle.resolver_demand.specs.Entries.{Numbered};
+    ghost use Rattle.resolver_delivery.specs.Entries.{Numbered};
 
     ghost Value = { Numbered Con.Key Con.Subscriber Con.Value Context State };
 

@@ -12,7 +12,7 @@ use futures::Future;
 use futures::channel::oneshot;
 use futures::task::{Context, Poll};
 use resolver_base::base::Fault;
-use resolver_demand::delivery::Entries;
+use resolver_delivery::Entries;
 use resolver_root::Outcome;
 use std::alloc::Global;
 use std::collections::BTreeMap;

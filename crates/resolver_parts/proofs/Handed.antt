@@ -14,9 +14,9 @@ use Rattle.std.specs.Ordering.{nat_cmp}
 use Rattle.resolver_base.specs.declared.base.fault.Fault.{Fault}
 use Rattle.resolver_base.specs.declared.base.fault.Fault.TheVariants as faults
 use Rattle.resolver_root.specs.Table as tables
-use Rattle.resolver_demand.specs.declared.delivery.entry.Entry.{Entry}
-use Rattle.resolver_demand.specs.declared.delivery.entry.Response.{Response}
-use Rattle.resolver_demand.specs.Entries.{changed_at, delivered, is_tracked, number_of, numbered, with_response}
+use Rattle.resolver_delivery.specs.declared.entry.Entry.{Entry}
+use Rattle.resolver_delivery.specs.declared.entry.Response.{Response}
+use Rattle.resolver_delivery.specs.Entries.{changed_at, delivered, is_tracked, number_of, numbered, with_response}
 use Rattle.resolver_asked.specs.declared.requests.request.Request.{Request}
 use Rattle.resolver_asked.specs.Requests.{by_id, without_request}
 use Rattle.resolver_request.specs.Times.{elapsed_since}

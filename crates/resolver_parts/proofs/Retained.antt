@@ -19,9 +19,9 @@ use Rattle.resolver_priorities.specs.Priorities.{pair_order, retained}
 use Rattle.resolver_root.specs.Table as tables
 use Rattle.resolver_root.specs.Table.{emptied, is_asked, kept}
 use Rattle.resolver_priorities.proofs.Priorities.{pair_order-total}
-use Rattle.resolver_demand.specs.declared.delivery.entry.Entry.{Entry}
-use Rattle.resolver_demand.specs.Entries.{Numbered, number_of}
-use Rattle.resolver_demand.specs.Entries.{retained as keeping}
+use Rattle.resolver_delivery.specs.declared.entry.Entry.{Entry}
+use Rattle.resolver_delivery.specs.Entries.{Numbered, number_of}
+use Rattle.resolver_delivery.specs.Entries.{retained as keeping}
 use Rattle.resolver_asked.specs.declared.requests.request.Request.{Request}
 use Rattle.resolver_asked.specs.Requests.{by_id}
 use Rattle.resolver_trying.specs.declared.place.Place.{Place}

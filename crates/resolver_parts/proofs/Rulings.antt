@@ -20,8 +20,8 @@ use Rattle.resolver_priorities.specs.Priorities.{has_item}
 use Rattle.resolver_root.specs.Subscribers.{without}
 use Rattle.resolver_root.specs.Table.{rest_of, some_of, subscribers_of, without_key, without_named}
 use Rattle.resolver_root.specs.Table as tables
-use Rattle.resolver_demand.specs.declared.delivery.entry.Response.{Response}
-use Rattle.resolver_demand.specs.Entries.{Numbered, accepted, begun_again, changed, changed_at, number_of, numbered, removed, response_of, with_response}
+use Rattle.resolver_delivery.specs.declared.entry.Response.{Response}
+use Rattle.resolver_delivery.specs.Entries.{Numbered, accepted, begun_again, changed, changed_at, number_of, numbered, removed, response_of, with_response}
 use Rattle.resolver_asked.specs.Requests.{by_id, is_asked}
 use Rattle.resolver_trying.specs.Fetcher as fetchers
 use Rattle.resolver_trying.specs.Fetcher.{Fetcher}

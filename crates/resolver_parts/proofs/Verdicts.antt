@@ -17,13 +17,13 @@ use Rattle.resolver_base.specs.declared.base.fault.Fault.{Fault}
 use Rattle.resolver_base.specs.declared.base.fault.Fault.TheVariants as faults
 use Rattle.resolver_root.specs.declared.root.Outcome.{Outcome}
 use Rattle.resolver_root.specs.declared.root.Outcome.TheVariants.{Invalid, Resolved, Unresolved, Ignored}
-use Rattle.resolver_demand.specs.declared.delivery.completion.Aborted.{Aborted}
-use Rattle.resolver_demand.specs.declared.delivery.completion.Completion.{Completion}
-use Rattle.resolver_demand.specs.declared.delivery.entry.Entry.{Entry}
-use Rattle.resolver_demand.specs.declared.delivery.entry.Open.{Open as Begun}
-use Rattle.resolver_demand.specs.declared.delivery.entry.Response.{Response}
-use Rattle.resolver_demand.specs.Entries.{Numbered, changed, changed_at, completed, completed_from, completion, completion_of, ended, is_live, is_number, number_of}
-use Rattle.resolver_demand.specs.Entries as entries
+use Rattle.resolver_delivery.specs.declared.completion.Aborted.{Aborted}
+use Rattle.resolver_delivery.specs.declared.completion.Completion.{Completion}
+use Rattle.resolver_delivery.specs.declared.entry.Entry.{Entry}
+use Rattle.resolver_delivery.specs.declared.entry.Open.{Open as Begun}
+use Rattle.resolver_delivery.specs.declared.entry.Response.{Response}
+use Rattle.resolver_delivery.specs.Entries.{Numbered, changed, changed_at, completed, completed_from, completion, completion_of, ended, is_live, is_number, number_of}
+use Rattle.resolver_delivery.specs.Entries as entries
 use Rattle.resolver_trying.specs.Fetcher.{Fetcher}
 use Rattle.resolver_machine.specs.Verdicts.{ruling}
 use Rattle.resolver_machine.proofs.Mapped.{remove_entry-seen, set_value-seen}

@@ -13,7 +13,7 @@ use Rattle.resolver_root.specs.Subscribers.{attached_all}
 use Rattle.resolver_priorities.specs.Priorities.{has_item, put}
 use Rattle.resolver_root.specs.Table.{asked_one}
 use Rattle.resolver_root.specs.Table as tables
-use Rattle.resolver_demand.specs.Entries.{fresh, inserted}
+use Rattle.resolver_delivery.specs.Entries.{fresh, inserted}
 use Rattle.resolver_asked.specs.Requests.{by_id, is_asked}
 use Rattle.resolver_trying.specs.Fetcher as fetchers
 use Rattle.resolver_trying.specs.Fetcher.{Fetcher, unless_over}

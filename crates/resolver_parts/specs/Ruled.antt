@@ -6,7 +6,7 @@ use Rattle.std.specs.Map.{keys_of}
 use Rattle.resolver_root.specs.declared.root.Delivery.{Delivery}
 use Rattle.resolver_root.specs.declared.root.Outcome.{Outcome}
 use Rattle.resolver_root.specs.declared.root.Outcome.TheVariants.{Invalid, Resolved}
-use Rattle.resolver_demand.specs.Entries.{accepted}
+use Rattle.resolver_delivery.specs.Entries.{accepted}
 use Rattle.resolver_trying.specs.Fetcher.{Fetcher, record_response}
 use Rattle.resolver_trying.specs.Orders.{Orders}
 use Rattle.resolver_peer.specs.declared.named.Source.{Source}

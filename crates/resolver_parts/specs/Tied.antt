@@ -7,9 +7,9 @@ use Rattle.std.specs.BTreeMap.{is_at}
 use Rattle.std.specs.BTreeSet.{insert_key}
 use Rattle.std.specs.Ordering.{is_eq, nat_cmp}
 use Rattle.resolver_priorities.specs.Priorities.{pair_order}
-use Rattle.resolver_demand.specs.declared.delivery.entry.Entry.{Entry}
-use Rattle.resolver_demand.specs.declared.delivery.entry.Open.{Open as Begun}
-use Rattle.resolver_demand.specs.declared.delivery.entry.Response.{Response}
+use Rattle.resolver_delivery.specs.declared.entry.Entry.{Entry}
+use Rattle.resolver_delivery.specs.declared.entry.Open.{Open as Begun}
+use Rattle.resolver_delivery.specs.declared.entry.Response.{Response}
 use Rattle.resolver_trying.specs.declared.place.Place.{Place}
 use Rattle.resolver_trying.specs.Fetcher.{AsksNewId, Fetcher, unless_over}
 use Rattle.resolver_trying.specs.Waiting.{place_order}

@@ -2,7 +2,7 @@
 
 ghost use Rattle.std.specs.Prelude.{◌≡◌, ◌<◌, ◌^◌, ◌++◌, ◌∷◌, [], None, false, is_some, IfErr, IsTrue, OnOk};
 ghost use Rattle.std.specs.Option.{option_and_then};
-ghost use Rattle.resolver_demand.specs.Entries.{delivered, is_tracked, number_of};
+ghost use Rattle.resolver_delivery.specs.Entries.{delivered, is_tracked, number_of};
 ghost use Rattle.resolver_peer.specs.Parties.{parties};
 ghost use Rattle.resolver_peer.specs.Peer.{Machine, answered, responds, row_of};
 ghost use Rattle.resolver_peer.specs.Again.{IsRefusal};

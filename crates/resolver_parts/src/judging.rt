@@ -5,7 +5,7 @@ ghost use Rattle.std.specs.Map.{lookup};
 ghost use Rattle.resolver_priorities.specs.Priorities.{has_item};
 ghost use Rattle.resolver_base.specs.declared.base.fault.Fault.TheVariants.{OutOfMemory};
 ghost use Rattle.resolver_asked.specs.Requests.{is_asked};
-ghost use Rattle.resolver_demand.specs.Entries.{removed};
+ghost use Rattle.resolver_delivery.specs.Entries.{removed};
 ghost use Rattle.resolver_trying.specs.Fetcher as calls;
 ghost use Rattle.resolver_trying.specs.Orders.{orders};
 ghost use Rattle.resolver_machine.specs.Verdicts.{ruling};
@@ -18,7 +18,7 @@ ghost use Rattle.resolver_parts.specs.Tied.{Agrees};
 
 use crate::parts::Parts;
 use resolver_base::base::Fault;
-use resolver_demand::delivery::Completion;
+use resolver_delivery::Completion;
 use resolver_fetch::fetcher::Fetcher;
 use resolver_machine::ruling::{Ruling, rule_on};
 use resolver_peer::effects::Effect;

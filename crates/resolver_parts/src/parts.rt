@@ -8,7 +8,7 @@ ghost use Rattle.resolver_peer.specs.Peer.{Machine, opening, peer_set, block};
 ghost use Rattle.resolver_parts.specs.Tied.{Agrees};
 
 use resolver_base::base::{Fault, Numbers};
-use resolver_demand::delivery::Entries;
+use resolver_delivery::Entries;
 use resolver_demand::subscribers::Tracker;
 use resolver_fetch::fetcher::{Config, Fetcher};
 use resolver_peer::inflight::Inflight;

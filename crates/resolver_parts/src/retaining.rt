@@ -1,7 +1,7 @@
 //! What is no longer wanted: subscribers that a predicate doesn't keep, or all of them.
 
 ghost use Rattle.std.specs.Prelude.{◌≡◌, Some, false, is_some};
-ghost use Rattle.resolver_demand.specs.Entries.{retained};
+ghost use Rattle.resolver_delivery.specs.Entries.{retained};
 ghost use Rattle.resolver_root.specs.Names.{names};
 ghost use Rattle.resolver_root.specs.Table.{is_asked};
 ghost use Rattle.resolver_trying.specs.Fetcher as calls;

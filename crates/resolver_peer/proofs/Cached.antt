@@ -5,9 +5,9 @@ use Rattle.std.specs.Option.{option_map, option_and_then}
 use Rattle.std.specs.Map.{lookup, set_value}
 use Rattle.std.specs.BTreeMap.{is_at}
 use Rattle.std.specs.declared.cmp.Ordering.{Ordering}
-use Rattle.resolver_demand.specs.declared.delivery.entry.Entry.{Entry}
-use Rattle.resolver_demand.specs.declared.delivery.entry.Response.{Response}
-use Rattle.resolver_demand.specs.Entries.{Numbered, accepted, changed_at, entry_of, number_of, response_changed, response_of, with_response}
+use Rattle.resolver_delivery.specs.declared.entry.Entry.{Entry}
+use Rattle.resolver_delivery.specs.declared.entry.Response.{Response}
+use Rattle.resolver_delivery.specs.Entries.{Numbered, accepted, changed_at, entry_of, number_of, response_changed, response_of, with_response}
 use Rattle.resolver_peer.specs.Again.{flagged}
 
 lookup-set : {K X : Type 0} (test : K → Bool) (es : List (K × X)) (v w : X) → lookup test es ≡ Some v → lookup test (set_value test es w) ≡ Some w

@@ -2,7 +2,7 @@
 use Rattle.std.proofs.Common.{◌≡◌, refl, ap, ℕ, ◌^◌, Bool, true, false, Result, Ok, Err, if◌then◌else◌}
 use Rattle.std.specs.Prelude.{IfErr, IfOk, IsErrAnd, nat_lt}
 use Rattle.resolver_base.specs.declared.base.fault.Fault.TheVariants.{OutOfMemory, Exhausted}
-use Rattle.resolver_demand.specs.Entries.{refusal_at}
+use Rattle.resolver_delivery.specs.Entries.{refusal_at}
 use Rattle.resolver_peer.specs.Again.{IsRefusal}
 
 module _ {T E : Type 0} where

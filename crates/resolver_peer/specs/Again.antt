@@ -4,7 +4,7 @@ use Rattle.std.specs.declared.cmp.Ordering.{Ordering}
 use Rattle.resolver_base.specs.declared.base.fault.Fault.{Fault}
 use Rattle.resolver_base.specs.declared.base.fault.Fault.TheVariants as faults
 use Rattle.resolver_root.specs.declared.root.Delivery.{Delivery}
-use Rattle.resolver_demand.specs.Entries.{Numbered, accepted, redelivered, response_changed}
+use Rattle.resolver_delivery.specs.Entries.{Numbered, accepted, redelivered, response_changed}
 
 module _ {K S V C State : Type 0} (cmp : K → K → Ordering) where
   -- the cached response is noted to be right, if it is

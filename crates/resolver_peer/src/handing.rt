@@ -2,7 +2,7 @@
 
 ghost use Rattle.std.specs.Prelude.{◌≡◌, ◌<◌, ◌^◌, ◌++◌, ◌∷◌, [], None, IfErr, IfOk, IfSome, IsSome, OnOk};
 ghost use Rattle.resolver_base.specs.declared.base.fault.Fault.TheVariants.{OutOfMemory};
-ghost use Rattle.resolver_demand.specs.Entries.{number_of, response_of};
+ghost use Rattle.resolver_delivery.specs.Entries.{number_of, response_of};
 ghost use Rattle.resolver_peer.specs.Again.{IsRefusal, flagged, handed_again};
 ghost use Rattle.resolver_peer.specs.declared.effects.Effect.TheVariants.{Deliver};
 

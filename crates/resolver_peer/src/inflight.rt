@@ -4,7 +4,7 @@ ghost use Rattle.std.specs.Prelude.{◌≡◌};
 
 use crate::named::Source;
 use bytes::Bytes;
-use resolver_demand::delivery::Entries;
+use resolver_delivery::Entries;
 use resolver_request::score::elapsed_since;
 use std::marker::Model;
 

@@ -13,7 +13,7 @@ use Rattle.std.proofs.lemmas.Map.{keys-set_value}
 use Rattle.std.proofs.lemmas.Map.Keys.{IsDistinct-head, IsDistinct-tail, IsDistinct-cons}
 use Rattle.resolver_root.specs.Names.{Names, same_key}
 use Rattle.resolver_root.specs.Table as tables
-use Rattle.resolver_demand.specs.Entries.{changed_at}
+use Rattle.resolver_delivery.specs.Entries.{changed_at}
 use Rattle.resolver_source.specs.Opaque.{Row, kept, unkept, called_off, all_called_off}
 use Rattle.resolver_stages.specs.OpaqueStages.{Kept}
 use Rattle.resolver_stages.specs.OpaquePhased.{phase_of}

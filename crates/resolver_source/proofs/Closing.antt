@@ -19,13 +19,13 @@ use Rattle.resolver_base.specs.declared.base.fault.Fault.TheVariants as faults
 use Rattle.resolver_root.specs.declared.root.Outcome.{Outcome}
 use Rattle.resolver_root.specs.declared.root.Outcome.TheVariants.{Invalid, Resolved, Unresolved, Ignored}
 use Rattle.resolver_root.specs.declared.root.Resolution.TheVariants.{Complete, Partial}
-use Rattle.resolver_demand.specs.Entries.{changed, changed_at, state_of, with_response, ended, numbered, accepted, removed, completed, completed_from, completion, completion_of, is_live, is_number, number_of, response_of, is_accepted, redelivered, begun_again, response_changed}
-use Rattle.resolver_demand.specs.declared.delivery.entry.Response.{Response}
-use Rattle.resolver_demand.specs.declared.delivery.entry.Open.{Open}
+use Rattle.resolver_delivery.specs.Entries.{changed, changed_at, state_of, with_response, ended, numbered, accepted, removed, completed, completed_from, completion, completion_of, is_live, is_number, number_of, response_of, is_accepted, redelivered, begun_again, response_changed}
+use Rattle.resolver_delivery.specs.declared.entry.Response.{Response}
+use Rattle.resolver_delivery.specs.declared.entry.Open.{Open}
 use Rattle.resolver_root.specs.declared.root.Delivery.{Delivery}
 use Rattle.std.specs.declared.cmp.Ordering.{Ordering}
-use Rattle.resolver_demand.specs.declared.delivery.completion.Completion.{Completion}
-use Rattle.resolver_demand.specs.declared.delivery.completion.Aborted.{Aborted}
+use Rattle.resolver_delivery.specs.declared.completion.Completion.{Completion}
+use Rattle.resolver_delivery.specs.declared.completion.Aborted.{Aborted}
 use Rattle.resolver_machine.specs.declared.ruling.Ruling.TheVariants.{Serve, Retry, Retire}
 use Rattle.resolver_stages.specs.declared.phase.Stage.{Stage}
 use Rattle.resolver_stages.specs.declared.phase.Stage.TheVariants as stages

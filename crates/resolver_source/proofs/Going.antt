@@ -13,8 +13,8 @@ use Rattle.resolver_root.specs.Subscribers.{attached_all}
 use Rattle.resolver_root.specs.Table as tables
 use Rattle.resolver_base.specs.declared.base.fault.Fault.{Fault}
 use Rattle.resolver_base.specs.declared.base.fault.Fault.TheVariants as faults
-use Rattle.resolver_demand.specs.Entries.{Numbered, changed, changed_at, with_state, with_response, numbered, inserted, fresh, delivered}
-use Rattle.resolver_demand.specs.declared.delivery.entry.Response.{Response}
+use Rattle.resolver_delivery.specs.Entries.{Numbered, changed, changed_at, with_state, with_response, numbered, inserted, fresh, delivered}
+use Rattle.resolver_delivery.specs.declared.entry.Response.{Response}
 use Rattle.resolver_stages.specs.declared.phase.Stage.{Stage}
 use Rattle.resolver_stages.specs.declared.phase.Stage.TheVariants as stages
 use Rattle.resolver_stages.specs.declared.effects.Effect.{Effect}

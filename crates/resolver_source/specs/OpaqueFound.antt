@@ -6,7 +6,7 @@ use Rattle.std.specs.declared.cmp.Ordering.{Ordering}
 use Rattle.resolver_base.specs.declared.base.fault.Fault.{Fault}
 use Rattle.resolver_base.specs.declared.base.fault.Fault.TheVariants as faults
 use Rattle.resolver_root.specs.declared.root.Delivery.{Delivery}
-use Rattle.resolver_demand.specs.Entries.{Numbered, accepted, redelivered, response_changed}
+use Rattle.resolver_delivery.specs.Entries.{Numbered, accepted, redelivered, response_changed}
 use Rattle.resolver_stages.specs.declared.phase.Stage.{Stage}
 use Rattle.resolver_stages.specs.declared.effects.Effect.{Effect}
 use Rattle.resolver_source.specs.Opaque.{Row, called_off}

@@ -4,9 +4,9 @@ use Rattle.std.specs.List.{IsDistinct}
 use Rattle.std.specs.Map.{keys_of}
 use Rattle.std.specs.Ordering.{is_eq}
 use Rattle.std.specs.declared.cmp.Ordering.{Ordering}
-use Rattle.resolver_demand.specs.declared.delivery.entry.Open.{Open}
-use Rattle.resolver_demand.specs.declared.delivery.entry.Response.{Response}
-use Rattle.resolver_demand.specs.Entries.{Numbered}
+use Rattle.resolver_delivery.specs.declared.entry.Open.{Open}
+use Rattle.resolver_delivery.specs.declared.entry.Response.{Response}
+use Rattle.resolver_delivery.specs.Entries.{Numbered}
 use Rattle.resolver_stages.specs.declared.phase.Stage.{Stage}
 use Rattle.resolver_machine.specs.Account.{Handed}
 use Rattle.resolver_source.specs.Opaque.{Machine, Row, Status}

@@ -2,7 +2,7 @@
 
 ghost use Rattle.std.specs.Prelude.{◌≡◌, ◌<◌, ◌^◌, ◌++◌, ◌∷◌, [], None, IfErr, IfOk, IfSome, IsSome, OnOk};
 ghost use Rattle.std.specs.Map.{keys_of};
-ghost use Rattle.resolver_demand.specs.Entries.{is_accepted, number_of, response_of, state_of};
+ghost use Rattle.resolver_delivery.specs.Entries.{is_accepted, number_of, response_of, state_of};
 ghost use Rattle.resolver_machine.specs.Verdicts.{ruling};
 ghost use Rattle.resolver_source.specs.OpaqueFound.{IsRefusal, flagged, handed_again};
 ghost use Rattle.resolver_source.specs.OpaqueTables.{AreCached};

@@ -11,7 +11,7 @@ ghost use Rattle.resolver_source.specs.OpaqueListed.{listed};
 ghost use Rattle.resolver_stages.specs.OpaquePhased.{phase_of};
 
 use resolver_base::base::Fault;
-use resolver_demand::delivery::Entry;
+use resolver_delivery::Entry;
 use resolver_demand::subscribers::{Subscribers, Tracker};
 use resolver_root::NonEmptyVec;
 use resolver_stages::effects::Effect;

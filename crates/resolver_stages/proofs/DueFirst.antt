@@ -12,7 +12,7 @@ use Rattle.std.specs.declared.cmp.Ordering.{Ordering}
 use Rattle.std.specs.declared.cmp.Ordering.TheVariants.{Less}
 use Rattle.resolver_priorities.specs.Priorities.{is_of, pair_order}
 use Rattle.resolver_priorities.proofs.Priorities.{pair_order-total}
-use Rattle.resolver_demand.specs.declared.delivery.entry.Response.{Response}
+use Rattle.resolver_delivery.specs.declared.entry.Response.{Response}
 use Rattle.resolver_stages.specs.declared.phase.Stage.{Stage}
 use Rattle.resolver_stages.specs.declared.phase.Stage.TheVariants as stages
 use Rattle.resolver_stages.specs.OpaquePhases.{Phase, Waiting, Asked, Judged, least, least_due}

@@ -18,11 +18,11 @@ use Rattle.resolver_root.specs.declared.root.Delivery.{Delivery}
 use Rattle.resolver_root.specs.declared.root.Outcome.{Outcome}
 use Rattle.std.specs.Prelude.{Result, Ok, Err, option_and_then, IfOk, ◌==◌}
 use Rattle.std.specs.Result.{OnOk, OnErr}
-use Rattle.resolver_demand.specs.Entries.{Numbered, accepted, begun_again, changed, changed_at, completed, completed_from, completion_of, delivered, ended, fresh as fresh_entry, is_live, is_number, number_of, numbered, redelivered, response_changed, response_of, state_of, with_response, with_state}
-use Rattle.resolver_demand.specs.declared.delivery.entry.Open.{Open}
-use Rattle.resolver_demand.specs.declared.delivery.entry.Response.{Response}
-use Rattle.resolver_demand.specs.declared.delivery.completion.Completion.{Completion}
-use Rattle.resolver_demand.specs.declared.delivery.completion.Aborted.{Aborted}
+use Rattle.resolver_delivery.specs.Entries.{Numbered, accepted, begun_again, changed, changed_at, completed, completed_from, completion_of, delivered, ended, fresh as fresh_entry, is_live, is_number, number_of, numbered, redelivered, response_changed, response_of, state_of, with_response, with_state}
+use Rattle.resolver_delivery.specs.declared.entry.Open.{Open}
+use Rattle.resolver_delivery.specs.declared.entry.Response.{Response}
+use Rattle.resolver_delivery.specs.declared.completion.Completion.{Completion}
+use Rattle.resolver_delivery.specs.declared.completion.Aborted.{Aborted}
 use Rattle.resolver_stages.specs.declared.phase.Stage.{Stage}
 use Rattle.resolver_stages.specs.declared.phase.Stage.TheVariants as stages
 use Rattle.resolver_stages.specs.OpaqueStages.{Kept, attempt_in, if_same, if_under, key_under, kept_at, IsLed, resting, retry_at, retry_of, RestsAt, Rests, IsAsked, AreDue, waits}

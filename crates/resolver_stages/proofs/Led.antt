@@ -16,16 +16,16 @@ use Rattle.resolver_root.specs.declared.root.Delivery.{Delivery}
 use Rattle.resolver_root.specs.declared.root.Outcome.{Outcome}
 use Rattle.std.specs.Prelude.{Result, Ok, Err}
 use Rattle.std.specs.Result.{OnOk, OnErr}
-use Rattle.resolver_demand.specs.Entries.{Numbered, accepted, begun_again, changed_at, completed, completed_from, delivered, ended, fresh as fresh_entry, is_live, numbered, redelivered, response_changed, response_of, with_response, with_state}
-use Rattle.resolver_demand.specs.declared.delivery.entry.Open.{Open}
-use Rattle.resolver_demand.specs.declared.delivery.completion.Completion.{Completion}
-use Rattle.resolver_demand.specs.declared.delivery.completion.Aborted.{Aborted}
+use Rattle.resolver_delivery.specs.Entries.{Numbered, accepted, begun_again, changed_at, completed, completed_from, delivered, ended, fresh as fresh_entry, is_live, numbered, redelivered, response_changed, response_of, with_response, with_state}
+use Rattle.resolver_delivery.specs.declared.entry.Open.{Open}
+use Rattle.resolver_delivery.specs.declared.completion.Completion.{Completion}
+use Rattle.resolver_delivery.specs.declared.completion.Aborted.{Aborted}
 use Rattle.resolver_stages.specs.declared.phase.Stage.{Stage}
 use Rattle.resolver_stages.specs.declared.phase.Stage.TheVariants as stages
 use Rattle.resolver_stages.specs.OpaquePhases.{Phase, Waiting, Asked, Judged, is_asked_by}
 use Rattle.resolver_stages.specs.OpaquePhased.{phase_of, phase_in, asked_key, listed_phase}
 use Rattle.resolver_stages.specs.declared.phase.Phase.TheVariants as phases
-use Rattle.resolver_demand.specs.declared.delivery.entry.Response.{Response}
+use Rattle.resolver_delivery.specs.declared.entry.Response.{Response}
 use Rattle.resolver_stages.specs.OpaqueStages.{Kept, resting, stands_under, if_under, key_under, if_same, kept_at, IsLed}
 
 at-next : (next a : ℕ) → is_at (nat_cmp next) a ≡ true → next ≤ a

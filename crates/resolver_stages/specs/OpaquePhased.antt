@@ -1,6 +1,6 @@
 -- The phases of the kept keys, and what is found by them.
 use Rattle.std.specs.Prelude.{ℕ, List, [], ◌∷◌, Option, None, Some, find, option_map}
-use Rattle.resolver_demand.specs.declared.delivery.entry.Response.{Response}
+use Rattle.resolver_delivery.specs.declared.entry.Response.{Response}
 use Rattle.resolver_stages.specs.declared.phase.Stage.{Stage}
 use Rattle.resolver_stages.specs.declared.phase.Stage.TheVariants as stages
 use Rattle.resolver_stages.specs.declared.phase.Phase.{Phase as ListedPhase}

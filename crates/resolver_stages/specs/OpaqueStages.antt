@@ -6,11 +6,11 @@ use Rattle.std.specs.BTreeMap.{is_at}
 use Rattle.std.specs.Ordering.{is_eq, nat_cmp}
 use Rattle.std.specs.declared.cmp.Ordering.{Ordering}
 use Rattle.resolver_priorities.specs.Priorities.{is_of}
-use Rattle.resolver_demand.specs.Entries.{Numbered, fresh}
+use Rattle.resolver_delivery.specs.Entries.{Numbered, fresh}
 use Rattle.resolver_stages.specs.declared.phase.Stage.{Stage}
 use Rattle.resolver_stages.specs.declared.phase.Stage.TheVariants as stages
-use Rattle.resolver_demand.specs.declared.delivery.entry.Entry.{Entry}
-use Rattle.resolver_demand.specs.declared.delivery.entry.Response.{Response}
+use Rattle.resolver_delivery.specs.declared.entry.Entry.{Entry}
+use Rattle.resolver_delivery.specs.declared.entry.Response.{Response}
 
 -- what the entries keep of a key, without what was said of its response
 abbrev pub Kept : Type 0 → Type 0

@@ -3,7 +3,7 @@
 ghost use Rattle.std.specs.Prelude.{◌≡◌};
 ghost use Rattle.resolver_stages.specs.OpaquePhased.{listed_phase, phase_of};
 
-use resolver_demand::delivery::{Entries, Entry};
+use resolver_delivery::{Entries, Entry};
 
 /// What is being done for a demanded key.
 #[derive(Clone, Copy, Debug, PartialEq, Eq)]

@@ -5,7 +5,7 @@ ghost use Rattle.std.specs.BTreeMap.{is_at};
 ghost use Rattle.std.specs.Map.{keys_of, lookup};
 ghost use Rattle.std.specs.Option.{option_copied};
 ghost use Rattle.std.specs.Ordering.{is_eq, nat_cmp};
-ghost use Rattle.resolver_demand.specs.Entries.{accepted, changed, completed, delivered, inserted, is_accepted, is_tracked, number_of, redelivered, refusal_at, removed, response_changed, response_of, state_of, with_state};
+ghost use Rattle.resolver_delivery.specs.Entries.{accepted, changed, completed, delivered, inserted, is_accepted, is_tracked, number_of, redelivered, refusal_at, removed, response_changed, response_of, state_of, with_state};
 ghost use Rattle.resolver_stages.specs.declared.phase.Stage.TheVariants.{Asked};
 ghost use Rattle.resolver_stages.specs.OpaquePhased.{asked_key, first_due};
 ghost use Rattle.resolver_stages.specs.OpaqueOverdue.{by_due, due_of, first_key};
@@ -16,7 +16,7 @@ ghost use Rattle.resolver_base.specs.declared.base.fault.Fault.TheVariants.{OutO
 use crate::by_attempt::ByAttempt;
 use crate::phase::{Keys, Phase, Stage, listed_phase};
 use resolver_base::base::{Fault, Numbers};
-use resolver_demand::delivery::{Aborted, Completion, Entries, Entry};
+use resolver_delivery::{Aborted, Completion, Entries, Entry};
 use resolver_priorities::PrioritySet;
 use resolver_root::{Delivery, Outcome};
 use std::alloc::Global;

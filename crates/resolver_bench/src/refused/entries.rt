@@ -3,7 +3,7 @@
 use crate::refused::demand::listed;
 use crate::refused::part::{Fresh, Notes, Part, Way, done};
 use resolver_base::base::Fault;
-use resolver_demand::delivery::Entries;
+use resolver_delivery::Entries;
 use resolver_root::{Delivery, Outcome};
 use std::alloc::Global;
 

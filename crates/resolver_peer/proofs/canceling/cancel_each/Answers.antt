@@ -1,7 +1,7 @@
 use Rattle.std.proofs.Common.{◌≡◌, ◌∙◌, ap, refl, sym, ℕ, ◌+◌, ◌<◌, List, [], ◌∷◌, ◌++◌, append-nil, append_assoc, add-one, drop, drop-cons, get_or, length, Option, None, Some}
 use Rattle.std.proofs.lemmas.List.{drop_all}
 use Rattle.std.specs.List.{cons_option, filter_map}
-use Rattle.resolver_demand.specs.Entries.{number_of}
+use Rattle.resolver_delivery.specs.Entries.{number_of}
 use Rattle.resolver_peer.specs.Canceled.{canceled, each_canceled}
 use Rattle.resolver_peer.proofs.Refusals.{refused, refused-as}
 use Rattle.resolver_peer.proofs.canceling.cancel_each.Goals as goal

@@ -1,6 +1,6 @@
 use Rattle.std.proofs.Common.{◌≡◌, refl, ap, ◌∙◌, subst, ◌<◌, ◌^◌, None, Some, rules}
 use Rattle.std.specs.Prelude.{IsSome}
-use Rattle.resolver_demand.specs.Entries.{redelivered, refusal_at, response_of}
+use Rattle.resolver_delivery.specs.Entries.{redelivered, refusal_at, response_of}
 use Rattle.resolver_peer.proofs.Cached.{caches-some, flagged-next, flagged-number, flagged-response, noted, noted-name, noted-value, response-is}
 use Rattle.resolver_peer.proofs.Refusals.{refused, refused-as, refusal-is}
 use Rattle.resolver_peer.proofs.handing.hand_out_again.Goals as goal

@@ -1,5 +1,5 @@
 use Rattle.std.proofs.Common.{None, ◌≡◌, ◌∙◌, ap, refl, Some, ◌++◌, ◌∷◌, [], subst, arith}
-use Rattle.resolver_demand.specs.Entries.{response_of}
+use Rattle.resolver_delivery.specs.Entries.{response_of}
 use Rattle.resolver_source.specs.OpaqueFound.{flagged}
 use Rattle.resolver_source.proofs.Closing.{keys-flagged, cached-flagged, response-flagged, number-flagged, state-flagged, keys-redelivered, cached-redelivered, some-is, holds-at, some-none, some-same, next-flagged, told-same}
 use Rattle.resolver_source.proofs.handing.hand_out_again.Goals as goal

@@ -1,6 +1,6 @@
 use Rattle.std.proofs.Common.{◌∙◌, ap, refl, sym}
 use Rattle.std.proofs.lemmas.Cmp.{eq_by_cmp_equiv}
-use Rattle.resolver_demand.specs.Entries.{changed, state_of, with_state}
+use Rattle.resolver_delivery.specs.Entries.{changed, state_of, with_state}
 use Rattle.resolver_stages.specs.declared.phase.Stage.TheVariants.{Waiting}
 use Rattle.resolver_stages.proofs.Led.{led-waits}
 use Rattle.resolver_stages.proofs.Dues.{asked-attempt, due-waits, led-nowhere, led-same, rested, stands}

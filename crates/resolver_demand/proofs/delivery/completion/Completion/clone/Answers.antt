@@ -1,9 +1,0 @@
-use Rattle.resolver_demand.proofs.delivery.completion.Completion.clone.Goals as goal
-
-pub returns : goal.returns
-returns g c = record {
-  same = λ i. record c.args.self.now {
-    context = c.requires.contexts_clone _ _ c.in_ok-clone.ensures.cases i;
-    delivery = c.in_ok-clone-2.ensures.same i;
-  };
-}
