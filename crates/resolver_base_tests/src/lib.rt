@@ -1,5 +1,5 @@
-//! Tests of what both machines share, from names to deliveries and the mailbox with its handles, of requests
-//! and of the fetcher, through public calls.
+//! Tests of what both machines share, from names to deliveries and the mailbox with its handles, of requests,
+//! of the fetcher, and of what fetches from an opaque source, through public calls.
 //!
 //! They stand in a crate of their own, so that the libraries aren't proved a second time with them.
 #![tactic(auto)]
@@ -44,6 +44,8 @@ mod names;
 mod non_empty_vec;
 #[cfg(test)]
 mod numbers;
+#[cfg(test)]
+mod opaque;
 #[cfg(test)]
 mod pending;
 #[cfg(test)]

@@ -1,9 +1,9 @@
 //! Sources that close, and parts that fail: what becomes of the engine's loop.
 
 use crate::fakes::acts::Act;
-use crate::fakes::seen::Wrong;
 use crate::playing::sees;
 use resolver::{Outcome, Resolution};
+use resolver_fakes::seen::Wrong;
 
 /// There is peer 3.
 const PEERS: Act = Act::Peers(1, &[3]);

@@ -1,9 +1,9 @@
 //! Each input and each effect of the peer machine, once.
 
 use crate::fakes::acts::Act;
-use crate::fakes::seen::Wrong;
 use crate::playing::sees;
 use resolver::{Outcome, Resolution};
+use resolver_fakes::seen::Wrong;
 
 const COMPLETE: Act<'static> = Act::Judge(Outcome::Resolved(Resolution::Complete));
 

@@ -2,11 +2,11 @@
 //! keys from three peers.
 
 use crate::fakes::acts::Act;
-use crate::fakes::seen::Wrong;
 use crate::fakes::world::Setting;
 use crate::pair::{Acts, Play, judge_end, with_pairs};
 use crate::twin::{Counts, Hands, NONE, asked_in, message};
 use resolver::{Outcome, Resolution};
+use resolver_fakes::seen::Wrong;
 use std::alloc::AllocGlobal;
 use std::io::Print;
 use std::panic::Expect;

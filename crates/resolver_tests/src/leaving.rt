@@ -1,8 +1,8 @@
 //! Consumers that drop what they were handed, and peers that leave before they are answered.
 
 use crate::fakes::acts::Act;
-use crate::fakes::seen::Wrong;
 use crate::playing::sees;
+use resolver_fakes::seen::Wrong;
 
 /// Each delivery's verdict is that it was dropped: its subscribers are retired, and the key with them, so a later
 /// subscriber has it asked for anew.

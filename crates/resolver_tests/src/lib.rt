@@ -20,10 +20,6 @@ mod leaving;
 #[cfg(test)]
 mod mocks;
 #[cfg(test)]
-mod opaque_lent;
-#[cfg(test)]
-mod opaque_loop;
-#[cfg(test)]
 mod pair;
 #[cfg(test)]
 mod playing;

@@ -1,13 +1,13 @@
 ghost use Rattle.std.specs.Prelude.{◌≡◌, ◌<◌, true};
 
 use crate::asserting::assert_same;
-use crate::fakes::names::Below;
 use bytes::BytesMut;
 use resolver::Fetch;
 use resolver::base::Span;
 use resolver::ingress::{FetchKey, Message};
 use resolver::mailbox::{Entry, Naming, Pages, Receiver, Sender, recorded};
 use resolver::p2p::mocks::Key;
+use resolver_fakes::names::Below;
 use std::alloc::Global;
 use std::marker::Brand;
 use std::panic::Expect;

@@ -1,10 +1,11 @@
 //! A loop beside the twin of its core: both are given the same, and are to ask and to await the same.
 
 use crate::fakes::acts::{Act, Asks};
-use crate::fakes::world::{Polled, Setting, World, make_loop, settle};
+use crate::fakes::world::{Setting, World, make_loop};
 use crate::scan::Shown;
 use crate::twin::{Deadlines, Hands, Steps, Twin, make_core, spell_turn};
 use futures::test::MockTask;
+use resolver_fakes::polling::{Polled, settle};
 use std::alloc::{AllocGlobal, Global};
 use std::io::Print;
 use std::panic::Expect;

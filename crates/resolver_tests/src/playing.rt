@@ -2,50 +2,15 @@
 
 use crate::asserting::assert_same;
 use crate::fakes::acts::{Act, Asks};
-use crate::fakes::seen::{Seen, Wrong, spell};
-use crate::fakes::world::{Polled, Setting, World, make_loop, settle};
-use futures::channel::mpsc;
-use futures::task::Poll;
+use crate::fakes::world::{Setting, World, make_loop};
 use futures::test::MockTask;
-use resolver::Ending;
-use resolver::base::Feedback;
+use resolver_fakes::polling::{Polled, turn};
+use resolver_fakes::seen::{Wrong, spell_feedback, spell_said};
 use std::alloc::{AllocGlobal, Global};
-use std::fmt::{Display, Write};
 use std::panic::Expect;
 use std::process::Abort;
 use std::random::RandomSource;
 use std::sync::Wait;
-
-/// Whether a loop waits, is busy or over, and then what its owner is told.
-fn word_of(polled: Poll<Ending>, is_busy: bool) -> &'static str {
-    match polled {
-        Poll::Ready(ending) => match ending.into_result() {
-            Ok(()) => "complete",
-            Err(fault) => fault.name(),
-        },
-        Poll::Pending if is_busy => "busy",
-        Poll::Pending => "-",
-    }
-}
-
-/// Polls the loop, and writes what the fakes were asked, and whether it waits, is busy or over.
-pub fn turn<L: Polled>(
-    rt: &impl Abort,
-    text: &mut String,
-    task: &MockTask,
-    looped: &mut L,
-    told: &mut mpsc::UnboundedReceiver<Seen>,
-) {
-    let polled = settle(task, looped);
-    spell(text, told).expect(rt, "memory");
-    let word = word_of(polled, task.is_woken());
-    writeln!(text, "{word}").expect(rt, "memory");
-}
-
-/// Writes a line of a word and of what is said of it.
-pub fn spell_said(rt: &impl Abort, text: &mut String, word: &str, said: impl Display + Copy) {
-    writeln!(text, "{word} {said}").expect(rt, "memory");
-}
 
 /// Does this, and polls the loop.
 fn step<M: Asks, L: Polled>(
@@ -57,10 +22,13 @@ fn step<M: Asks, L: Polled>(
     act: Act<'_>,
 ) {
     match act {
-        Act::IsWanted => spell_said(rt, text, "wanted", world.held.is_wanted()),
+        Act::IsWanted => {
+            let is_wanted = world.held.is_wanted();
+            spell_said(text, "wanted", is_wanted).expect(rt, "memory");
+        },
         _ => {
             world.act(act).expect(rt, "memory");
-            turn(rt, text, task, looped, &mut world.held.told);
+            turn(text, task, looped, &mut world.held.told).expect(rt, "memory");
         }
     }
 }
@@ -80,13 +48,8 @@ fn act_all<M: Asks, L: Polled>(
 
 /// Has one more key fetched, and writes the answer.
 fn fetch_last<M: Asks>(rt: &impl Abort, text: &mut String, alloc: Global, mailbox: &mut M) {
-    let feedback = mailbox.fetch(alloc, &[(200, 20)]);
-    spell_feedback(rt, text, feedback.expect(rt, "an answer"));
-}
-
-/// Writes how a fetch was taken.
-pub fn spell_feedback(rt: &impl Abort, text: &mut String, feedback: Feedback) {
-    writeln!(text, "{feedback:?}").expect(rt, "memory");
+    let feedback = mailbox.fetch(alloc, &[(200, 20)]).expect(rt, "an answer");
+    spell_feedback(text, feedback).expect(rt, "memory");
 }
 
 /// Does these in this world, and polls the loop after each. Gives what the fakes were asked, how each poll

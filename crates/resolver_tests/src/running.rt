@@ -1,20 +1,14 @@
 use crate::asserting::assert_same;
 use crate::fakes::acts::{Act, Asks};
-use crate::fakes::seen::{Seen, Wrong};
 use crate::fakes::world::{Setting, World, make_world, start};
-use crate::opaque_lent::{Asking, Held, Lent, Looked, answer_look, lend};
-use crate::playing::spell_said;
 use bytes::Bytes;
-use futures::StreamExt;
 use futures::channel::{mpsc, oneshot};
-use futures::executor::block_on;
 use resolver::base::Fault;
-use resolver::opaque::init;
-use resolver::p2p::mocks::Key;
 use resolver::{Outcome, Resolution};
+use resolver_fakes::seen::{Seen, Wrong, spell_said};
+use resolver_fakes::waiting::next;
 use std::alloc::AllocGlobal;
 use std::fmt::Write;
-use std::num::NonZeroUsize;
 use std::panic::Expect;
 use std::process::Abort;
 use std::random::RandomSource;
@@ -22,14 +16,6 @@ use std::sync::Wait;
 use std::thread;
 use std::thread::Threads;
 use std::time::{Clock, Duration};
-
-/// What comes next, once it is there.
-fn next<R, T: Drop>(rt: &R, receiver: &mut mpsc::UnboundedReceiver<T>) -> Option<T>
-where
-    R: Abort + Wait + RandomSource + AllocGlobal,
-{
-    block_on(rt, receiver.next()).expect(rt, "a wait")
-}
 
 fn spell_one(rt: &impl Abort, text: &mut String, seen: &Seen) {
     writeln!(text, "{seen}").expect(rt, "memory");
@@ -43,7 +29,7 @@ fn wait<R: Abort + Wait + RandomSource + AllocGlobal>(
     count: u32,
 ) {
     for _ in 0..count {
-        if let Some(seen) = next(rt, told) {
+        if let Some(seen) = next(rt, told).expect(rt, "a wait") {
             spell_one(rt, text, &seen);
             drop(seen);
         }
@@ -96,7 +82,7 @@ fn answer_next<R, T: Drop>(
 where
     R: Abort + Wait + RandomSource + AllocGlobal,
 {
-    match next(rt, asked) {
+    match next(rt, asked).expect(rt, "a wait") {
         Some(sender) => drop(sender.send(answer)),
         None => drop(answer),
     }
@@ -191,7 +177,10 @@ where
         Step::Look(count) => look(rt, text, &mut world.held.told, count),
         Step::Complete => complete(rt, &mut world.held.verdicts),
         Step::Serve => serve(rt, &mut world.held.serves),
-        Step::Release => spell_said(rt, text, "owed", release(&mut world.held.serves)),
+        Step::Release => {
+            let is_owed = release(&mut world.held.serves);
+            spell_said(text, "owed", is_owed).expect(rt, "memory");
+        },
     }
 }
 
@@ -265,79 +254,6 @@ send 3 x00000000000000000001
 deliver 1 to 10 x6869
 owed true
 send 3 x000000000000000701026f6b
-",
-    );
-    drop(text);
-}
-
-/// The next look is answered so.
-fn answer<R>(
-    rt: &R,
-    text: &mut String,
-    looks: &mut mpsc::UnboundedReceiver<(Key, Looked)>,
-    value: Option<&'static [u8]>,
-)
-where
-    R: Abort + Wait + RandomSource + AllocGlobal,
-{
-    if let Some((key, look)) = next(rt, looks) {
-        spell_said(rt, text, "look", key.0);
-        answer_look(look, value);
-    }
-}
-
-/// The source has nothing at first, and a value once the clock has come to the moment that it is
-/// to wait for. Gives what was written.
-fn retry<R>(rt: &R, held: &mut Held) -> String
-where
-    R: Abort + Wait + RandomSource + AllocGlobal,
-{
-    let mut text = String::new(rt.alloc());
-    answer(rt, &mut text, &mut held.looks, None);
-    if let Some(moment) = next(rt, &mut held.moments) {
-        spell_said(rt, &mut text, "wait", moment);
-    }
-    held.watch.put(100);
-    answer(rt, &mut text, &mut held.looks, Some(b"hi"));
-    wait(rt, &mut text, &mut held.told, 1);
-    text
-}
-
-/// The same of an actor in a thread, with a delay of 100, that is asked for key 1. Gives what was written, and how the
-/// actor ended.
-fn retry_in_thread<R>(rt: R) -> (String, Result<(), Fault>)
-where
-    R: Abort + Threads + Wait + RandomSource + AllocGlobal + Copy + Drop + Send + 'static,
-{
-    let alloc = rt.alloc();
-    let (mut held, lent) = lend(&rt, alloc, Wrong::Nothing);
-    let Lent {
-        clock,
-        source,
-        consumer,
-    } = lent;
-    let begun = init(rt, alloc, clock, source, consumer, NonZeroUsize::MIN, 100);
-    let (mut resolver, handle) = begun.expect(&rt, "an actor");
-    drop(resolver.want(&rt, 10));
-    let text = retry(&rt, &mut held);
-    resolver.end();
-    let ended = handle.join(&rt);
-    drop(resolver);
-    drop(held);
-    (text, ended)
-}
-
-#[test]
-fn an_actor_in_a_thread_asks_again_after_the_delay(rt: HostRuntime) {
-    let (text, ended) = retry_in_thread(rt);
-    assert_ran(
-        &rt,
-        text.as_str(),
-        ended,
-        "look 1
-wait 100
-look 1
-deliver 1 to 10 x6869
 ",
     );
     drop(text);

@@ -1,9 +1,9 @@
 //! What a scan is to come to, by the rules of scans: of one that is written down as it goes.
 
-use crate::fakes::names::Peer;
 use resolver::base::Check;
 use resolver::p2p::mocks::Key;
 use resolver::p2p::rows::{Phase, Row};
+use resolver_fakes::names::Peer;
 use std::alloc::Global;
 use std::panic::Expect;
 use std::process::Abort;

@@ -2,8 +2,6 @@
 
 use crate::asserting::assert_same;
 use crate::fakes::acts::Act;
-use crate::fakes::names::Peer;
-use crate::fakes::seen::{Hex, Wrong};
 use crate::fakes::world::Setting;
 use crate::pair::{Acts, Play, with_pairs};
 use crate::twin::Happened;
@@ -13,6 +11,8 @@ use resolver::p2p::fetcher::Answer;
 use resolver::p2p::inputs::Event;
 use resolver::p2p::mocks::Key;
 use resolver::{Outcome, Resolution};
+use resolver_fakes::names::Peer;
+use resolver_fakes::seen::{Hex, Wrong};
 use std::fmt::{Display, Write};
 use std::io::Print;
 use std::panic::Expect;

@@ -1,10 +1,6 @@
 //! A second core, which is given by hand what the loop takes from its sources: it asks fakes of its own.
 
-use crate::fakes::acts;
 use crate::fakes::acts::Act;
-use crate::fakes::lent::{Dice, Wire};
-use crate::fakes::names::{Below, Peer};
-use crate::fakes::seen::{Seen, Told, spell, tell};
 use crate::fakes::world::{Setting, peers};
 use crate::scan::{Scan, Shown, Stage, shown_of};
 use crate::script::{write_answer, write_event, write_number};
@@ -18,6 +14,10 @@ use resolver::p2p::inputs::{Event, Happening, Input};
 use resolver::p2p::mocks::Key;
 use resolver::p2p::{Core, FetchKey as Wanted};
 use resolver::{Delivery, Outcome};
+use resolver_fakes::lent::{Dice, Wire};
+use resolver_fakes::names;
+use resolver_fakes::names::{Below, Peer};
+use resolver_fakes::seen::{Seen, Told, spell, tell};
 use std::alloc::Global;
 use std::collections::VecDeque;
 use std::fmt::Write;
@@ -247,7 +247,7 @@ pub fn message(rt: &impl Abort, alloc: Global, id: u64, bytes: &[u8]) -> Vec<u8>
 
 /// A key that any peer may be asked for.
 fn item(rt: &impl Abort, alloc: Global, key: u8, subscriber: u16) -> Wanted<Key, Peer, u16> {
-    FetchKey::from_fetch(alloc, acts::wanted(key, subscriber)).expect(rt, "memory")
+    FetchKey::from_fetch(alloc, names::wanted(key, subscriber)).expect(rt, "memory")
 }
 
 /// Keys that any peer may be asked for.

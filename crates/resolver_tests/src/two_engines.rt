@@ -2,7 +2,6 @@
 //! every seventh send is refused.
 
 use crate::fakes::acts::Act;
-use crate::fakes::seen::Wrong;
 use crate::fakes::world::Setting;
 use crate::pair::{Acts, Play, judge_end, with_pairs};
 use crate::twin::{Hands, awaited};
@@ -10,6 +9,7 @@ use bytes::Bytes;
 use resolver::base::{Draws, Seeded};
 use resolver::p2p::mocks::Key;
 use resolver::{Outcome, Resolution};
+use resolver_fakes::seen::Wrong;
 use std::alloc::AllocGlobal;
 use std::io::Print;
 use std::panic::Expect;

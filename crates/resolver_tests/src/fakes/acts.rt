@@ -1,10 +1,10 @@
 //! What a test does to a world, one thing at a time.
 
-use crate::fakes::names::{Below, Peer};
 use crate::fakes::world::{Asked, Held, World, peers};
 use bytes::Bytes;
 use resolver::p2p::Mailbox;
 use resolver_base::base::{Fault, Feedback};
+use resolver_fakes::names::{Below, Peer, wanted};
 use resolver_loop::{Resolver, TargetedResolver};
 use resolver_mailbox::mocks::Key;
 use resolver_root::{Fetch, NonEmptyVec, Outcome};
@@ -43,15 +43,6 @@ pub enum Act<'a> {
     CloseBlocked,
     CloseNetwork,
     CloseMailbox,
-}
-
-/// A fetch of a key.
-pub fn wanted(key: u8, subscriber: u16) -> Fetch<Key, u16> {
-    Fetch {
-        key: Key(key),
-        subscriber,
-        mark: 7,
-    }
 }
 
 /// The fetches of keys by their subscribers.

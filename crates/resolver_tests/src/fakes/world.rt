@@ -1,16 +1,17 @@
 //! An engine's loop in memory, and what its test holds of it.
 
-use crate::fakes::both::both;
-use crate::fakes::lent::{Dice, Given, Judge, Store, Wire};
-use crate::fakes::names::{Below, Peer};
-use crate::fakes::seen::{Seen, Told, Wrong};
-use crate::fakes::watch::{Standing, Watch};
 use bytes::Bytes;
 use futures::channel::{mpsc, oneshot};
 use futures::task::Poll;
 use futures::test::MockTask;
 use resolver::p2p::{Config, Engine, Loop, Mailbox};
 use resolver_base::base::{Fault, Seeded};
+use resolver_fakes::both::both;
+use resolver_fakes::lent::{Dice, Given, Judge, Store, Wire, make_judge};
+use resolver_fakes::names::{Below, Peer};
+use resolver_fakes::polling::Polled;
+use resolver_fakes::seen::{Seen, Told, Wrong};
+use resolver_fakes::watch::{Standing, Watch};
 use resolver_loop::{Ending, Handle};
 use resolver_mailbox::mailbox::Unrecorded;
 use resolver_mailbox::mocks::Key;
@@ -65,7 +66,7 @@ pub type Made<R> = Engine<
 >;
 
 /// Its loop.
-pub type Looped<R> = Loop<
+pub type Looping<R> = Loop<
     Peer,
     Given<(u64, Vec<Peer>)>,
     Given<Vec<Peer>>,
@@ -84,15 +85,15 @@ pub type Looped<R> = Loop<
 /// A handle of its mailbox.
 pub type Asked<R> = Mailbox<Key, Peer, u16, Below, Unrecorded, R>;
 
-/// A machine's loop, as a test knows it, which polls it by hand.
-pub trait Polled {
-    /// Polls it once.
-    fn poll_once(&mut self, task: &MockTask) -> Poll<Ending>;
+/// The loop, as a test knows it, which polls it by hand.
+#[derive(Drop)]
+pub struct Looped<L> {
+    looped: L,
 }
 
-impl<R: Wait + Copy + Drop> Polled for Looped<R> {
+impl<R: Wait + Copy + Drop> Polled for Looped<Looping<R>> {
     fn poll_once(&mut self, task: &MockTask) -> Poll<Ending> {
-        task.poll(self)
+        task.poll(&mut self.looped)
     }
 }
 
@@ -198,26 +199,6 @@ fn make_sources(alloc: Global, told: &Told) -> Result<Sources, Fault> {
     }
 }
 
-/// A consumer for a test, which gets the senders of the outcomes.
-pub fn judge(
-    alloc: Global,
-    told: &Told,
-    wrong: Wrong,
-) -> Result<(mpsc::UnboundedReceiver<oneshot::Sender<Outcome>>, Judge), Fault> {
-    match both(told.clone(), mpsc::unbounded(alloc)) {
-        Ok((told, (verdicts, senders))) => {
-            let judge = Judge {
-                alloc,
-                told,
-                wrong,
-                verdicts,
-            };
-            Ok((senders, judge))
-        }
-        Err(error) => Err(error.into()),
-    }
-}
-
 fn store(
     alloc: Global,
     told: &Told,
@@ -238,7 +219,7 @@ fn store(
 }
 
 fn make_hands(alloc: Global, told: &Told, wrong: Wrong) -> Result<Hands, Fault> {
-    match both(judge(alloc, told, wrong), store(alloc, told, wrong)) {
+    match both(make_judge(alloc, told, wrong), store(alloc, told, wrong)) {
         Ok(((verdicts, consumer), (serves, producer))) => Ok(Hands {
             verdicts,
             serves,
@@ -390,7 +371,7 @@ pub fn make_loop<R: Copy>(
     rt: R,
     alloc: Global,
     setting: Setting,
-) -> Result<(World<Asked<R>>, Looped<R>), Fault> {
+) -> Result<(World<Asked<R>>, Looped<Looping<R>>), Fault> {
     match make_world(rt, alloc, setting) {
         Ok((world, engine, lent)) => {
             let looped = match parts_of(lent) {
@@ -401,7 +382,7 @@ pub fn make_loop<R: Copy>(
                 }
             };
             match looped {
-                Ok(looped) => Ok((world, looped)),
+                Ok(looped) => Ok((world, Looped { looped })),
                 Err(fault) => {
                     drop(world);
                     Err(fault)
@@ -433,16 +414,4 @@ pub fn peers(alloc: Global, numbers: &[u8]) -> Result<Vec<Peer>, Fault> {
         peers.push(Peer(*number))?;
     }
     Ok(peers)
-}
-
-/// Polls the loop until it is over, or nothing is left for it: what is new in a set of futures wakes the
-/// task that polls it, and so does a loop that took many turns.
-pub fn settle<L: Polled>(task: &MockTask, looped: &mut L) -> Poll<Ending> {
-    for _ in 0..1000_u64 {
-        let polled = looped.poll_once(task);
-        if polled.is_ready() || !task.is_woken() {
-            return polled;
-        }
-    }
-    Poll::Pending
 }

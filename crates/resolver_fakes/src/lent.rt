@@ -5,8 +5,9 @@ ghost use Rattle.futures.specs.Poll.{OnPending};
 ghost use Rattle.futures.specs.Task.{IsArmed, Keeps};
 ghost use Rattle.resolver_base.specs.declared.base.fault.Fault.TheVariants.{OutOfMemory};
 
-use crate::fakes::names::Peer;
-use crate::fakes::seen::{Seen, Told, Wrong, tell};
+use crate::both::both;
+use crate::names::Peer;
+use crate::seen::{Seen, Told, Wrong, tell};
 use bytes::Bytes;
 use futures::Stream;
 use futures::channel::{mpsc, oneshot};
@@ -200,6 +201,26 @@ impl Consumer for Judge {
                 Err(fault)
             }
         }
+    }
+}
+
+/// A consumer for a test, which gets the senders of the outcomes.
+pub fn make_judge(
+    alloc: Global,
+    told: &Told,
+    wrong: Wrong,
+) -> Result<(mpsc::UnboundedReceiver<oneshot::Sender<Outcome>>, Judge), Fault> {
+    match both(told.clone(), mpsc::unbounded(alloc)) {
+        Ok((told, (verdicts, senders))) => {
+            let judge = Judge {
+                alloc,
+                told,
+                wrong,
+                verdicts,
+            };
+            Ok((senders, judge))
+        }
+        Err(error) => Err(error.into()),
     }
 }
 

@@ -1,22 +1,21 @@
 //! An actor's loop in memory over an opaque source, and what its test holds of it.
 
-use crate::fakes::acts::wanted;
-use crate::fakes::lent::Judge;
-use crate::fakes::names::{Below, Peer};
-use crate::fakes::seen::{Seen, Wrong};
-use crate::fakes::watch::{Standing, Telling, Watch};
-use crate::fakes::world::{Polled, judge};
-use crate::playing::spell_said;
 use bytes::Bytes;
 use futures::Future;
 use futures::channel::{mpsc, oneshot};
 use futures::task::{Context, Poll};
 use futures::test::MockTask;
-use resolver::base::Feedback;
-use resolver::mailbox::Unrecorded;
-use resolver::opaque::{Fetcher, Loop};
-use resolver::p2p::mocks::Key;
-use resolver::{Ending, Outcome, Resolution, Resolver, opaque};
+use resolver_base::base::Feedback;
+use resolver_fakes::lent::{Judge, make_judge};
+use resolver_fakes::names::{Below, Peer, wanted};
+use resolver_fakes::polling::Polled;
+use resolver_fakes::seen::{Seen, Wrong, spell_said};
+use resolver_fakes::watch::{Standing, Telling, Watch};
+use resolver_loop::{Ending, Resolver};
+use resolver_mailbox::mailbox::Unrecorded;
+use resolver_mailbox::mocks::Key;
+use resolver_opaque::{Fetcher, Loop};
+use resolver_root::{Outcome, Resolution};
 use std::alloc::Global;
 use std::panic::Expect;
 use std::process::Abort;
@@ -105,7 +104,7 @@ impl<L: Pollable> Polled for Looped<L> {
 }
 
 /// A handle of its mailbox.
-pub type Asked<R> = opaque::Resolver<Key, u16, Peer, Below, Unrecorded, R>;
+pub type Asked<R> = resolver_opaque::Resolver<Key, u16, Peer, Below, Unrecorded, R>;
 
 /// Where a look is answered.
 pub type Looked = oneshot::Sender<Option<Bytes>>;
@@ -183,7 +182,7 @@ pub fn lend(rt: &impl Abort, alloc: Global, wrong: Wrong) -> (Held, Lent) {
     let (moments, watch, clock) = make_clock(rt, alloc);
     let (looks, source) = make_source(rt, alloc);
     let (teller, told) = mpsc::unbounded(alloc).expect(rt, "memory");
-    let (verdicts, consumer) = judge(alloc, &teller, wrong).expect(rt, "memory");
+    let (verdicts, consumer) = make_judge(alloc, &teller, wrong).expect(rt, "memory");
     drop(teller);
     let held = Held {
         looks,
@@ -240,7 +239,7 @@ impl Held {
         let Ok((key, look)) = self.looks.try_recv() else {
             return None;
         };
-        spell_said(rt, text, "look", key.0);
+        spell_said(text, "look", key.0).expect(rt, "memory");
         Some(look)
     }
 

@@ -1,4 +1,4 @@
-//! Names of peers, and a predicate.
+//! Names of peers, a fetch, and a predicate.
 
 ghost use Rattle.std.specs.Prelude.{◌≡◌, nat_lt};
 ghost use Rattle.std.proofs.Common.{rules};
@@ -6,7 +6,7 @@ ghost use Rattle.std.proofs.Common.{rules};
 use resolver_base::base::{Faithful, PublicKey};
 use resolver_mailbox::mailbox::Exact;
 use resolver_mailbox::mocks::Key;
-use resolver_root::Predicate;
+use resolver_root::{Fetch, Predicate};
 
 /// A name of a peer.
 #[derive(Clone, Copy, PartialEq, Eq, PartialOrd, Ord, Hash)]
@@ -16,6 +16,15 @@ impl PublicKey for Peer {}
 
 impl Faithful for Peer {
     ghost clones = { Prim.search rules };
+}
+
+/// A fetch of a key.
+pub fn wanted(key: u8, subscriber: u16) -> Fetch<Key, u16> {
+    Fetch {
+        key: Key(key),
+        subscriber,
+        mark: 7,
+    }
 }
 
 /// Keeps the subscribers below this one.

@@ -1,14 +1,14 @@
 //! What goes wrong around an engine, and what its fakes are asked, as lines.
 
-use crate::fakes::names::Peer;
+use crate::names::Peer;
 use bytes::Bytes;
 use futures::channel::mpsc;
-use resolver_base::base::Check;
+use resolver_base::base::{Check, Feedback};
 use resolver_mailbox::mocks::Key;
 use resolver_root::Delivery;
 use std::alloc::AllocError;
 use std::fmt;
-use std::fmt::{Formatter, Write};
+use std::fmt::{Display, Formatter, Write};
 
 /// What goes wrong around an engine. Checks and sends are counted from 1.
 #[derive(Clone, Copy, Debug)]
@@ -137,4 +137,18 @@ pub fn spell<T: fmt::Display + Drop>(
         written?;
     }
     Ok(())
+}
+
+/// Writes a line of a word and of what is said of it.
+pub fn spell_said(
+    text: &mut String,
+    word: &str,
+    said: impl Display + Copy,
+) -> Result<(), AllocError> {
+    writeln!(text, "{word} {said}")
+}
+
+/// Writes how a fetch was taken.
+pub fn spell_feedback(text: &mut String, feedback: Feedback) -> Result<(), AllocError> {
+    writeln!(text, "{feedback:?}")
 }

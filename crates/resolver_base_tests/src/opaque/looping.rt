@@ -1,12 +1,13 @@
-use crate::asserting::assert_same;
-use crate::fakes::seen::Wrong;
-use crate::fakes::world::Polled;
-use crate::opaque_lent::{Asking, Ends, Held, Lent, Looped, Pollable, lend};
-use crate::playing::{spell_feedback, spell_said, turn};
+//! An actor's loop that is polled by hand.
+
+use crate::asserts::equal_texts;
+use crate::opaque::lent::{Asking, Ends, Held, Lent, Looped, Pollable, lend};
 use futures::channel::oneshot;
 use futures::test::MockTask;
-use resolver::base::Fault;
-use resolver::opaque::open;
+use resolver_base::base::Fault;
+use resolver_fakes::polling::{Polled, turn};
+use resolver_fakes::seen::{Wrong, spell_feedback, spell_said};
+use resolver_opaque::open;
 use std::alloc::AllocGlobal;
 use std::num::NonZeroUsize;
 use std::panic::Expect;
@@ -110,8 +111,8 @@ fn let_go_of_look<A: Asking, L: Polled>(
 ) {
     let look = ends.held.look(rt, text);
     ends.resolver.let_go_from(rt, subscriber);
-    turn(rt, text, task, looped, &mut ends.held.told);
-    spell_said(rt, text, "given up", is_given_up(look));
+    turn(text, task, looped, &mut ends.held.told).expect(rt, "memory");
+    spell_said(text, "given up", is_given_up(look)).expect(rt, "memory");
 }
 
 fn step<A: Asking, L: Polled>(
@@ -125,7 +126,8 @@ fn step<A: Asking, L: Polled>(
     match act {
         Act::Want(subscriber) => drop(ends.resolver.want(rt, subscriber)),
         Act::LastWant(subscriber) => {
-            spell_feedback(rt, text, ends.resolver.want(rt, subscriber));
+            let feedback = ends.resolver.want(rt, subscriber);
+            spell_feedback(text, feedback).expect(rt, "memory");
         }
         Act::Answer(value) => ends.held.answer(rt, text, value),
         Act::At(now) => ends.held.watch.put(now),
@@ -134,10 +136,10 @@ fn step<A: Asking, L: Polled>(
         Act::LetGoOfLook(subscriber) => let_go_of_look(rt, text, task, looped, ends, subscriber),
         Act::IsCanceled => {
             let verdict = ends.held.verdicts.try_recv().ok();
-            spell_said(rt, text, "canceled", is_given_up(verdict));
+            spell_said(text, "canceled", is_given_up(verdict)).expect(rt, "memory");
         }
         Act::Close => ends.resolver.end(),
-        Act::Turn => turn(rt, text, task, looped, &mut ends.held.told),
+        Act::Turn => turn(text, task, looped, &mut ends.held.told).expect(rt, "memory"),
     }
 }
 
@@ -177,7 +179,7 @@ where
     } = lent;
     let opened = open(rt, alloc, clock, source, consumer, NonZeroUsize::MIN, 100);
     let text = written(&rt, opened, held, acts);
-    assert_same(&rt, text.as_str(), seen);
+    equal_texts(&rt, text.as_str(), seen);
     drop(text);
 }
 

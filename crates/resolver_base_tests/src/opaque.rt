@@ -1,0 +1,5 @@
+//! The loop of an actor over an opaque source.
+
+mod lent;
+mod looping;
+mod running;

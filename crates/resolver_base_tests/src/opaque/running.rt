@@ -1,0 +1,94 @@
+//! An actor's loop in a thread.
+
+use crate::asserts::{equal, equal_texts};
+use crate::opaque::lent::{Asking, Held, Lent, Looked, answer_look, lend};
+use futures::channel::mpsc;
+use resolver_base::base::Fault;
+use resolver_fakes::seen::{Wrong, spell_said};
+use resolver_fakes::waiting::next;
+use resolver_mailbox::mocks::Key;
+use resolver_opaque::init;
+use std::alloc::AllocGlobal;
+use std::fmt::Write;
+use std::num::NonZeroUsize;
+use std::panic::Expect;
+use std::process::Abort;
+use std::random::RandomSource;
+use std::sync::Wait;
+use std::thread::Threads;
+
+/// The next look is answered so.
+fn answer<R>(
+    rt: &R,
+    text: &mut String,
+    looks: &mut mpsc::UnboundedReceiver<(Key, Looked)>,
+    value: Option<&'static [u8]>,
+)
+where
+    R: Abort + Wait + RandomSource + AllocGlobal,
+{
+    if let Some((key, look)) = next(rt, looks).expect(rt, "a wait") {
+        spell_said(text, "look", key.0).expect(rt, "memory");
+        answer_look(look, value);
+    }
+}
+
+/// The source has nothing at first, and a value once the clock has come to the moment that it is
+/// to wait for. Gives what was written.
+fn retry<R>(rt: &R, held: &mut Held) -> String
+where
+    R: Abort + Wait + RandomSource + AllocGlobal,
+{
+    let mut text = String::new(rt.alloc());
+    answer(rt, &mut text, &mut held.looks, None);
+    if let Some(moment) = next(rt, &mut held.moments).expect(rt, "a wait") {
+        spell_said(&mut text, "wait", moment).expect(rt, "memory");
+    }
+    held.watch.put(100);
+    answer(rt, &mut text, &mut held.looks, Some(b"hi"));
+    if let Some(seen) = next(rt, &mut held.told).expect(rt, "a wait") {
+        writeln!(text, "{seen}").expect(rt, "memory");
+        drop(seen);
+    }
+    text
+}
+
+/// What an actor in a thread does so, with a delay of 100, that is asked for key 1. Gives what was written, and how the
+/// actor ended.
+fn retry_in_thread<R>(rt: R) -> (String, Result<(), Fault>)
+where
+    R: Abort + Threads + Wait + RandomSource + AllocGlobal + Copy + Drop + Send + 'static,
+{
+    let alloc = rt.alloc();
+    let (mut held, lent) = lend(&rt, alloc, Wrong::Nothing);
+    let Lent {
+        clock,
+        source,
+        consumer,
+    } = lent;
+    let begun = init(rt, alloc, clock, source, consumer, NonZeroUsize::MIN, 100);
+    let (mut resolver, handle) = begun.expect(&rt, "an actor");
+    drop(resolver.want(&rt, 10));
+    let text = retry(&rt, &mut held);
+    resolver.end();
+    let ended = handle.join(&rt);
+    drop(resolver);
+    drop(held);
+    (text, ended)
+}
+
+#[test]
+fn an_actor_in_a_thread_asks_again_after_the_delay(rt: HostRuntime) {
+    let (text, ended) = retry_in_thread(rt);
+    equal(&rt, &ended, &Ok(()));
+    equal_texts(
+        &rt,
+        text.as_str(),
+        "look 1
+wait 100
+look 1
+deliver 1 to 10 x6869
+",
+    );
+    drop(text);
+}
