@@ -1,7 +1,11 @@
+use Rattle.std.proofs.Common.{rules}
 use Rattle.resolver_peer.specs.Parties.{parties}
 use Rattle.resolver_parts.specs.Said.{codec, event_of}
 use Rattle.resolver_parts.proofs.Happening.{took-answer, took-event}
 use Rattle.resolver_parts.proofs.parts.Parts.take.Goals as goal
+
+pub returns-then-is_scanning : goal.returns-then-is_scanning
+returns-then-is_scanning g c = search rules
 
 pub returns-else-is_scanning : goal.returns-else-is_scanning
 returns-else-is_scanning g c = λ m moment is.
