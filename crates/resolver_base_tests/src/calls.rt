@@ -28,6 +28,7 @@ pub fn delayed(delay: u32) -> Config<Letter>
         me: None,
         fetch_timeout: 50,
         retry_delay: u128::from(delay),
+        peer_limit: None,
         priority_requests: false,
     }
 }

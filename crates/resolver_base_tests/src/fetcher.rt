@@ -248,6 +248,7 @@ fn charged_the_longest_time(rt: HostRuntime) {
         me: None,
         fetch_timeout: DURATION_MAX,
         retry_delay: DURATION_MAX,
+        peer_limit: None,
         priority_requests: false,
     };
     goes_by(&rt, rt.alloc(), config, &[CALLS]);

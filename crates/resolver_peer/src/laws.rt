@@ -67,6 +67,21 @@ pub fn verdicts_repeated()
     ensures { peer.VerdictsRepeated }
 {}
 
+/// A full peer is asked again once it responds, and not for a credit.
+pub fn limit_frees_on_response()
+    ensures { peer.LimitFreesOnResponse }
+{}
+
+/// A full peer is asked again once the time of its request is over.
+pub fn limit_frees_on_timeout()
+    ensures { peer.LimitFreesOnTimeout }
+{}
+
+/// A peer that left and came back is as full as it was.
+pub fn limit_outlives_peer_sets()
+    ensures { peer.LimitOutlivesPeerSets }
+{}
+
 /// In a run of the peer machine each response earns its peer at most one credit or one block.
 pub fn earns_once<K: Ord, S: Ord, P: Ord>()
     ensures { EarnsOnce (parties K.cmp S.cmp P.cmp) }

@@ -182,6 +182,7 @@ pub fn make_core(alloc: Global, me: u8) -> Plain {
         me: Some(Peer(me)),
         fetch_timeout: 50,
         retry_delay: 10,
+        peer_limit: None,
         priority_requests: false,
     };
     Core::new(alloc, configuration, false)

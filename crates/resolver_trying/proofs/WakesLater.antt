@@ -98,21 +98,3 @@ module _ {K P : Type 0} (o : Orders K P) where
     at_once = λ f now waits fits. begins-later f now waits fits;
     later = λ f scan answer t e waits fits limits vain. takes-in-vain o (snapshot o f) (IsLater f waits) (ends-later f waits) scan answer t e vain fits limits;
   }
-
-  weight-sent : (f : Fetcher K P) (peer : P) (sent : Option (ℕ × Request K P)) → weight o peer (with_sent o sent f) ≡ weight o peer f
-  weight-sent f peer None = refl
-  weight-sent f peer (Some r) = refl
-
-  weight-taken : (f : Fetcher K P) (peer : P) (r : Result (Turn K P) Fault) → weight o peer (scan_taken o f r).1 ≡ weight o peer f
-  weight-taken f peer (Ok t) = weight-sent f peer t.sent
-  weight-taken f peer (Err fault) = refl
-
-  weight-answered : (f : Fetcher K P) (peer : P) (answer : Answer) (scan : Option (Scan K P)) → weight o peer (answered o f answer scan).1 ≡ weight o peer f
-  weight-answered f peer answer None = refl
-  weight-answered f peer answer (Some scan) = weight-taken f peer (scans.takes o (snapshot o f) scan answer)
-
-  pub keeps_weights : KeepsWeights o
-  keeps_weights = record {
-    begun = λ f peer now. weight-sent f peer (begins o (snapshot o f) now).sent;
-    answered = λ f peer answer. weight-answered f peer answer f.scan;
-  }

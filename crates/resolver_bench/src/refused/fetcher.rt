@@ -64,6 +64,7 @@ const CONFIG: Config<Peer> = Config {
     me: None,
     fetch_timeout: 50,
     retry_delay: 10,
+    peer_limit: None,
     priority_requests: false,
 };
 

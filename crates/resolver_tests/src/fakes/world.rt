@@ -324,6 +324,7 @@ pub fn make_world<R: Copy>(
                 me: Some(Peer(setting.me)),
                 fetch_timeout: 50,
                 fetch_retry_delay: 10,
+                peer_limit: None,
                 priority_requests: false,
                 priority_responses: false,
             };

@@ -1,8 +1,10 @@
-use Rattle.std.proofs.Common.{ap, sym, ◌∙◌, is_some, rules}
+use Rattle.std.proofs.Common.{ap, sym, ◌∙◌, is_some, option_map, rules}
 use Rattle.resolver_asked.specs.Requests.{IsTaken}
+use Rattle.std.specs.NonZero.{non_zero_u32_get}
+use Rattle.resolver_trying.specs.Known.{Company, Known, known_by}
 use Rattle.resolver_trying.specs.Orders.{orders}
 use Rattle.resolver_trying.specs.Fetcher.{Fetcher, pop_missing}
-use Rattle.resolver_fetch.proofs.Kept.{closed-any, kept-taken, missing-none, missing-popped}
+use Rattle.resolver_fetch.proofs.Kept.{closed-any, kept-taken, load-taken, missing-none, missing-popped}
 use Rattle.resolver_fetch.proofs.Phases.{idle-then}
 use Rattle.resolver_fetch.proofs.fetcher.Fetcher.pop_missing.Goals as goal
 
@@ -11,7 +13,10 @@ invariant_of-self-2 g c =
     let a = c.self.inside in
     let shut = ap is_some (ap (λ (f : Fetcher g.row.K.Denot g.row.P.Denot). f.scan) c.self.view_is) ∙ c.requires.closed in
     let out : IsTaken a.requests c.take_matching.new.self c.in_ok-request.request = search rules in
-    (kept-taken g.met.K.Ord.total a.fetch_timeout a.retry_delay a.last_id a.pending.keys a.requests c.self.invariant.0 c.in_ok-request.request c.take_matching.new.self out, closed-any a.cursor shut _)
+    let loaded = ap (λ (k : Company g.row.P.Denot). (known_by g.P.Ord.cmp k).load) c.record.ensures
+    ∙ ap (λ (k : Known g.row.P.Denot). k.load) c.freed.ensures
+    ∙ load-taken g.P.Ord.cmp (option_map non_zero_u32_get a.peer_limit) (known_by g.P.Ord.cmp a.peers).load a.requests c.take_matching.new.self c.in_ok-request.request c.self.invariant.1 out in
+    (kept-taken g.met.K.Ord.total a.fetch_timeout a.retry_delay a.last_id a.pending.keys a.requests c.self.invariant.0 c.in_ok-request.request c.take_matching.new.self out, loaded, closed-any a.cursor shut _)
 
 pub returns-clause-idle : goal.returns-clause-idle
 returns-clause-idle g c =
@@ -24,7 +29,10 @@ pub returns-clause-popped : goal.returns-clause-popped
 returns-clause-popped g c =
     let o = orders g.K.Ord.cmp g.P.Ord.cmp in
     let is = rw (← c.self.view_is) at (missing-popped o c.args.self.now c.in_ok-request.request c.take_matching.new.self c.args.id c.args.peer.now c.args.now) in
-    rw (c.record.ensures, c.charged-time.ensures, c.elapsed_since.ensures) (sym (is c.in_ok-request.ensures.taken) ∙ ap (pop_missing o c.args.id c.args.peer.now c.args.now) c.self.view_is)
+    let set = ap (λ (k : Known g.row.P.Denot). k.set) c.freed.ensures in
+    let blocked = ap (λ (k : Known g.row.P.Denot). k.blocked) c.freed.ensures in
+    let local = ap (λ (k : Known g.row.P.Denot). k.local) c.freed.ensures in
+    rw (c.record.ensures, set, blocked, local, c.charged-time.ensures, c.elapsed_since.ensures) (sym (is c.in_ok-request.ensures.taken) ∙ ap (pop_missing o c.args.id c.args.peer.now c.args.now) c.self.view_is)
 
 pub invariant_of-self : goal.invariant_of-self
 invariant_of-self g c =
