@@ -204,7 +204,7 @@ show
 > wake none";
 
 /// Of an engine whose only peer has as many requests as it may have.
-const BEHIND_FULL: &str = "# limit_frees_on_response
+const BEHIND_FULL: &str = "# limit_one_peer
 fetch 2 10 8
 show
 > key 1 subs 10:7 targets all retries 0 phase asked 5 4 50
@@ -225,7 +225,7 @@ verdict 0 complete
 > credit 0 4 20 2
 fetch 3 10 9
 
-# limit_frees_on_timeout
+# limit_timeout
 fetch 2 10 8
 at 50
 timeout
@@ -237,7 +237,7 @@ drawn 0
 checked clear
 > request 4 6 2
 
-# limit_outlives_peer_sets
+# limit_peer_returns
 peers 2 3
 peers 3 4
 fetch 2 10 8";
