@@ -4,7 +4,7 @@ use Rattle.resolver_asked.specs.Requests.{IsTaken}
 use Rattle.resolver_trying.specs.Fetcher.{Fetcher, pop_request}
 use Rattle.resolver_trying.specs.Known.{Known, known_by}
 use Rattle.resolver_trying.specs.Orders.{orders}
-use Rattle.resolver_waiting.specs.Pending.{Pending, awake}
+use Rattle.resolver_waiting.specs.Pending.{awake}
 use Rattle.resolver_trying.specs.Waiting.{waiter_freed}
 use Rattle.resolver_fetch.proofs.Kept.{closed-any, freed-pending, kept-taken, load-taken, request-popped}
 use Rattle.resolver_fetch.proofs.Phases.{idle-then}
