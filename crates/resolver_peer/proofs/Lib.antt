@@ -19,3 +19,4 @@ pub mod IdsAreNew
 pub mod StaysAwake
 pub mod Refusals
 pub mod Cached
+pub mod PeerPoints

@@ -10,5 +10,6 @@ pub mod PeerAwake
 pub mod PeerLaws
 pub mod PeerDemandRows
 pub mod PeerRunLaws
+pub mod PeerPoints
 pub mod Again
 pub mod Canceled

@@ -4,6 +4,7 @@
 ghost use Rattle.resolver_peer.specs.Parties.{parties};
 ghost use Rattle.resolver_peer.specs.PeerDemandRows.{PeerDemand};
 ghost use Rattle.resolver_peer.specs.PeerLaws.{AsksEligible, DemandIsKept, EarnsOnce, IsPaidOnce, IsPaidToSenders, IsWellAskedThroughout, TriesOnce, AskedOnce, IdsAreNew, StaysAwake};
+ghost use Rattle.resolver_peer.specs.PeerPoints.{DeadVerdictsPass, RepliesOnce, ResponsesAreDelivered, UnaskedPass};
 ghost use Rattle.resolver_peer.specs.PeerRunLaws.{RunLaws};
 ghost use Rattle.resolver_peer.specs.PeerRuns as peer;
 
@@ -145,4 +146,27 @@ pub fn asked_once<K: Ord, S: Ord, P: Ord>()
 /// none is, and ids are new.
 pub fn run_laws<K: Ord, S: Ord, P: Ord>()
     ensures { RunLaws (parties K.cmp S.cmp P.cmp) }
+{}
+
+/// A Served of an open serve gives one reply in that step, to the peer and under the id of its request,
+/// and no other input gives a reply.
+pub fn replies_once<K: Ord, S: Ord, P: Ord>()
+    ensures { RepliesOnce (parties K.cmp S.cmp P.cmp) }
+{}
+
+/// What a peer sends that is no message, or answers no request that it was sent, changes nothing by
+/// itself: the step is that of a wake-up.
+pub fn unasked_pass<K: Ord, S: Ord, P: Ord>()
+    ensures { UnaskedPass (parties K.cmp S.cmp P.cmp) }
+{}
+
+/// A verdict that is not live retires no pair, changes no phase, hands out nothing, and gives at most one
+/// credit or block.
+pub fn dead_verdicts_pass<K: Ord, S: Ord, P: Ord>()
+    ensures { DeadVerdictsPass (parties K.cmp S.cmp P.cmp) }
+{}
+
+/// A response that answers a request is delivered in that step, to exactly the subscribers of its key.
+pub fn responses_are_delivered<K: Ord, S: Ord, P: Ord>()
+    ensures { ResponsesAreDelivered (parties K.cmp S.cmp P.cmp) }
 {}
