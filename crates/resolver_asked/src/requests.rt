@@ -2,8 +2,8 @@
 
 pub mod request;
 
-ghost use Rattle.std.specs.Prelude.{◌≡◌, ◌≤◌, ◌<◌, ◌^◌, ℕ, Bool, false, None, Some, [], filter, is_some, length, IfErr, IfNone, IfOk, IfSome, OnErr, OnOk};
-ghost use Rattle.std.specs.BTreeMap.{IsOrdered, Updates, insert_entry};
+ghost use Rattle.std.specs.Prelude.{◌≡◌, ◌≤◌, ◌<◌, ◌^◌, ℕ, Bool, false, None, Some, [], filter, length, IfErr, IfSome, OnErr, OnOk};
+ghost use Rattle.std.specs.BTreeMap.{insert_entry};
 ghost use Rattle.std.specs.Fn.{FnReturnsAt};
 ghost use Rattle.std.specs.Map.Iter.{ShowsInOrder, deref_pair};
 ghost use Rattle.std.specs.Option.{option_copied, option_map};
@@ -16,8 +16,8 @@ ghost use Rattle.resolver_asked.specs.Requests.{IsTaken, ids_of, is_asked, reque
 
 pub use request::{ID, Request};
 use resolver_base::base::Fault;
-use std::alloc::{AllocFailed, Global};
-use std::collections::btree_map::{Entry, Iter};
+use std::alloc::Global;
+use std::collections::btree_map::Iter;
 use std::collections::{BTreeMap, BTreeSet};
 use std::marker::Model;
 
@@ -216,46 +216,18 @@ impl<K: Ord + Drop, P: Drop> Requests<K, P> {
 }
 
 impl<K: Ord + Drop, P: Ord + Drop> Requests<K, P> {
-    /// Takes out the request of this id, if it went to this peer.
+    /// Takes out the request of this id, if it went to this peer. It takes no memory.
     #[inline]
     pub fn take_matching(&mut self, id: ID, peer: &P) -> Option<Request<K, P>>
         ensures taken { (result, self.new) ≡ taken_matching P.cmp self.old id peer.now }
         ensures out { IfSome result (IsTaken self.old self.new) }
     {
-        let Ok(Some(request)) = take_from(&mut self.by_id, id, peer) else {
-            return None;
-        };
-        self.deadlines.remove(&(request.deadline, id));
-        self.by_key.remove(&request.key);
-        Some(request)
-    }
-}
-
-/// Takes out the request of this id, if it went to this peer, with one look-up. Memory is wanting
-/// only where no request has this id.
-#[inline]
-fn take_from<K: Drop, P: Ord + Drop>(
-    by_id: &mut BTreeMap<ID, Request<K, P>>,
-    id: ID,
-    peer: &P,
-) -> Result<Option<Request<K, P>>, AllocFailed<ID>>
-    ensures taken { IfOk result (λ taken. (taken, by_id.new.entries)
-        ≡ taken_matching P.cmp by_id.old.entries id peer.now) }
-    ensures others { IfOk result (λ taken. IfSome taken
-        (λ _. Updates nat_cmp by_id.old by_id.new id None)) }
-    ensures ordered { IfOk result (λ taken. IfSome taken (λ _. IsOrdered nat_cmp by_id.new)) }
-    ensures err { OnErr result (by_id.new.entries ≡ by_id.old.entries) }
-    ensures absent { OnErr result (request_of by_id.old.entries id ≡ None) }
-{
-    match by_id.entry(id)? {
-        Entry::Occupied(place) => {
-            if peer.cmp(&place.get().peer).is_eq() {
-                Ok(Some(place.remove()))
-            } else {
-                Ok(None)
-            }
+        let request = self.by_id.get(&id)?;
+        if peer.cmp(&request.peer).is_eq() {
+            self.remove(id)
+        } else {
+            None
         }
-        Entry::Vacant(_) => Ok(None),
     }
 }
 
