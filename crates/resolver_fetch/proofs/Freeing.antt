@@ -56,7 +56,7 @@ module _ {K P : Type 0} (R : P → P → Ordering) (keep : K → Bool) where
       at p true k a e = omega (arith, k, a, e)
       at p false k a e = omega (arith, k, a, e)
 
-    less : P → ℕ
+    abbrev less : P → ℕ
     less p = if is_at (R r.1.peer) p then so.0 p - 1 else so.0 p
 
     less-load : (load : Option (Load P)) → option_map (one_fewer R r.1.peer) (option_map (loaded_with so.0) load) ≡ option_map (loaded_with less) load

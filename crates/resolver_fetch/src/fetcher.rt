@@ -467,11 +467,11 @@ impl<K: Ord + Drop, P: Ord + Drop> Fetcher<K, P> {
         ensures popped { (result, self.new) ≡ calls.pop_active (orders K.cmp P.cmp) now self.old }
         ensures idle { IfSome result (calls.IsIdle (orders K.cmp P.cmp) self.new) }
     {
-        let request = self.requests.take_overdue(now)?;
-        self.peers.freed(&request.peer);
+        let overdue = self.requests.take_overdue(now)?;
+        self.peers.freed(&overdue.peer);
         let time = charged(self.fetch_timeout, self.retry_delay);
-        self.peers.record(&request.peer, time, 0);
-        Some(request.key)
+        self.peers.record(&overdue.peer, time, 0);
+        Some(overdue.key)
     }
 
     /// Takes out the request that a response of this peer under this id answers, and says how long
@@ -516,11 +516,11 @@ impl<K: Ord + Drop, P: Ord + Drop> Fetcher<K, P> {
             ≡ calls.pop_missing (orders K.cmp P.cmp) id peer.now now self.old }
         ensures idle { IfSome result (calls.IsIdle (orders K.cmp P.cmp) self.new) }
     {
-        let request = self.requests.take_matching(id, peer)?;
-        self.peers.freed(&request.peer);
-        let time = charged(elapsed_since(request.start, now), self.retry_delay);
-        self.peers.record(&request.peer, time, 0);
-        Some(request.key)
+        let missed = self.requests.take_matching(id, peer)?;
+        self.peers.freed(&missed.peer);
+        let time = charged(elapsed_since(missed.start, now), self.retry_delay);
+        self.peers.record(&missed.peer, time, 0);
+        Some(missed.key)
     }
 }
 

@@ -502,10 +502,10 @@ full =
     (0, Answers (Sent true)) ∷
     []
 
--- limit frees on response
+-- a response frees its peer
 
-abbrev limit_frees_on_response : Run
-limit_frees_on_response =
+abbrev limit_one_peer : Run
+limit_one_peer =
     (20, Happens (Net 4 (Some (has 5 (104 ∷ 105 ∷ []))))) ∷
     (20, Answers (Drawn 0)) ∷
     (20, Answers (Drawn 0)) ∷
@@ -515,14 +515,14 @@ limit_frees_on_response =
     (20, fetch 3 10 9) ∷
     []
 
-pub record LimitFreesOnResponse : Type 0 where
+pub record LimitOnePeer : Type 0 where
   pub waits : (some : 0 < 1) → answers (after (limited some) full) ((0, fetch 2 10 8) ∷ []) ≡ Ok [] ∷ []
   pub rows : (some : 0 < 1) → (after (after (limited some) full) ((0, fetch 2 10 8) ∷ [])).rows ≡
       (1, record { subscribers = ((10, 7) ∷ []); targets = None; retries = 0; phase = Asked 5 (record { key = 1; peer = 4; start = 0; deadline = 50 }) }) ∷
       (2, record { subscribers = ((10, 8) ∷ []); targets = None; retries = 0; phase = Waits (fresh_at 0) }) ∷
       []
   pub wakes : (some : 0 < 1) → wake_up numbers (after (after (limited some) full) ((0, fetch 2 10 8) ∷ [])) ≡ Some (2 ^ 128 - 1)
-  pub answered : (some : 0 < 1) → answers (after (after (limited some) full) ((0, fetch 2 10 8) ∷ [])) limit_frees_on_response ≡
+  pub answered : (some : 0 < 1) → answers (after (after (limited some) full) ((0, fetch 2 10 8) ∷ [])) limit_one_peer ≡
       Ok (Deliver 0 (handed 0 1 ((10, 7) ∷ [])) (104 ∷ 105 ∷ []) ∷ Ask (asks.Draw 4) ∷ []) ∷
       Ok (Ask (asks.Draw 1) ∷ []) ∷
       Ok (Ask (asks.Check 4) ∷ []) ∷
@@ -532,10 +532,10 @@ pub record LimitFreesOnResponse : Type 0 where
       Ok [] ∷
       []
 
--- limit frees on timeout
+-- the end of its time frees a peer
 
-abbrev limit_frees_on_timeout : Run
-limit_frees_on_timeout =
+abbrev limit_timeout : Run
+limit_timeout =
     (0, fetch 2 10 8) ∷
     (50, Happens ActiveDue) ∷
     (50, Answers (Drawn 0)) ∷
@@ -543,8 +543,8 @@ limit_frees_on_timeout =
     (50, Answers (Checked Clear)) ∷
     []
 
-pub record LimitFreesOnTimeout : Type 0 where
-  pub answered : (some : 0 < 1) → answers (after (limited some) full) limit_frees_on_timeout ≡
+pub record LimitTimeout : Type 0 where
+  pub answered : (some : 0 < 1) → answers (after (limited some) full) limit_timeout ≡
       Ok [] ∷
       Ok (Ask (asks.Draw 4) ∷ []) ∷
       Ok (Ask (asks.Draw 1) ∷ []) ∷
@@ -552,10 +552,10 @@ pub record LimitFreesOnTimeout : Type 0 where
       Ok (sends 4 6 2 ∷ []) ∷
       []
 
--- limit outlives peer sets
+-- a peer that leaves and comes back is as full as before
 
-abbrev limit_outlives_peer_sets : Run
-limit_outlives_peer_sets = (0, Happens (PeerSet 2 (3 ∷ []))) ∷ (0, Happens (PeerSet 3 (4 ∷ []))) ∷ (0, fetch 2 10 8) ∷ []
+abbrev limit_peer_returns : Run
+limit_peer_returns = (0, Happens (PeerSet 2 (3 ∷ []))) ∷ (0, Happens (PeerSet 3 (4 ∷ []))) ∷ (0, fetch 2 10 8) ∷ []
 
-pub record LimitOutlivesPeerSets : Type 0 where
-  pub answered : (some : 0 < 1) → answers (after (limited some) full) limit_outlives_peer_sets ≡ Ok [] ∷ Ok [] ∷ Ok [] ∷ []
+pub record LimitPeerReturns : Type 0 where
+  pub answered : (some : 0 < 1) → answers (after (limited some) full) limit_peer_returns ≡ Ok [] ∷ Ok [] ∷ Ok [] ∷ []

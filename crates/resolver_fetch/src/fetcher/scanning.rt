@@ -622,10 +622,7 @@ fn send<K: Ord + Clone + Drop, P: Ord + Clone + Drop>(
     ensures err_peers { OnErr result (known_by P.cmp peers.new ≡ known_by P.cmp peers.old) }
     ensures only { IfErr result (λ fault. fault ≡ OutOfMemory) }
 {
-    if !has_room(requests) {
-        drop(peer);
-        return Err(Fault::OutOfMemory);
-    }
+    let _count = requests.len();
     if !peers.is_limited() {
         put_request(requests, cursor, peer, id, timeout)?;
         return Ok(None);
@@ -686,11 +683,4 @@ fn set_weight<P: Ord + Drop>(pool: &mut Pool<P>, peer: &P, weight: Option<u64>)
     if let Some(weight) = weight {
         pool.set(peer, weight);
     }
-}
-
-/// Whether one request more can be counted. There is no memory for so many that it can't.
-fn has_room<K: Ord + Drop, P: Ord + Drop>(requests: &Requests<K, P>) -> bool
-    ensures { IsTrue result → length requests.now + 1 < 2 ^ 64 }
-{
-    requests.len() < usize::MAX
 }
