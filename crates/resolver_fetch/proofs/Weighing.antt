@@ -1,38 +1,31 @@
 -- What the peers weigh that may be asked.
 use Rattle.std.proofs.Common.{◌≡◌, refl, ap, sym, ◌∙◌, ℕ, zero, suc, ◌≤◌, drop, length, get_or, ◌+◌, ◌*◌, ◌-◌, ◌/◌, ◌^◌, ◌<◌, Bool, true, false, not, List, [], ◌∷◌, filter, Option, None, Some, option_map, arith}
-use Rattle.std.specs.BTreeMap.{is_at}
-use Rattle.std.specs.Cmp.{IsTotalOrder}
-use Rattle.std.specs.List.{AllByRecursion}
 use Rattle.std.specs.List.Sorted.{IsStrictlySortedBy}
-use Rattle.std.specs.Map.{keys_of, lookup, set_value}
+use Rattle.std.specs.Map.{keys_of}
 use Rattle.std.specs.Ordering.{is_eq}
 use Rattle.std.specs.Prelude.{min}
 use Rattle.std.specs.declared.cmp.Ordering.{Ordering}
-use Rattle.std.specs.declared.cmp.Ordering.TheVariants.{Less, Equal}
 use Rattle.std.proofs.lemmas.Bool.Decides.{nat_tests}
 use Rattle.std.proofs.lemmas.Grind.{common_steps}
 use Rattle.std.proofs.lemmas.List.Kept.{IsStrictlySortedBy-filter}
-use Rattle.std.proofs.lemmas.Map.Keys.{sorted_head, sorted_tail}
 use Rattle.std.proofs.lemmas.Map.Made.{keys_of-map_values}
 use Rattle.resolver_request.specs.declared.score.Averages.{Averages}
 use Rattle.resolver_request.specs.declared.score.Averages.TheVariants.{Unobserved, Observed}
-use Rattle.resolver_request.specs.Scores.{Observation, averaged, weight_of}
+use Rattle.resolver_request.specs.Scores.{weight_of}
 use Rattle.resolver_trying.specs.declared.trail.Try.{Try}
 use Rattle.resolver_trying.specs.Fetcher.{Fetcher, snapshot, targets_of}
 use Rattle.resolver_trying.specs.Known.{Known, eligible, is_eligible}
 use Rattle.resolver_trying.specs.Orders.{Orders, is_one_of}
-use Rattle.resolver_trying.specs.Peers.{averages_in, observed}
-use Rattle.resolver_trying.specs.Pools.{IsWhole, Pool, reweighed, weighing, whole}
+use Rattle.resolver_trying.specs.Pools.{weighing}
 use Rattle.resolver_trying.specs.Scan.{was_tried}
 use Rattle.resolver_fetch.specs.Seeking.{tried_next, trying_key}
 use Rattle.resolver_trying.specs.Snapshot as snapshots
 use Rattle.resolver_trying.specs.Tried.{peers_tried}
 use Rattle.resolver_trying.specs.Trying.{Trying, apart_from, drawn_from, sampled, weighed}
 use Rattle.resolver_trying.specs.declared.place.Place.{Place}
-use Rattle.resolver_trying.proofs.Entries.{set_value-none}
 use Rattle.std.proofs.lemmas.Bool.{lt-ltb}
 use Rattle.resolver_fetch.proofs.Seeking.{seeks-in, weighed-filter}
-use Rattle.resolver_trying.proofs.Tried.{equal-is, tried-one-of}
+use Rattle.resolver_trying.proofs.Tried.{tried-one-of}
 
 least-some : (x y : ℕ) → 0 < x → 0 < min x (y + 1)
 least-some x y some = grind (arith, nat_tests, some)

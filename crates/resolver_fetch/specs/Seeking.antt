@@ -1,5 +1,5 @@
 -- How a fetcher finds what a scan tries next, and when a scan in vain may be begun again.
-use Rattle.std.specs.Prelude.{ℕ, false, not, nat_le, nat_lt, List, length, map, Option, None, Some, option_map, filter, find}
+use Rattle.std.specs.Prelude.{ℕ, not, nat_le, nat_lt, List, length, map, Option, None, Some, option_map, filter, find}
 use Rattle.resolver_asked.specs.declared.requests.request.Request.{Request}
 use Rattle.resolver_priorities.specs.Priorities.{after}
 use Rattle.resolver_trying.specs.declared.config.Config.{Config}

@@ -502,8 +502,9 @@ impl<K: Ord + Drop, P: Ord + Drop> Fetcher<K, P> {
     {
         let request = self.requests.take_matching(id, peer)?;
         self.peers.freed(&request.peer);
-        let is_limited = self.peers.is_limited();
-        wake_if(&mut self.pending, is_limited);
+        if self.peers.is_limited() {
+            self.pending.wake();
+        }
         Some(request)
     }
 
@@ -542,15 +543,6 @@ fn free_each<K: Ord + Drop, P: Ord + Drop, F: Fn(&K) -> bool>(
         if !keep(&request.key) {
             peers.freed(&request.peer);
         }
-    }
-}
-
-/// A scan may be begun at once, where this is so.
-fn wake_if<K: Ord + Drop>(pending: &mut Pending<K>, is_so: bool)
-    ensures { pending.new ≡ (if is_so then awake pending.old else pending.old) }
-{
-    if is_so {
-        pending.wake();
     }
 }
 

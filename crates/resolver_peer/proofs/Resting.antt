@@ -210,8 +210,11 @@ module _ {K S P : Type 0} (a : Parties K S P) (total : IsTotalOrder a.key) where
   joined-resting : (m : Machine K S P) (item : Item K S P) (row : Row K S P) → row_of a m item.key ≡ Some row
       → (there given : Option (List P)) → row.targets ≡ there → item.targets ≡ given → IsResting m (fetch_one a m 0 item (Some row))
   joined-resting m item row found None (Some given) is_there is_given =
-      inr (rw (is_there, is_given) refl, (λ w i. subst (λ (ws : List (K × Waiting P)). IsAmong w (in_order (orders_of a) ws)) same i),
-          λ targets p i. same-load m _ _ (asks-changed (is_key a item.key) (joined item) (λ key old. refl) m.rows) targets p i) where
+      inr (
+        rw (is_there, is_given) refl,
+        (λ w i. subst (λ (ws : List (K × Waiting P)). IsAmong w (in_order (orders_of a) ws)) same i),
+        λ targets p i. same-load m _ _ (asks-changed (is_key a item.key) (joined item) (λ key old. refl) m.rows) targets p i,
+      ) where
         same : filter_map waiting_of (fetch_one a m 0 item (Some row)).rows ≡ filter_map waiting_of m.rows
         same = waits-changed (is_key a item.key) (joined item) row (λ key. waits-alike key row (joined item row) refl (ap (λ t. targets_with a t item.targets) is_there ∙ sym is_there) refl) m.rows found
   joined-resting m item row found (Some there) (Some given) is_there is_given = inl (rw is_there refl)

@@ -19,7 +19,7 @@ use Rattle.resolver_trees.specs.Choice.{chosen}
 use Rattle.resolver_request.specs.Left.{restored}
 use Rattle.resolver_trees.specs.SumTrees.{mark}
 use Rattle.resolver_trees.proofs.Choices.{chosen-first, chosen-later}
-use Rattle.resolver_trees.proofs.Marks.{marks-set, marks-stay}
+use Rattle.resolver_trees.proofs.Marks.{marks-set}
 use Rattle.resolver_request.proofs.Restored.{restored-last, restored-length}
 use Rattle.resolver_trying.specs.Pools.{IsNamed, IsPool, is_named, weighing, weighted}
 use Rattle.resolver_trying.specs.Trying.{apart_from, at_place, at_weight, weights_of}

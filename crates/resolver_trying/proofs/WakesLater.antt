@@ -1,22 +1,18 @@
 -- A scan in vain wakes later, and leaves every weight.
-use Rattle.std.proofs.Common.{◌≡◌, refl, sym, subst, ℕ, ◌+◌, ◌<◌, min, Bool, true, false, List, [], ◌∷◌, Option, None, Some, Result, Ok, Err, if◌then◌else◌, arith}
+use Rattle.std.proofs.Common.{◌≡◌, refl, sym, subst, ℕ, ◌+◌, ◌<◌, min, Bool, true, false, List, [], ◌∷◌, Option, None, Some, if◌then◌else◌, arith}
 use Rattle.std.proofs.lemmas.Bool.{leb-false}
 use Rattle.std.specs.Prelude.{unwrap_or}
-use Rattle.resolver_base.specs.declared.base.fault.Fault.{Fault}
-use Rattle.resolver_asked.specs.declared.requests.request.Request.{Request}
 use Rattle.resolver_request.specs.Times.{never}
 use Rattle.resolver_trying.specs.declared.place.Place.{Place}
-use Rattle.resolver_trying.specs.declared.scan.Answer.{Answer}
 use Rattle.resolver_trying.specs.declared.trail.Reason.{Reason}
 use Rattle.resolver_trying.specs.declared.trail.Reason.TheVariants.{Limited, Refused}
 use Rattle.resolver_trying.specs.declared.trail.Try.{Try}
 use Rattle.resolver_trying.specs.Orders.{Orders}
 use Rattle.resolver_trying.specs.Waiting.{Waiting, wake_up}
 use Rattle.resolver_trying.specs.Snapshot.{Snapshot}
-use Rattle.resolver_trying.specs.Scan as scans
 use Rattle.resolver_trying.specs.Scan.{Scan, Turn, begins, ends, goes_on_with, is_due, least, least_until, limit_of, next, next_due, trail_moment, waiter_of}
-use Rattle.resolver_trying.specs.Fetcher.{Fetcher, answered, pending_deadline, scan_taken, snapshot, turned, weight, with_sent}
-use Rattle.resolver_trying.specs.FetcherLaws.{AllAre, IsInVain, IsLaterIfAny, IsLaterLimit, KeepsWeights, WakesLater}
+use Rattle.resolver_trying.specs.Fetcher.{Fetcher, pending_deadline, snapshot, turned}
+use Rattle.resolver_trying.specs.FetcherLaws.{AllAre, IsInVain, IsLaterIfAny, IsLaterLimit, WakesLater}
 use Rattle.resolver_trying.proofs.InVain.{goes-on, takes-in-vain}
 
 module _ (now : ℕ) where

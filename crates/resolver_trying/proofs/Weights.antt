@@ -19,17 +19,16 @@ use Rattle.resolver_request.specs.declared.score.Averages.{Averages}
 use Rattle.resolver_request.specs.Scores.{weight_of}
 use Rattle.resolver_trying.specs.declared.scan.Answer.{Answer}
 use Rattle.resolver_trying.specs.declared.scan.Answer.TheVariants.{Drawn, Checked, Sent}
-use Rattle.resolver_trying.specs.declared.scan.Ask.{Ask}
 use Rattle.resolver_trying.specs.declared.trail.Expected.{Expected}
 use Rattle.resolver_trying.specs.declared.trail.Expected.TheVariants.{Mode, ByWeight, ByPlace, Checking, FirstId, Sending}
 use Rattle.resolver_trying.specs.declared.trail.Reason.TheVariants.{Limited, Refused}
-use Rattle.resolver_trying.specs.Fetcher.{AsksNewId, Fetcher, answered, asked_by, question, scan_answer, scan_begin, scan_taken, snapshot, turned, weight, with_sent}
+use Rattle.resolver_trying.specs.Fetcher.{AsksNewId, Fetcher, answered, asked_by, scan_taken, snapshot, turned, weight, with_sent}
 use Rattle.resolver_trying.specs.FetcherLaws.{KeepsWeights, is_sent_to, weight_unless}
-use Rattle.resolver_trying.specs.Known.{is_local, may_be_asked, sampling_weight}
+use Rattle.resolver_trying.specs.Known.{is_local, sampling_weight}
 use Rattle.resolver_trying.specs.Orders.{Orders, is_one_of, same_peer}
 use Rattle.resolver_trying.specs.Scan as scans
 use Rattle.resolver_trying.specs.Scan.{Scan, Turn, asks_for, begins, by_place, by_weight, clears, draws, goes_on, goes_on_with, left, mode_of, next, question_of, sends, succeeds, takes_for}
-use Rattle.resolver_trying.specs.Snapshot.{Snapshot, known}
+use Rattle.resolver_trying.specs.Snapshot.{known}
 use Rattle.resolver_trying.specs.Waiting.{Waiting}
 
 -- where a peer gets a request: it is full only if it was, or is the one that gets it

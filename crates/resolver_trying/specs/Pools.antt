@@ -1,12 +1,11 @@
 -- Peers with what they weigh, as a scan draws from them.
-use Rattle.std.specs.Prelude.{◌≡◌, ℕ, ◌+◌, ◌-◌, ◌<◌, Bool, true, false, zero, suc, nat_lt, List, [], ◌∷◌, length, map, filter, All, Option, None, Some, option_map, IfSome, if◌then◌else◌}
+use Rattle.std.specs.Prelude.{◌≡◌, ℕ, ◌+◌, ◌-◌, ◌<◌, Bool, true, false, zero, suc, nat_lt, List, [], ◌∷◌, length, map, filter, All, Option, None, Some, IfSome, if◌then◌else◌}
 use Rattle.std.specs.BTreeMap.{is_at}
 use Rattle.std.specs.List.{list_any}
 use Rattle.std.specs.List.Sorted.{IsStrictlySortedBy}
-use Rattle.std.specs.Map.{lookup, set_value}
+use Rattle.std.specs.Map.{set_value}
 use Rattle.std.specs.Ordering.{is_eq}
 use Rattle.std.specs.declared.cmp.Ordering.{Ordering}
-use Rattle.resolver_request.specs.declared.score.Averages.{Averages}
 use Rattle.resolver_trees.specs.SumTrees.{mark}
 use Rattle.resolver_trying.specs.Known.{Known, weight_in}
 use Rattle.resolver_trying.specs.Trying.{sampled}

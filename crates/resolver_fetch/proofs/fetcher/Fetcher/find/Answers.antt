@@ -5,7 +5,7 @@ use Rattle.resolver_trying.specs.Pools.{IsWhole}
 use Rattle.resolver_fetch.proofs.fetcher.Fetcher.find.Goals as goal
 
 pub next_of-found-requires-clause-at_hand : goal.next_of-found-requires-clause-at_hand
-next_of-found-requires-clause-at_hand g c = 
+next_of-found-requires-clause-at_hand g c =
     rw c.take_pool-at_hand.ensures.same
     (subst (λ (load : Option (Load g.row.P.Denot)). IsWhole g.P.Ord.cmp (record (known_by g.P.Ord.cmp c.self.inside.peers) { load = load }) c.take_pool-at_hand.result)
     c.self.invariant.1 c.take_pool-at_hand.ensures.whole)

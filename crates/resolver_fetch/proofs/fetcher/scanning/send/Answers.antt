@@ -1,5 +1,4 @@
-use Rattle.std.proofs.Common.{ap, ◌∙◌, option_map, rules}
-use Rattle.std.specs.Prelude.{IsTrue}
+use Rattle.std.proofs.Common.{ap, ◌∙◌, ◌+◌, ◌<◌, ◌^◌, length, option_map, arith}
 use Rattle.resolver_asked.specs.Loads.{one_fewer}
 use Rattle.resolver_trying.specs.Known.{known_by, with_load}
 use Rattle.resolver_fetch.proofs.Kept.{room-with, undone}
@@ -7,8 +6,8 @@ use Rattle.resolver_fetch.proofs.fetcher.scanning.send.Goals as goal
 
 pub sent-requires-clause-room : goal.sent-requires-clause-room
 sent-requires-clause-room g c =
-    let room : IsTrue c.has_room.result = search rules in
-    room-with g.P.Ord.cmp c.args.peers.now.counts c.args.requests.now c.in_ok-name.name c.requires.loaded (c.has_room.ensures room)
+    let few : length c.args.requests.now + 1 < 2 ^ 64 = omega (arith, c.len-count.ensures.value, c.len-count.ensures.few) in
+    room-with g.P.Ord.cmp c.args.peers.now.counts c.args.requests.now c.in_ok-name.name c.requires.loaded few
 
 pub returns-in-Err-put_request-clause-err_peers : goal.returns-in-Err-put_request-clause-err_peers
 returns-in-Err-put_request-clause-err_peers g c =

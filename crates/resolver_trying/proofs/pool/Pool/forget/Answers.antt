@@ -1,6 +1,6 @@
-use Rattle.std.proofs.Common.{◌≡◌, ◌<◌, ◌∙◌, ap, sym, length, List, ℕ, false}
+use Rattle.std.proofs.Common.{◌≡◌, ap, sym, List, ℕ, false}
 use Rattle.resolver_request.specs.Left.{restored}
-use Rattle.resolver_trying.specs.Pools.{IsFound, IsNamed, Pool, is_named, weighted}
+use Rattle.resolver_trying.specs.Pools.{IsNamed, Pool, is_named, weighted}
 use Rattle.resolver_trying.specs.Trying.{apart_from}
 use Rattle.resolver_trying.proofs.Pools.{all-others, marks-within, others-left, restored-more, takes-one, weighing_of, weighs-within}
 use Rattle.resolver_trying.proofs.pool.Pool.forget.Goals as goal

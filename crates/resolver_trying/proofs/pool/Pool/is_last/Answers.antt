@@ -1,4 +1,4 @@
-use Rattle.std.proofs.Common.{◌≡◌, ◌+◌, ◌∙◌, ◌==◌, refl, ap, sym, length, map, slice_index, ℕ, List, false, rules}
+use Rattle.std.proofs.Common.{◌≡◌, ◌∙◌, refl, ap, sym, length, map, slice_index, ℕ, List, false, rules}
 use Rattle.std.specs.Prelude.{sum}
 use Rattle.resolver_trees.specs.SumTrees.{mark}
 use Rattle.resolver_trying.specs.Pools.{IsNamed, is_named}

@@ -1,4 +1,4 @@
-use Rattle.std.proofs.Common.{◌≡◌, ◌<◌, [], ◌∙◌, ap, sym, map, List, ℕ, false}
+use Rattle.std.proofs.Common.{◌≡◌, [], ap, sym, map, false}
 use Rattle.resolver_request.specs.Left.{restored}
 use Rattle.resolver_trees.specs.SumTrees.{mark}
 use Rattle.resolver_trying.specs.Pools.{IsNamed, is_named, whole}

@@ -11,7 +11,7 @@ new-requires g c =
     record {
       ordered =
           elim c.match-targets.branch [
-            in-Some+in_ok-peers-in-Some w ↦ rw (w.peers-is, w.in_ok-peers-in-Some.ensures.ok) (sorted-eligible g.P.Ord.cmp known (option_copied c.args.targets) c.order.ensures.ordered)
-          | in-None+in_ok-peers-in-None w ↦ rw (w.peers-is, w.in_ok-peers-in-None.ensures.ok, samples-keys (may_be_asked g.P.Ord.cmp known) c.args.self.now.set) c.order.ensures.ordered
+            | in-Some+in_ok-peers-in-Some w ↦ rw (w.peers-is, w.in_ok-peers-in-Some.ensures.ok) (sorted-eligible g.P.Ord.cmp known (option_copied c.args.targets) c.order.ensures.ordered)
+            | in-None+in_ok-peers-in-None w ↦ rw (w.peers-is, w.in_ok-peers-in-None.ensures.ok, samples-keys (may_be_asked g.P.Ord.cmp known) c.args.self.now.set) c.order.ensures.ordered
           ];
     }

@@ -1,4 +1,4 @@
-use Rattle.std.proofs.Common.{◌≡◌, ◌∙◌, sym, List}
+use Rattle.std.proofs.Common.{◌∙◌, sym}
 use Rattle.std.specs.BTreeMap.{is_at}
 use Rattle.resolver_request.specs.Scores.{Observation, averaged}
 use Rattle.resolver_trying.specs.Known.{Company, known_by, may_be_asked}
