@@ -1,5 +1,5 @@
 -- What the peers of a set weigh, and how many may be asked, where one of them has more or fewer requests.
-use Rattle.std.proofs.Common.{◌≡◌, ◌&&◌, refl, ap, sym, subst, ◌∙◌, ℕ, ◌+◌, ◌-◌, Bool, true, false, cond, List, [], ◌∷◌, length, filter, map, Option, None, Some, option_map, if◌then◌else◌, arith}
+use Rattle.std.proofs.Common.{◌≡◌, ◌&&◌, refl, ap, sym, subst, ◌∙◌, ℕ, ◌+◌, Bool, true, false, cond, List, [], ◌∷◌, length, filter, map, Option, None, Some, option_map, if◌then◌else◌, arith}
 use Rattle.std.specs.BTreeMap.{is_at}
 use Rattle.std.specs.Cmp.{IsTotalOrder}
 use Rattle.std.specs.List.{AllByRecursion}

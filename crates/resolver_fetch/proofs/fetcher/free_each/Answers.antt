@@ -1,4 +1,4 @@
-use Rattle.std.proofs.Common.{◌≡◌, ◌∙◌, ap, refl, sym, ℕ, false, true, rules}
+use Rattle.std.proofs.Common.{◌≡◌, ◌∙◌, refl, sym, ℕ, false, true, rules}
 use Rattle.std.proofs.lemmas.Fn.{says_at}
 use Rattle.resolver_asked.specs.declared.requests.request.Request.{Request}
 use Rattle.resolver_trying.specs.Known.{known_by}
