@@ -1,6 +1,6 @@
 //! Scripts of the engine, which fetches from peers.
 
-use super::worked::{ASKED, DELIVERED, FULL, print_as_worked};
+use super::worked::{ASKED, DELIVERED, print_as_worked};
 use super::*;
 
 /// Of engines that the scripts open.
@@ -203,52 +203,12 @@ verdict 7 complete
 show
 > wake none";
 
-/// Of an engine whose only peer has as many requests as it may have.
-const BEHIND_FULL: &str = "# limit_one_peer
-fetch 2 10 8
-show
-> key 1 subs 10:7 targets all retries 0 phase asked 5 4 50
-> key 2 subs 10:8 targets all retries 0 phase waiting fresh 0
-> wake 340282366920938463463374607431768211455
-at 20
-net 4 x000000000000000501026869
-> deliver 0 1 10 x6869
-> draw 4
-drawn 0
-> draw 1
-drawn 0
-> check 4
-checked clear
-> request 4 6 2
-sent accepted
-verdict 0 complete
-> credit 0 4 20 2
-fetch 3 10 9
-
-# limit_timeout
-fetch 2 10 8
-at 50
-timeout
-> draw 4
-drawn 0
-> draw 1
-drawn 0
-> check 4
-checked clear
-> request 4 6 2
-
-# limit_peer_returns
-peers 2 3
-peers 3 4
-fetch 2 10 8";
-
 #[test]
 fn rows(rt: HostRuntime) {
     let alloc = rt.alloc();
     print_as_worked(&rt, alloc, "", OPENED);
     print_as_worked(&rt, alloc, ASKED, BEHIND_ASKED);
     print_as_worked(&rt, alloc, DELIVERED, BEHIND_DELIVERED);
-    print_as_worked(&rt, alloc, FULL, BEHIND_FULL);
 }
 
 // A peer that asks ten thousand times has ten thousand open serves, and the last of them is

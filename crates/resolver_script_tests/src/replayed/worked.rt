@@ -36,21 +36,6 @@ at 20
 net 4 x000000000000000501026869
 > deliver 0 1 10 x6869";
 
-/// Peer 4 was asked for key 1, under id 5, and may have no other request.
-pub const FULL: &str = "p2p - 50 10 1
-peers 1 4
-fetch 1 10 7
-> draw 4
-drawn 0
-> draw 1
-drawn 0
-> check 4
-checked clear
-> draw 18446744073709551616
-drawn 5
-> request 4 5 1
-sent accepted";
-
 /// Each script behind this beginning prints what stands there.
 pub fn print_as_worked(rt: &impl Abort, alloc: Global, before: &str, scripts: &str) {
     for script in scripts.split("\n\n") {
