@@ -10,10 +10,12 @@ use Rattle.resolver_root.specs.declared.root.Outcome.{Outcome}
 use Rattle.resolver_root.specs.declared.root.Outcome.TheVariants.{Invalid, Resolved, Unresolved, Ignored}
 use Rattle.resolver_root.specs.Subscribers.{without}
 use Rattle.resolver_asked.specs.declared.requests.request.Request.{Request}
+use Rattle.resolver_asked.specs.Requests.{overdue}
 use Rattle.resolver_request.specs.declared.wire.Message.{Message}
 use Rattle.resolver_request.specs.declared.wire.Payload.{Payload}
 use Rattle.resolver_request.specs.declared.wire.Payload.TheVariants as payloads
 use Rattle.resolver_trying.specs.declared.scan.Ask.{Ask as Question}
+use Rattle.resolver_trying.specs.Peers.{replaced}
 use Rattle.resolver_trying.specs.Waiting.{Waiting}
 use Rattle.resolver_trying.specs.Scan as scans
 use Rattle.resolver_trying.specs.Scan.{Turn, is_over}
@@ -24,8 +26,9 @@ use Rattle.resolver_peer.specs.declared.named.Serve.{Serve}
 use Rattle.resolver_peer.specs.Parties.{Parties, orders_of}
 use Rattle.resolver_peer.specs.PeerRows.{Row, Phase, Waits, Asked, Judged, Judging}
 use Rattle.resolver_peer.specs.PeerRun.{effects_of}
-use Rattle.resolver_peer.specs.Peer.{Machine, Open, Done, Effect, Ask, Cancel, Deliver, Produce, Status, Running, Ended, Failed, Event, Fetch, Retain, PeerSet, Blocked, ActiveDue, PendingDue, Verdict, Served, Net, End, Input, Happens, Answers, account_for, and_then, answer_of, answered, asking, cancel_in, cancels, closed, does, freed, hand_out, has_subscribers, is_due, is_key, misses, produce, pruned, question, quiet, receive, responds, row_of, ruled, ruled_at, ruled_in, scanned, scanned_if, served_by, serves_rest, snapshot, step, step_in, step_of, step_running, turned, verdict_on, wake_up}
-use Rattle.resolver_peer.specs.PeerPoints.{DeadVerdictsPass, RepliesOnce, ResponsesAreDelivered, UnaskedPass, is_delivery, is_judged_as, is_live, is_live_as, is_payment, is_reply, is_running, is_unasked, is_unasked_as, replies_as, replies_if, row_judged_as, takes_events}
+use Rattle.resolver_peer.specs.Peer.{Machine, Open, Done, Effect, Ask, Cancel, Deliver, Produce, Status, Running, Ended, Failed, Event, Fetch, Retain, PeerSet, Blocked, ActiveDue, PendingDue, Verdict, Served, Net, End, Input, Happens, Answers, account_for, and_then, answer_of, answered, asking, cancel_in, cancels, closed, does, freed, hand_out, has_subscribers, is_due, is_key, is_newer, misses, produce, pruned, question, quiet, receive, responds, row_of, ruled, ruled_at, ruled_in, scanned, scanned_if, served_by, serves_rest, snapshot, step, step_in, step_of, step_running, times_out, turned, verdict_on, wake_up}
+use Rattle.resolver_peer.specs.PeerSteps.{is_passed_over, is_unasked_as}
+use Rattle.resolver_peer.specs.PeerPoints.{DeadVerdictsPass, RepliesOnce, ResponsesAreDelivered, PassedOverPass, is_delivery, is_judged_as, is_live, is_live_as, is_payment, is_reply, is_running, replies_as, replies_if, row_judged_as, takes_events}
 
 module _ {K S P : Type 0} where
   -- the effects of what is done, if it is
@@ -176,31 +179,52 @@ module _ {K S P : Type 0} (a : Parties K S P) where
     at Ended = refl
     at Failed = refl
 
-  -- messages that nobody asked for
+  -- what is passed over
 
-  responds-unasked : (m : Machine K S P) (now : ℕ) (value : List ℕ) (r : Option (Request K P)) → is_none r ≡ true → responds a m now value r (option_and_then (λ r. row_of a m r.key) r) ≡ Some (quiet m)
-  responds-unasked m now value None none = refl
-  responds-unasked m now value (Some r) none = cc
+  unasked-quiet : (m : Machine K S P) (now : ℕ) (peer : P) (id : ℕ) (payload : Payload K) → is_unasked_as a m peer id payload ≡ true → receive a m now peer id payload ≡ Some (quiet m)
+  unasked-quiet m now peer id (payloads.Request key) passed = absurd cc
+  unasked-quiet m now peer id (payloads.Response value) passed = at (answered a m peer id) passed where
+    at : (r : Option (Request K P)) → is_none r ≡ true → responds a m now value r (option_and_then (λ r. row_of a m r.key) r) ≡ Some (quiet m)
+    at None passed = refl
+    at (Some r) passed = absurd cc
+  unasked-quiet m now peer id payloads.Error passed = at (answered a m peer id) passed where
+    at : (r : Option (Request K P)) → is_none r ≡ true → Some (quiet (misses a m now r)) ≡ Some (quiet m)
+    at None passed = refl
+    at (Some r) passed = absurd cc
 
-  misses-unasked : (m : Machine K S P) (now : ℕ) (r : Option (Request K P)) → is_none r ≡ true → misses a m now r ≡ m
-  misses-unasked m now None none = refl
-  misses-unasked m now (Some r) none = cc
+  -- it leaves the machine as it was
+  pub passed-quiet : (m : Machine K S P) (now : ℕ) (event : Event K S P) → is_passed_over a m now event ≡ true → does a (record m { moment = now }) now event ≡ Some (quiet (record m { moment = now }))
+  passed-quiet m now (Fetch items) passed = absurd cc
+  passed-quiet m now (Retain keep) passed = absurd cc
+  passed-quiet m now (PeerSet index peers) passed = at (is_newer m.last_index index) passed where
+    at : (newer : Bool) → not newer ≡ true → Some (quiet (if newer then record m { moment = now; peers = replaced a.peer m.peers peers; last_index = Some index; waiter = None } else record m { moment = now })) ≡ Some (quiet (record m { moment = now }))
+    at false passed = refl
+    at true passed = absurd cc
+  passed-quiet m now (Blocked peers) passed = absurd cc
+  passed-quiet m now ActiveDue passed = at (overdue (snapshot a m).asked now) passed where
+    at : (r : Option (ℕ × Request K P)) → is_none r ≡ true → Some (quiet (times_out a (record m { moment = now }) now r)) ≡ Some (quiet (record m { moment = now }))
+    at None passed = refl
+    at (Some r) passed = absurd cc
+  passed-quiet m now PendingDue passed = refl
+  passed-quiet m now (Verdict number outcome) passed = at (lookup (λ n. number == n) m.deliveries) passed where
+    at : (h : Option (Open K S P)) → is_none h ≡ true → verdict_on a (record m { moment = now }) now number outcome h ≡ Some (quiet (record m { moment = now }))
+    at None passed = refl
+    at (Some h) passed = absurd cc
+  passed-quiet m now (Served serve bytes) passed = at (lookup (λ n. serve == n) m.serves) passed where
+    at : (s : Option (Serve P)) → is_none s ≡ true → Some (served_by (record m { moment = now }) serve bytes s) ≡ Some (quiet (record m { moment = now }))
+    at None passed = refl
+    at (Some s) passed = absurd cc
+  passed-quiet m now (Net peer None) passed = refl
+  passed-quiet m now (Net peer (Some message)) passed = unasked-quiet (record m { moment = now }) now peer message.id message.payload passed
+  passed-quiet m now End passed = absurd cc
 
-  does-unasked : (m : Machine K S P) (now : ℕ) (peer : P) (message : Option (Message K)) → is_unasked a m peer message ≡ true → does a m now (Net peer message) ≡ Some (quiet m)
-  does-unasked m now peer None is = refl
-  does-unasked m now peer (Some message) is = at message.payload is where
-    at : (payload : Payload K) → is_unasked_as a m peer message.id payload ≡ true → receive a m now peer message.id payload ≡ Some (quiet m)
-    at (payloads.Request key) is = cc
-    at (payloads.Response value) is = responds-unasked m now value (answered a m peer message.id) is
-    at payloads.Error is = ap (λ n. Some (quiet n)) (misses-unasked m now (answered a m peer message.id) is)
-
-  pub unasked_pass : UnaskedPass a
-  unasked_pass m now peer message is = at m.status where
-    running : (over : Bool) → step_running a over m now (Happens (Net peer message)) ≡ step_running a over m now (Happens PendingDue)
-    running true = ap (λ o. step_of a (option_and_then (λ d. and_then d (λ n. Some (scanned a n now))) o) m) (does-unasked (record m { moment = now }) now peer message is)
+  pub passed_over_pass : PassedOverPass a
+  passed_over_pass m now event is = at m.status where
+    running : (over : Bool) → step_running a over m now (Happens event) ≡ step_running a over m now (Happens PendingDue)
+    running true = ap (λ o. step_of a (option_and_then (λ d. and_then d (λ n. Some (scanned a n now))) o) m) (passed-quiet m now event is)
     running false = refl
 
-    at : (status : Status) → step_in a status m now (Happens (Net peer message)) ≡ step_in a status m now (Happens PendingDue)
+    at : (status : Status) → step_in a status m now (Happens event) ≡ step_in a status m now (Happens PendingDue)
     at Running = running (is_over m.scan)
     at Ended = refl
     at Failed = refl

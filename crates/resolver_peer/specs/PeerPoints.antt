@@ -14,7 +14,7 @@ use Rattle.resolver_peer.specs.declared.named.Serve.{Serve}
 use Rattle.resolver_peer.specs.Parties.{Parties}
 use Rattle.resolver_peer.specs.PeerRows.{Row, Phase, Judged}
 use Rattle.resolver_peer.specs.PeerRun.{Fed, effects_of}
-use Rattle.resolver_peer.specs.PeerSteps.{Runs}
+use Rattle.resolver_peer.specs.PeerSteps.{is_passed_over}
 use Rattle.resolver_peer.specs.Peer.{Machine, Open, Status, Running, Effect, Deliver, Reply, Credit, Block, Event, PendingDue, Verdict, Served, Net, Input, Happens, answered, opening, payload_of, row_of, step}
 
 abbrev pub is_running : Status → Bool
@@ -67,19 +67,10 @@ module _ {K S P : Type 0} (a : Parties K S P) where
   abbrev pub RepliesOnce : Type 0
   RepliesOnce = (m : Machine K S P) (now : ℕ) (input : Input K S P) → filter is_reply (effects_of (step a m now input).0) ≡ replies_to m input
 
-  abbrev pub is_unasked_as : Machine K S P → P → (id : ℕ) → Payload K → Bool
-  is_unasked_as m peer id (payloads.Request key) = false
-  is_unasked_as m peer id payload = is_none (answered a m peer id)
-
-  -- whether what a peer sent is no message, or one that asks for nothing and answers no request that was sent to this peer under this id
-  abbrev pub is_unasked : Machine K S P → P → Option (Message K) → Bool
-  is_unasked m peer None = true
-  is_unasked m peer (Some message) = is_unasked_as m peer message.id message.payload
-
-  -- That changes nothing by itself: the step is the same as at a wake-up.
-  abbrev pub UnaskedPass : Type 0
-  UnaskedPass = (m : Machine K S P) (now : ℕ) (peer : P) (message : Option (Message K)) → is_unasked m peer message ≡ true
-      → step a m now (Happens (Net peer message)) ≡ step a m now (Happens PendingDue)
+  -- What is passed over changes nothing by itself: the step is the same as at a wake-up. So it is with a response or an error that answers no request, and with bytes that are no message.
+  abbrev pub PassedOverPass : Type 0
+  PassedOverPass = (m : Machine K S P) (now : ℕ) (event : Event K S P) → is_passed_over a m now event ≡ true
+      → step a m now (Happens event) ≡ step a m now (Happens PendingDue)
 
   abbrev pub is_live_as : Machine K S P → (number : ℕ) → Option (Open K S P) → Bool
   is_live_as m number None = false
@@ -101,20 +92,3 @@ module _ {K S P : Type 0} (a : Parties K S P) where
       → takes_events m ≡ true → answered a m peer id ≡ Some r → row_of a m r.key ≡ Some row → m.next_delivery < 2 ^ 64
       → filter is_delivery (effects_of (step a m now (Happens (Net peer (Some (record { id = id; payload = payloads.Response value }))))).0)
       ≡ Deliver m.next_delivery (record { response = m.next_delivery; key = r.key; subscribers = row.subscribers }) value ∷ []
-
-module _ {K S P : Type 0} where
-  -- the serves that an input gave a reply to
-  abbrev pub served_at : Input K S P → List (Effect K S P) → List ℕ
-  served_at (Happens (Served serve bytes)) effects = map (λ reply. serve) (filter is_reply effects)
-  served_at input effects = []
-
-  -- the serves that were replied to
-  abbrev pub all_served : List (Fed K S P) → List (Result (List (Effect K S P)) Fault) → List ℕ
-  all_served (fed ∷ inputs) (answer ∷ answers) = served_at fed.input (effects_of answer) ++ all_served inputs answers
-  all_served inputs answers = []
-
--- In a run from the opening state no serve is replied to twice.
-abbrev pub NoSecondReply : {K S P : Type 0} → Parties K S P → Type 0
-NoSecondReply {K} {S} {P} a = (old : Machine K S P) (inputs : List (Fed K S P)) (answers : List (Result (List (Effect K S P)) Fault)) (new : Machine K S P)
-    → Runs a old inputs answers new → (configuration : Config P) (priority_responses : Bool) → old ≡ opening configuration priority_responses
-    → IsDistinct (λ m n. m == n) (all_served inputs answers)

@@ -4,7 +4,8 @@
 ghost use Rattle.resolver_peer.specs.Parties.{parties};
 ghost use Rattle.resolver_peer.specs.PeerDemandRows.{PeerDemand};
 ghost use Rattle.resolver_peer.specs.PeerLaws.{AsksEligible, DemandIsKept, EarnsOnce, IsPaidOnce, IsPaidToSenders, IsWellAskedThroughout, TriesOnce, AskedOnce, IdsAreNew, StaysAwake};
-ghost use Rattle.resolver_peer.specs.PeerPoints.{DeadVerdictsPass, RepliesOnce, ResponsesAreDelivered, UnaskedPass};
+ghost use Rattle.resolver_peer.specs.PeerSteps.{RunsJoin};
+ghost use Rattle.resolver_peer.specs.PeerPoints.{DeadVerdictsPass, PassedOverPass, RepliesOnce, ResponsesAreDelivered};
 ghost use Rattle.resolver_peer.specs.PeerRunLaws.{RunLaws};
 ghost use Rattle.resolver_peer.specs.PeerRuns as peer;
 
@@ -154,10 +155,9 @@ pub fn replies_once<K: Ord, S: Ord, P: Ord>()
     ensures { RepliesOnce (parties K.cmp S.cmp P.cmp) }
 {}
 
-/// What a peer sends that is no message, or answers no request that it was sent, changes nothing by
-/// itself: the step is that of a wake-up.
-pub fn unasked_pass<K: Ord, S: Ord, P: Ord>()
-    ensures { UnaskedPass (parties K.cmp S.cmp P.cmp) }
+/// What is passed over changes nothing by itself: the step is that of a wake-up.
+pub fn passed_over_pass<K: Ord, S: Ord, P: Ord>()
+    ensures { PassedOverPass (parties K.cmp S.cmp P.cmp) }
 {}
 
 /// A verdict that is not live retires no pair, changes no phase, hands out nothing, and gives at most one
@@ -169,4 +169,9 @@ pub fn dead_verdicts_pass<K: Ord, S: Ord, P: Ord>()
 /// A response that answers a request is delivered in that step, to exactly the subscribers of its key.
 pub fn responses_are_delivered<K: Ord, S: Ord, P: Ord>()
     ensures { ResponsesAreDelivered (parties K.cmp S.cmp P.cmp) }
+{}
+
+/// A step of the peer machine is a run of one input, and a run that goes on is one run.
+pub fn runs_join<K: Ord, S: Ord, P: Ord>()
+    ensures { RunsJoin (parties K.cmp S.cmp P.cmp) }
 {}
