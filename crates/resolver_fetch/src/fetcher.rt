@@ -476,7 +476,7 @@ impl<K: Ord + Drop, P: Ord + Drop> Fetcher<K, P> {
 
     /// Takes out the request that a response of this peer under this id answers, and says how long
     /// it took. Where there is none, nothing changes. Where requests are limited a scan may be begun
-    /// at once then: the peer may be asked again.
+    /// at once then: the peer may be asked again. It takes no memory.
     #[inline]
     pub fn pop_response(&mut self, id: ID, peer: &P, now: u128) -> Option<(K, u128)>
         requires closed { is_some self.old.scan ≡ false }
@@ -509,7 +509,7 @@ impl<K: Ord + Drop, P: Ord + Drop> Fetcher<K, P> {
     }
 
     /// Takes out the request that a peer answers without data, and charges the peer. Where there
-    /// is none, nothing changes.
+    /// is none, nothing changes. It takes no memory.
     pub fn pop_missing(&mut self, id: ID, peer: &P, now: u128) -> Option<K>
         requires closed { is_some self.old.scan ≡ false }
         requires moment { now < 2 ^ 94 }

@@ -16,6 +16,7 @@ use Rattle.resolver_peer.specs.Parties.{Parties, orders_of}
 use Rattle.resolver_peer.specs.Peer.{Done, Event, Fetch, Retain, PeerSet, Blocked, ActiveDue, PendingDue, Verdict, Served, Net, End, Happens, Answers, Machine, Open, and_then, asking, does, happen, is_due, quiet, scanned, served_by, snapshot, step_of, step_running, times_out, turned, verdict_on, wake_up}
 use Rattle.resolver_peer.specs.Peer as machines
 use Rattle.resolver_peer.specs.PeerSteps.{is_passed_over, takes_no_memory}
+use Rattle.resolver_peer.proofs.PeerPoints.{passed-quiet}
 use Rattle.resolver_peer.proofs.AsksEligible.{IsCalmIfDone, does-calm}
 use Rattle.resolver_peer.specs.declared.effects.Effect.{Effect as Told}
 use Rattle.resolver_parts.specs.declared.parts.Parts.{Parts}
@@ -37,31 +38,6 @@ ok-of (Ok t) is = (t, refl)
 ok-of (Err fault) is = absurd cc
 
 module _ {K S P : Type 0} (a : Parties K S P) where
-  -- what is passed over leaves the machine as it was
-  passed-quiet : (m : Machine K S P) (now : ℕ) (event : Event K S P) → is_passed_over a m now event ≡ true → does a (record m { moment = now }) now event ≡ Some (quiet (record m { moment = now }))
-  passed-quiet m now (Fetch items) passed = absurd cc
-  passed-quiet m now (Retain keep) passed = absurd cc
-  passed-quiet m now (PeerSet index peers) passed = absurd cc
-  passed-quiet m now (Blocked peers) passed = absurd cc
-  passed-quiet m now ActiveDue passed = at (overdue (snapshot a m).asked now) passed
-    where
-      at : (r : Option (ℕ × Request K P)) → is_none r ≡ true → Some (quiet (times_out a (record m { moment = now }) now r)) ≡ Some (quiet (record m { moment = now }))
-      at None passed = refl
-      at (Some r) passed = absurd cc
-  passed-quiet m now PendingDue passed = refl
-  passed-quiet m now (Verdict number outcome) passed = at (lookup (λ n. number == n) m.deliveries) passed
-    where
-      at : (h : Option (Open K S P)) → is_none h ≡ true → verdict_on a (record m { moment = now }) now number outcome h ≡ Some (quiet (record m { moment = now }))
-      at None passed = refl
-      at (Some h) passed = absurd cc
-  passed-quiet m now (Served serve bytes) passed = at (lookup (λ n. serve == n) m.serves) passed
-    where
-      at : (s : Option (Serve P)) → is_none s ≡ true → Some (served_by (record m { moment = now }) serve bytes s) ≡ Some (quiet (record m { moment = now }))
-      at None passed = refl
-      at (Some s) passed = absurd cc
-  passed-quiet m now (Net peer message) passed = absurd cc
-  passed-quiet m now End passed = absurd cc
-
   calm-done : (m : Machine K S P) (going : Option (Done K S P)) (d : Done K S P) → IsCalmIfDone m going → going ≡ Some d → d.machine.scan ≡ m.scan
   calm-done m None d calm is = absurd cc
   calm-done m (Some e) d calm is = let same : e ≡ d = cc in ap (λ (d : Done K S P). d.machine.scan) (sym same) ∙ calm.0
@@ -128,7 +104,7 @@ module _ {K S P : Type 0} (a : Parties K S P) where
         at : (passed : Bool) → is_passed_over a m now event ≡ passed → (passed && not (is_due now (wake_up a m))) ≡ false
         at false is = refl
         at true is =
-            let kept : quiet (record m { moment = now }) ≡ first.done = some-same (quiet (record m { moment = now })) first.done (sym (passed-quiet m now event is) ∙ first.is) in
+            let kept : quiet (record m { moment = now }) ≡ first.done = some-same (quiet (record m { moment = now })) first.done (sym (passed-quiet a m now event is) ∙ first.is) in
             ap not (ap (λ (d : Done K S P). is_due now (wake_up a d.machine)) kept ∙ due)
 
     -- an event is taken

@@ -1,6 +1,7 @@
 //! What a peer's response does to the parts.
 
-ghost use Rattle.std.specs.Prelude.{◌≡◌, ◌<◌, ◌^◌, ◌++◌, ◌∷◌, [], None, false, is_some, IfErr, IsTrue, OnOk};
+ghost use Rattle.std.specs.Prelude.{◌≡◌, ◌<◌, ◌^◌, ◌++◌, ◌∷◌, [], None, Err, false, is_none, is_some, IfErr, IsTrue, OnOk};
+ghost use Rattle.resolver_base.specs.declared.base.fault.Fault.TheVariants.{OutOfMemory};
 ghost use Rattle.std.specs.Option.{option_and_then};
 ghost use Rattle.resolver_delivery.specs.Entries.{delivered, is_tracked, number_of};
 ghost use Rattle.resolver_peer.specs.Parties.{parties};
@@ -46,6 +47,9 @@ impl<K: Ord + Clone + Drop, P: Ord + Clone + Drop, S: Ord + Clone + Drop> Parts<
             (option_and_then (λ r. row_of (parties K.cmp S.cmp P.cmp) m r.key)
             (answered (parties K.cmp S.cmp P.cmp) m peer.now id)))
             effects.old.items effects.new.items self.new result }
+        ensures memory { result ≡ Err OutOfMemory
+            → (m : Machine K S P) → Agrees (parties K.cmp S.cmp P.cmp) self.old m
+            → is_none (answered (parties K.cmp S.cmp P.cmp) m peer.now id) ≡ false }
     {
         let Some(request) = self.fetcher.pop_request(id, peer) else {
             return Ok(());

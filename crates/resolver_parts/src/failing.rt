@@ -41,6 +41,9 @@ impl<K: Ord + Clone + Drop, P: Ord + Drop, S: Ord + Drop> Parts<K, P, S> {
             → OnOk result (Agrees (parties K.cmp S.cmp P.cmp) self.new
             (misses (parties K.cmp S.cmp P.cmp) m now
             (answered (parties K.cmp S.cmp P.cmp) m peer.now id))) }
+        ensures memory { result ≡ Err OutOfMemory
+            → (m : Machine K S P) → Agrees (parties K.cmp S.cmp P.cmp) self.old m
+            → is_none (answered (parties K.cmp S.cmp P.cmp) m peer.now id) ≡ false }
         ensures only { IfErr result (λ fault. fault ≡ OutOfMemory) }
     {
         let Some(key) = self.fetcher.pop_missing(id, peer, now) else {

@@ -1,10 +1,10 @@
 //! The parts of the engine: who wants what, what is judged, and what is asked for.
 
-ghost use Rattle.std.specs.Prelude.{◌≡◌, None, false, is_some, IfErr, OnOk};
+ghost use Rattle.std.specs.Prelude.{◌≡◌, None, Err, true, false, is_some, IfErr, OnOk};
 ghost use Rattle.resolver_base.specs.declared.base.fault.Fault.TheVariants.{OutOfMemory};
 ghost use Rattle.resolver_trying.specs.Fetcher.{IsTimely};
 ghost use Rattle.resolver_peer.specs.Parties.{parties};
-ghost use Rattle.resolver_peer.specs.Peer.{Machine, opening, peer_set, block};
+ghost use Rattle.resolver_peer.specs.Peer.{Machine, opening, is_newer, peer_set, block};
 ghost use Rattle.resolver_parts.specs.Tied.{Agrees};
 
 use resolver_base::base::{Fault, Numbers};
@@ -77,6 +77,8 @@ impl<K: Ord + Drop, P: Ord + Drop, S: Ord + Drop> Parts<K, P, S> {
         ensures ok { (m : Machine K S P) → Agrees (parties K.cmp S.cmp P.cmp) self.old m
             → OnOk result (Agrees (parties K.cmp S.cmp P.cmp) self.new
             (peer_set (parties K.cmp S.cmp P.cmp) m index peers.items)) }
+        ensures memory { result ≡ Err OutOfMemory
+            → is_newer self.old.last_index index ≡ true }
         ensures only { IfErr result (λ fault. fault ≡ OutOfMemory) }
     {
         if let Some(last) = self.last_index {

@@ -20,3 +20,4 @@ pub mod StaysAwake
 pub mod Refusals
 pub mod Cached
 pub mod PeerPoints
+pub mod PeerReplies

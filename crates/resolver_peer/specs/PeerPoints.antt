@@ -1,6 +1,5 @@
 -- What single inputs of a peer machine do, and what they don't.
 use Rattle.std.specs.Prelude.{◌≡◌, ◌≤◌, ◌<◌, ◌^◌, ℕ, Bool, true, false, ◌&&◌, ◌==◌, is_none, List, [], ◌∷◌, ◌++◌, Option, None, Some, Result, filter, length, map, if◌then◌else◌}
-use Rattle.std.specs.List.{IsDistinct}
 use Rattle.std.specs.Map.{lookup}
 use Rattle.resolver_base.specs.declared.base.fault.Fault.{Fault}
 use Rattle.resolver_root.specs.declared.root.Outcome.{Outcome}
@@ -14,7 +13,7 @@ use Rattle.resolver_peer.specs.declared.named.Serve.{Serve}
 use Rattle.resolver_peer.specs.Parties.{Parties}
 use Rattle.resolver_peer.specs.PeerRows.{Row, Phase, Judged}
 use Rattle.resolver_peer.specs.PeerRun.{Fed, effects_of}
-use Rattle.resolver_peer.specs.PeerSteps.{is_passed_over}
+use Rattle.resolver_peer.specs.PeerSteps.{Runs, is_passed_over}
 use Rattle.resolver_peer.specs.Peer.{Machine, Open, Status, Running, Effect, Deliver, Reply, Credit, Block, Event, PendingDue, Verdict, Served, Net, Input, Happens, answered, opening, payload_of, row_of, step}
 
 abbrev pub is_running : Status → Bool
@@ -92,3 +91,21 @@ module _ {K S P : Type 0} (a : Parties K S P) where
       → takes_events m ≡ true → answered a m peer id ≡ Some r → row_of a m r.key ≡ Some row → m.next_delivery < 2 ^ 64
       → filter is_delivery (effects_of (step a m now (Happens (Net peer (Some (record { id = id; payload = payloads.Response value }))))).0)
       ≡ Deliver m.next_delivery (record { response = m.next_delivery; key = r.key; subscribers = row.subscribers }) value ∷ []
+
+module _ {K S P : Type 0} where
+  -- the serves that an input gave a reply to
+  abbrev pub served_at : Input K S P → List (Effect K S P) → List ℕ
+  served_at (Happens (Served serve bytes)) effects = map (λ reply. serve) (filter is_reply effects)
+  served_at input effects = []
+
+  -- the serves that were replied to, in order
+  abbrev pub all_served : List (Fed K S P) → List (Result (List (Effect K S P)) Fault) → List ℕ
+  all_served (fed ∷ inputs) (answer ∷ answers) = served_at fed.input (effects_of answer) ++ all_served inputs answers
+  all_served inputs answers = []
+
+-- In a run from the opening state no serve is replied to twice, also where the run failed.
+abbrev pub NoSecondReply : {K S P : Type 0} → Parties K S P → Type 0
+NoSecondReply {K} {S} {P} a =
+    (old : Machine K S P) (inputs : List (Fed K S P)) (answers : List (Result (List (Effect K S P)) Fault)) (new : Machine K S P)
+    → Runs a old inputs answers new → (configuration : Config P) (priority_responses : Bool) → old ≡ opening configuration priority_responses
+    → (serve : ℕ) → length (filter (λ n. serve == n) (all_served inputs answers)) ≤ 1

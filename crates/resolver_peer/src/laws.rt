@@ -5,7 +5,7 @@ ghost use Rattle.resolver_peer.specs.Parties.{parties};
 ghost use Rattle.resolver_peer.specs.PeerDemandRows.{PeerDemand};
 ghost use Rattle.resolver_peer.specs.PeerLaws.{AsksEligible, DemandIsKept, EarnsOnce, IsPaidOnce, IsPaidToSenders, IsWellAskedThroughout, TriesOnce, AskedOnce, IdsAreNew, StaysAwake};
 ghost use Rattle.resolver_peer.specs.PeerSteps.{RunsJoin};
-ghost use Rattle.resolver_peer.specs.PeerPoints.{DeadVerdictsPass, PassedOverPass, RepliesOnce, ResponsesAreDelivered};
+ghost use Rattle.resolver_peer.specs.PeerPoints.{DeadVerdictsPass, NoSecondReply, PassedOverPass, RepliesOnce, ResponsesAreDelivered};
 ghost use Rattle.resolver_peer.specs.PeerRunLaws.{RunLaws};
 ghost use Rattle.resolver_peer.specs.PeerRuns as peer;
 
@@ -153,6 +153,11 @@ pub fn run_laws<K: Ord, S: Ord, P: Ord>()
 /// and no other input gives a reply.
 pub fn replies_once<K: Ord, S: Ord, P: Ord>()
     ensures { RepliesOnce (parties K.cmp S.cmp P.cmp) }
+{}
+
+/// In a run of the peer machine no serve is replied to twice.
+pub fn no_second_reply<K: Ord, S: Ord, P: Ord>()
+    ensures { NoSecondReply (parties K.cmp S.cmp P.cmp) }
 {}
 
 /// What is passed over changes nothing by itself: the step is that of a wake-up.

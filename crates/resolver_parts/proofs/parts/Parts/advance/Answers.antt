@@ -1,6 +1,6 @@
-use Rattle.std.proofs.Common.{refl, sym, append-nil}
+use Rattle.std.proofs.Common.{◌∙◌, ap, not, refl, sym, append-nil}
 use Rattle.resolver_peer.specs.Parties.{parties}
-use Rattle.resolver_peer.specs.Peer.{quiet}
+use Rattle.resolver_peer.specs.Peer.{is_newer, quiet}
 use Rattle.resolver_parts.specs.Said.{codec}
 use Rattle.resolver_parts.proofs.Agreeing.{goes-quiet}
 use Rattle.resolver_peer.proofs.Refusals.{done}
@@ -18,7 +18,7 @@ returns-in-PeerSet-clause-goes g c = λ m is.
     rw c.in-PeerSet.is (goes-quiet (parties g.K.Ord.cmp g.S.Ord.cmp g.P.Ord.cmp) (codec g.K.Span.SIZE g.K.Span.bytes_of g.K.Span.read_from) c.args.effects.now.items c.peer_set.new.self _ c.peer_set.result (c.peer_set.ensures.ok m is) c.peer_set.ensures.only)
 
 pub returns-in-PeerSet-clause-memory : goal.returns-in-PeerSet-clause-memory
-returns-in-PeerSet-clause-memory g c = λ wanting m is. rw c.in-PeerSet.is refl
+returns-in-PeerSet-clause-memory g c = λ wanting m is. rw c.in-PeerSet.is (ap (λ last. not (is_newer last c.in-PeerSet.index)) (sym is.last_index) ∙ ap not (c.peer_set.ensures.memory wanting))
 
 pub returns-in-Blocked-clause-goes : goal.returns-in-Blocked-clause-goes
 returns-in-Blocked-clause-goes g c = λ m is.
@@ -53,10 +53,10 @@ pub returns-in-Served-clause-memory : goal.returns-in-Served-clause-memory
 returns-in-Served-clause-memory g c = λ wanting m is. rw c.in-Served.is (c.served.ensures.memory wanting m is)
 
 pub returns-in-Net-clause-goes : goal.returns-in-Net-clause-goes
-returns-in-Net-clause-goes g c = λ m is. rw c.in-Net.is (c.net.ensures m is)
+returns-in-Net-clause-goes g c = λ m is. rw c.in-Net.is (c.net.ensures.goes m is)
 
 pub returns-in-Net-clause-memory : goal.returns-in-Net-clause-memory
-returns-in-Net-clause-memory g c = λ wanting m is. rw c.in-Net.is refl
+returns-in-Net-clause-memory g c = λ wanting m is. rw c.in-Net.is (c.net.ensures.memory wanting m is)
 
 pub returns-in-End-clause-goes : goal.returns-in-End-clause-goes
 returns-in-End-clause-goes g c = λ m is. rw c.in-End.is (c.end.ensures m is)

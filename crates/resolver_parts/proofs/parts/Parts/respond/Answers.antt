@@ -1,9 +1,10 @@
-use Rattle.std.proofs.Common.{◌≡◌, refl, sym, ◌∙◌, [], None, Some}
+use Rattle.std.proofs.Common.{◌≡◌, refl, ap, sym, ◌∙◌, [], None, Some}
+use Rattle.std.specs.Prelude.{is_none}
 use Rattle.resolver_peer.specs.Parties.{parties}
 use Rattle.resolver_parts.specs.Said.{codec}
 use Rattle.resolver_parts.proofs.Fails.{over}
 use Rattle.resolver_parts.proofs.Handed.{answers, answers-goes, at, idle-number, none-goes, row, tracked-here, wanted-here}
-use Rattle.resolver_peer.proofs.Refusals.{refused-with}
+use Rattle.resolver_peer.proofs.Refusals.{done, refused-with}
 use Rattle.resolver_parts.proofs.parts.Parts.respond.Goals as goal
 
 none-some : {X : Type 0} (x : X) → None ≡ Some x → ⊥
@@ -46,11 +47,17 @@ returns g c = record {
       c.args.now c.args.value _ c.args.effects.now.items _ c.hand_out.result c.in-Some-2.subscribers c.elapsed_since.result c.len.result
       (sym c.in_ok-subscribers.ensures.ok ∙ c.in-Some-2.is) c.elapsed_since.ensures c.len.ensures.value
       c.hand_out.ensures.told c.hand_out.ensures.ok c.hand_out.ensures.room c.hand_out.ensures.only refl refl;
+  memory = λ wanting m is.
+      let a = parties g.K.Ord.cmp g.S.Ord.cmp g.P.Ord.cmp in
+      ap is_none (answers a g.met.K.Ord.total c.args.self.now m c.args.id c.args.peer.now c.in-Some.request c.pop_request.new.self is (sym c.in-Some.ensures.popped)).found;
 }
 
 pub returns-in_err-subscribers : goal.returns-in_err-subscribers
 returns-in_err-subscribers g c = record {
   goes = λ said m is. rw (refused-with c.from_residual.result _ c.from_residual.ensures.1, c.in_err-subscribers.ensures.only) tt;
+  memory = λ wanting m is.
+      let a = parties g.K.Ord.cmp g.S.Ord.cmp g.P.Ord.cmp in
+      ap is_none (answers a g.met.K.Ord.total c.args.self.now m c.args.id c.args.peer.now c.in-Some.request c.pop_request.new.self is (sym c.in-Some.ensures.popped)).found;
 }
 
 pub returns-in_default : goal.returns-in_default
@@ -58,4 +65,5 @@ returns-in_default g c = record {
   goes = λ said m is.
       let a = parties g.K.Ord.cmp g.S.Ord.cmp g.P.Ord.cmp in
       none-goes a said c.args.self.now m is c.args.now c.args.id c.args.peer.now c.args.value c.pop_request.new.self _ c.args.effects.now.items (sym c.in_default.ensures.popped) refl;
+  memory = λ wanting m is. absurd (done _ _ wanting);
 }
