@@ -1,7 +1,10 @@
 //! What a resolver's users ask of it.
 
-ghost use Rattle.std.specs.Prelude.{◌≡◌, ◌≢◌, IfErr};
+ghost use Rattle.std.specs.Prelude.{◌≡◌, ◌≢◌, List, [], ◌∷◌, Result, IfErr};
+ghost use Rattle.resolver_base.specs.declared.base.fault.Fault.{Fault};
 ghost use Rattle.resolver_base.specs.declared.base.fault.Fault.TheVariants.{Exhausted, OutOfMemory};
+ghost use Rattle.resolver_base.specs.declared.base.feedback.Feedback.{Feedback};
+ghost use Rattle.resolver_root.specs.declared.root.Fetch.{Fetch};
 
 use resolver_base::base::{Fault, Feedback, PublicKey, Span};
 use resolver_root::{Fetch, NonEmptyVec, Predicate};
@@ -22,8 +25,16 @@ pub trait Resolver: Clone + Send + 'static {
     /// Which subscribers stay.
     type Predicate: Predicate<Self::Key, Self::Subscriber>;
 
+    /// What one call that asks for these keys may answer, and how it leaves the handle.
+    ghost asks: { Self → List (Fetch Self.Key Self.Subscriber)
+        → Result Feedback Fault → Self → Type 0 };
+
+    /// What one call that keeps what this test keeps may answer, and how it leaves the handle.
+    ghost retains: { Self → Self.Predicate → Result Feedback Fault → Self → Type 0 };
+
     /// Asks for a key on behalf of a subscriber. The fetch persists until it is retired.
     fn fetch(&mut self, fetch: Fetch<Self::Key, Self::Subscriber>) -> Result<Feedback, Fault>
+        ensures asked { asks self.old (fetch ∷ []) result self.new }
         ensures only { IfErr result (λ fault. fault ≢ OutOfMemory → fault ≡ Exhausted) };
 
     /// Asks for several keys by one message, also where there is none.
@@ -31,10 +42,12 @@ pub trait Resolver: Clone + Send + 'static {
         &mut self,
         fetches: Vec<Fetch<Self::Key, Self::Subscriber>>,
     ) -> Result<Feedback, Fault>
+        ensures asked { asks self.old fetches.items result self.new }
         ensures only { IfErr result (λ fault. fault ≢ OutOfMemory → fault ≡ Exhausted) };
 
     /// Lets all subscribers go that aren't kept, and the keys that nobody wants then.
     fn retain(&mut self, keep: Self::Predicate) -> Result<Feedback, Fault>
+        ensures retained { retains self.old keep result self.new }
         ensures only { IfErr result (λ fault. fault ≢ OutOfMemory → fault ≡ Exhausted) };
 }
 
@@ -43,12 +56,18 @@ pub trait TargetedResolver: Resolver {
     /// How peers are named.
     type PublicKey: PublicKey;
 
+    /// What one call that asks for these keys, each of its own peers alone, may answer, and how it
+    /// leaves the handle.
+    ghost asks_of: { Self → List (Fetch Self.Key Self.Subscriber × List Self.PublicKey)
+        → Result Feedback Fault → Self → Type 0 };
+
     /// Asks for a key, of these peers alone.
     fn fetch_targeted(
         &mut self,
         fetch: Fetch<Self::Key, Self::Subscriber>,
         targets: NonEmptyVec<Self::PublicKey>,
     ) -> Result<Feedback, Fault>
+        ensures asked { asks_of self.old ((fetch, targets) ∷ []) result self.new }
         ensures only { IfErr result (λ fault. fault ≢ OutOfMemory → fault ≡ Exhausted) };
 
     /// Asks for several keys by one message, each of its own peers alone.
@@ -61,5 +80,6 @@ pub trait TargetedResolver: Resolver {
             ),
         >,
     ) -> Result<Feedback, Fault>
+        ensures asked { asks_of self.old fetches.items result self.new }
         ensures only { IfErr result (λ fault. fault ≢ OutOfMemory → fault ≡ Exhausted) };
 }

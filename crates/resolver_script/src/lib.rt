@@ -7,6 +7,7 @@ pub mod kept;
 mod opaque;
 pub mod peer;
 mod peers;
+mod planning;
 mod print;
 pub mod replay;
 mod script;

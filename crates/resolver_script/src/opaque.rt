@@ -9,7 +9,7 @@ use resolver_actor::opaque::{Actor, Event, Input};
 use resolver_ingress::ingress::FetchKey;
 use resolver_mailbox::mocks::Key;
 use resolver_moment::Moment;
-use resolver_root::NonEmptyVec;
+use resolver_root::{Fetch, NonEmptyVec};
 use std::alloc::Global;
 use std::io::Write;
 
@@ -55,6 +55,32 @@ impl Opaque {
         }
     }
 
+    /// Feeds some fetches as one, and prints the effects or the refusal. Whether the actor took them.
+    pub fn fetch_all<W: Write>(
+        &mut self,
+        now: Moment,
+        fetches: Vec<Fetch<Key, u16>>,
+        output: &mut W,
+    ) -> Result<bool, Fault> {
+        let items = items(self.alloc, fetches)?;
+        self.tell(now, Event::Fetch(items), output)
+    }
+
+    /// Feeds a test of subscribers, and prints the effects or the refusal. Whether the actor took it.
+    pub fn retain<W: Write>(
+        &mut self,
+        now: Moment,
+        kept: Kept,
+        output: &mut W,
+    ) -> Result<bool, Fault> {
+        self.tell(now, Event::Retain(kept), output)
+    }
+
+    fn tell<W: Write>(&mut self, now: Moment, told: Told, output: &mut W) -> Result<bool, Fault> {
+        let now = now.nanoseconds;
+        print::taken(output, self.actor.step(Input { now, event: told }))
+    }
+
     /// Prints the rows and the wake-up.
     pub fn show<W: Write>(&self, output: &mut W) -> Result<(), Fault> {
         match self.actor.rows() {
@@ -75,6 +101,15 @@ fn event_of(alloc: Global, said: Said) -> Result<Option<Told>, Fault> {
         Said::Fetched { attempt, value } => Event::Fetched { attempt, value },
         _of_peers => return Ok(None),
     }))
+}
+
+/// Some fetches, as the actor takes them.
+fn items(alloc: Global, fetches: Vec<Fetch<Key, u16>>) -> Result<Vec<FetchKey<Key, u16, ()>>, Fault> {
+    let mut items = Vec::with_capacity(alloc, fetches.len())?;
+    for fetch in fetches {
+        items.push(FetchKey::from_fetch(alloc, fetch)?)?;
+    }
+    Ok(items)
 }
 
 /// What a subscriber wants, if it names no peers.

@@ -12,7 +12,7 @@ use resolver_ingress::ingress::FetchKey;
 use resolver_mailbox::mocks::Key;
 use resolver_moment::Moment;
 use resolver_peer::inputs::{Event, Happening, Input};
-use resolver_root::NonEmptyVec;
+use resolver_root::{Fetch, NonEmptyVec};
 use std::alloc::{AllocError, Global};
 use std::io::Write;
 
@@ -75,6 +75,32 @@ impl Peers {
         self.step(Input::Answers(answer), output)
     }
 
+    /// Feeds some fetches as one, and prints the effects or the refusal. Whether the engine took them.
+    pub fn fetch_all<W: Write>(
+        &mut self,
+        now: Moment,
+        fetches: Vec<Fetch<Key, u16>>,
+        output: &mut W,
+    ) -> Result<bool, Fault> {
+        let items = items_of(self.alloc, fetches)?;
+        self.tell(now, Event::Fetch(items), output)
+    }
+
+    /// Feeds a test of subscribers, and prints the effects or the refusal. Whether the engine took it.
+    pub fn retain<W: Write>(
+        &mut self,
+        now: Moment,
+        kept: Kept,
+        output: &mut W,
+    ) -> Result<bool, Fault> {
+        self.tell(now, Event::Retain(kept), output)
+    }
+
+    fn tell<W: Write>(&mut self, now: Moment, told: Told, output: &mut W) -> Result<bool, Fault> {
+        let now = now.nanoseconds;
+        print::taken(output, self.core.step(Input::Happens(Happening { now, event: told })))
+    }
+
     fn step<W: Write>(&mut self, input: Taken, output: &mut W) -> Result<bool, Fault> {
         print::answer(output, self.core.step(input))
     }
@@ -110,6 +136,15 @@ fn event_of(alloc: Global, said: Said) -> Result<Option<Told>, Fault> {
         },
         Said::Served { serve, value } => Event::Served { serve, value },
     }))
+}
+
+/// Some fetches, of any peer, as the engine takes them.
+fn items_of(alloc: Global, fetches: Vec<Fetch<Key, u16>>) -> Result<Vec<Wanted>, Fault> {
+    let mut items = Vec::with_capacity(alloc, fetches.len())?;
+    for fetch in fetches {
+        items.push(FetchKey::from_fetch(alloc, fetch)?)?;
+    }
+    Ok(items)
 }
 
 /// What a subscriber wants.

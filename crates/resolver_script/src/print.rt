@@ -48,6 +48,16 @@ pub fn answer<T: Lined + Drop, W: Write>(
     }
 }
 
+/// Prints the effects of a step, or its refusal. Whether it was taken.
+pub fn taken<T: Lined + Drop, W: Write>(
+    output: &mut W,
+    answered: Result<Vec<T>, base::Fault>,
+) -> Result<bool, Fault> {
+    let is_taken = answered.is_ok();
+    answer(output, answered)?;
+    Ok(is_taken)
+}
+
 /// Prints the rows and the wake-up.
 pub fn rows<T: Lined + Drop, W: Write>(
     output: &mut W,

@@ -1,13 +1,17 @@
 //! A script from its first line to its last.
 
 use crate::endings::{Ending, Fault, Place, written};
+use crate::kept::Kept;
 use crate::opaque::Opaque;
 use crate::peers::Peers;
+use crate::planning::{Planning, Tells};
 use crate::script::{Command, Rejected, Said, Why, Wrong, is_skipped, parse};
 use log::{Log, trace};
 use memchr::memchr;
 use resolver_fetch::fetcher::Answer;
+use resolver_mailbox::mocks::Key;
 use resolver_moment::Moment;
+use resolver_root::Fetch;
 use std::alloc::Global;
 use std::io::{BufRead, BufReader, ErrorKind, Read, Write};
 use std::mem;
@@ -23,11 +27,16 @@ enum Machine {
 struct Session {
     machine: Machine,
     now: Moment,
+    planning: Planning,
 }
 
 impl Drop for Session {
     fn drop(self) {
-        let Self { machine: _, now: _ } = self;
+        let Self {
+            machine: _,
+            now: _,
+            planning: _,
+        } = self;
     }
 }
 
@@ -188,7 +197,15 @@ fn start(alloc: Global, session: &mut Option<Session>, command: Command) -> Opti
         _ => return Some(Why::Unopened),
     };
     let now = Moment { nanoseconds: 0 };
-    drop(mem::replace(session, Some(Session { machine, now })));
+    let planning = Planning::new(alloc);
+    drop(mem::replace(
+        session,
+        Some(Session {
+            machine,
+            now,
+            planning,
+        }),
+    ));
     None
 }
 
@@ -202,6 +219,16 @@ impl Session {
                 return Ok(None);
             }
             Command::Show => return self.machine.show(output),
+            Command::Backfill { subscriber, mark } => {
+                self.planning.open(subscriber, mark);
+                return Ok(None);
+            }
+            Command::Want(keys) => {
+                return self.planning.want(&mut self.machine, self.now, &keys, output);
+            }
+            Command::Done(keys) => {
+                return self.planning.done(&mut self.machine, self.now, &keys, output);
+            }
             Command::Happens(said) => self.machine.happens(self.now, said, output),
             Command::Answers(answer) => self.machine.answers(answer, output),
         };
@@ -209,6 +236,32 @@ impl Session {
             Ok(true) => Ok(None),
             Ok(false) => Ok(Some(Why::OtherMachine)),
             Err(fault) => Err(fault),
+        }
+    }
+}
+
+impl Tells for Machine {
+    fn fetch_all<W: Write>(
+        &mut self,
+        now: Moment,
+        fetches: Vec<Fetch<Key, u16>>,
+        output: &mut W,
+    ) -> Result<bool, Fault> {
+        match self {
+            Machine::Opaque(actor) => actor.fetch_all(now, fetches, output),
+            Machine::Peers(engine) => engine.fetch_all(now, fetches, output),
+        }
+    }
+
+    fn retain<W: Write>(
+        &mut self,
+        now: Moment,
+        kept: Kept,
+        output: &mut W,
+    ) -> Result<bool, Fault> {
+        match self {
+            Machine::Opaque(actor) => actor.retain(now, kept, output),
+            Machine::Peers(engine) => engine.retain(now, kept, output),
         }
     }
 }

@@ -9,9 +9,10 @@ mod wrong;
 
 use crate::kept::Kept;
 use bytes::Bytes;
-use fields::{Fields, moment, peer, timeout};
+use fields::{Fields, count, moment, peer, peers, subscriber, timeout};
 use inputs::{of_both_machines, of_peers, of_scans, of_sources};
 use resolver_fetch::fetcher::Answer;
+use resolver_mailbox::mocks::Key;
 use resolver_moment::Moment;
 use resolver_root::{NonEmptyVec, Outcome};
 use std::alloc::{AllocError, AllocFailed, Global};
@@ -43,6 +44,12 @@ pub enum Command {
     At(Moment),
     /// `show`: prints the rows and the wake-up.
     Show,
+    /// `backfill S M`: a new plan for this subscriber, whose fetches have this mark.
+    Backfill { subscriber: u16, mark: u64 },
+    /// `want LIST`: the plan wants these keys too.
+    Want(Vec<Key>),
+    /// `done LIST`: the plan wants these keys no more.
+    Done(Vec<Key>),
     /// Something happened.
     Happens(Said),
     /// `drawn N`, `checked clear`, `checked T`, `sent accepted` and `sent refused`: what the open
@@ -177,6 +184,9 @@ fn read_command(alloc: Global, word: &str, fields: &mut Fields<'_>) -> Result<Co
     if let Some(command) = of_the_script(word, fields)? {
         return Ok(command);
     }
+    if let Some(command) = of_plans(alloc, word, fields)? {
+        return Ok(command);
+    }
     if let Some(answer) = of_scans(word, fields)? {
         return Ok(Command::Answers(answer));
     }
@@ -197,6 +207,33 @@ fn of_the_script(word: &str, fields: &mut Fields<'_>) -> Result<Option<Command>,
         "show" => Command::Show,
         _ => return Ok(None),
     }))
+}
+
+/// What a line says to the plan, or that opens one, if its word does so.
+fn of_plans(
+    alloc: Global,
+    word: &str,
+    fields: &mut Fields<'_>,
+) -> Result<Option<Command>, Unread> {
+    Ok(Some(match word {
+        "backfill" => Command::Backfill {
+            subscriber: subscriber(fields.next())?,
+            mark: count(fields.next())?,
+        },
+        "want" => Command::Want(keys(alloc, fields)?),
+        "done" => Command::Done(keys(alloc, fields)?),
+        _ => return Ok(None),
+    }))
+}
+
+/// Keys, joined by commas; `-` is the empty list.
+fn keys(alloc: Global, fields: &mut Fields<'_>) -> Result<Vec<Key>, Unread> {
+    let numbers = peers(alloc, fields.next())?;
+    let mut keys = Vec::with_capacity(alloc, numbers.len())?;
+    for number in numbers {
+        keys.push(Key(number))?;
+    }
+    Ok(keys)
 }
 
 fn read_timing(fields: &mut Fields<'_>) -> Result<Timing, Unread> {

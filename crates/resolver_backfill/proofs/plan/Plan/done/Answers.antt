@@ -1,0 +1,13 @@
+use Rattle.std.proofs.Common.{rules, ◌≡◌, sym, ap}
+use Rattle.resolver_root.specs.Names.{names}
+use Rattle.resolver_backfill.specs.Given.{Turns, retain_told}
+use Rattle.resolver_backfill.specs.Plans.{let_go, settled}
+use Rattle.resolver_backfill.proofs.Turning.{done-turns}
+use Rattle.resolver_backfill.proofs.plan.Plan.done.Goals as goal
+
+pub returns-clause-turns : goal.returns-clause-turns
+returns-clause-turns g c =
+    let turns = done-turns (names g.K.Ord.cmp g.S.Ord.cmp) g.met.K.Ord.total g.met.S.Ord.total c.args.self.now c.args.keys.now in
+    let answer = c.in_ok-without.ensures.without in
+    let after = c.forget.ensures in
+    rw (answer, after) turns
