@@ -4,6 +4,7 @@
 
 pub mod endings;
 pub mod kept;
+mod machine;
 mod opaque;
 pub mod peer;
 mod peers;

@@ -2,6 +2,8 @@
 
 use crate::endings::Fault;
 use crate::kept::Kept;
+use crate::machine::Fed;
+use crate::planning::items_of;
 use crate::print;
 use crate::script::{Said, Wish};
 use bytes::Bytes;
@@ -9,7 +11,7 @@ use resolver_actor::opaque::{Actor, Event, Input};
 use resolver_ingress::ingress::FetchKey;
 use resolver_mailbox::mocks::Key;
 use resolver_moment::Moment;
-use resolver_root::{Fetch, NonEmptyVec};
+use resolver_root::NonEmptyVec;
 use std::alloc::Global;
 use std::io::Write;
 
@@ -37,48 +39,21 @@ impl Opaque {
         }
     }
 
-    /// Feeds what happened, and prints the effects or the refusal. False where it doesn't happen to
-    /// this machine.
+    /// Feeds what happened, and prints the effects or the refusal.
     pub fn happens<W: Write>(
         &mut self,
         now: Moment,
         said: Said,
         output: &mut W,
-    ) -> Result<bool, Fault> {
+    ) -> Result<Fed, Fault> {
         match event_of(self.alloc, said) {
             Ok(Some(event)) => {
                 let now = now.nanoseconds;
                 print::answer(output, self.actor.step(Input { now, event }))
             }
-            Ok(None) => Ok(false),
+            Ok(None) => Ok(Fed::Elsewhere),
             Err(fault) => Err(fault),
         }
-    }
-
-    /// Feeds some fetches as one, and prints the effects or the refusal. Whether the actor took them.
-    pub fn fetch_all<W: Write>(
-        &mut self,
-        now: Moment,
-        fetches: Vec<Fetch<Key, u16>>,
-        output: &mut W,
-    ) -> Result<bool, Fault> {
-        let items = items(self.alloc, fetches)?;
-        self.tell(now, Event::Fetch(items), output)
-    }
-
-    /// Feeds a test of subscribers, and prints the effects or the refusal. Whether the actor took it.
-    pub fn retain<W: Write>(
-        &mut self,
-        now: Moment,
-        kept: Kept,
-        output: &mut W,
-    ) -> Result<bool, Fault> {
-        self.tell(now, Event::Retain(kept), output)
-    }
-
-    fn tell<W: Write>(&mut self, now: Moment, told: Told, output: &mut W) -> Result<bool, Fault> {
-        let now = now.nanoseconds;
-        print::taken(output, self.actor.step(Input { now, event: told }))
     }
 
     /// Prints the rows and the wake-up.
@@ -94,6 +69,7 @@ impl Opaque {
 fn event_of(alloc: Global, said: Said) -> Result<Option<Told>, Fault> {
     Ok(Some(match said {
         Said::Fetch(wish) => return fetch(alloc, &wish),
+        Said::FetchAll(fetches) => Event::Fetch(items_of(alloc, fetches)?),
         Said::Retain(kept) => Event::Retain(kept),
         Said::Verdict { number, outcome } => Event::Verdict { number, outcome },
         Said::Wake => Event::RetriesDue,
@@ -101,15 +77,6 @@ fn event_of(alloc: Global, said: Said) -> Result<Option<Told>, Fault> {
         Said::Fetched { attempt, value } => Event::Fetched { attempt, value },
         _of_peers => return Ok(None),
     }))
-}
-
-/// Some fetches, as the actor takes them.
-fn items(alloc: Global, fetches: Vec<Fetch<Key, u16>>) -> Result<Vec<FetchKey<Key, u16, ()>>, Fault> {
-    let mut items = Vec::with_capacity(alloc, fetches.len())?;
-    for fetch in fetches {
-        items.push(FetchKey::from_fetch(alloc, fetch)?)?;
-    }
-    Ok(items)
 }
 
 /// What a subscriber wants, if it names no peers.

@@ -2,7 +2,9 @@
 
 use crate::endings::Fault;
 use crate::kept::Kept;
+use crate::machine::Fed;
 use crate::peer::Peer;
+use crate::planning::items_of;
 use crate::print;
 use crate::script::{Said, Timing, Wish};
 use resolver::p2p::Core;
@@ -12,7 +14,7 @@ use resolver_ingress::ingress::FetchKey;
 use resolver_mailbox::mocks::Key;
 use resolver_moment::Moment;
 use resolver_peer::inputs::{Event, Happening, Input};
-use resolver_root::{Fetch, NonEmptyVec};
+use resolver_root::NonEmptyVec;
 use std::alloc::{AllocError, Global};
 use std::io::Write;
 
@@ -52,56 +54,29 @@ impl Peers {
         }
     }
 
-    /// Feeds what happened, and prints the effects or the refusal. False where it doesn't happen to
-    /// this machine.
+    /// Feeds what happened, and prints the effects or the refusal.
     pub fn happens<W: Write>(
         &mut self,
         now: Moment,
         said: Said,
         output: &mut W,
-    ) -> Result<bool, Fault> {
+    ) -> Result<Fed, Fault> {
         match event_of(self.alloc, said) {
             Ok(Some(event)) => {
                 let now = now.nanoseconds;
                 self.step(Input::Happens(Happening { now, event }), output)
             }
-            Ok(None) => Ok(false),
+            Ok(None) => Ok(Fed::Elsewhere),
             Err(fault) => Err(fault),
         }
     }
 
     /// Feeds what the open scan is answered, and prints the effects or the refusal.
-    pub fn answers<W: Write>(&mut self, answer: Answer, output: &mut W) -> Result<bool, Fault> {
+    pub fn answers<W: Write>(&mut self, answer: Answer, output: &mut W) -> Result<Fed, Fault> {
         self.step(Input::Answers(answer), output)
     }
 
-    /// Feeds some fetches as one, and prints the effects or the refusal. Whether the engine took them.
-    pub fn fetch_all<W: Write>(
-        &mut self,
-        now: Moment,
-        fetches: Vec<Fetch<Key, u16>>,
-        output: &mut W,
-    ) -> Result<bool, Fault> {
-        let items = items_of(self.alloc, fetches)?;
-        self.tell(now, Event::Fetch(items), output)
-    }
-
-    /// Feeds a test of subscribers, and prints the effects or the refusal. Whether the engine took it.
-    pub fn retain<W: Write>(
-        &mut self,
-        now: Moment,
-        kept: Kept,
-        output: &mut W,
-    ) -> Result<bool, Fault> {
-        self.tell(now, Event::Retain(kept), output)
-    }
-
-    fn tell<W: Write>(&mut self, now: Moment, told: Told, output: &mut W) -> Result<bool, Fault> {
-        let now = now.nanoseconds;
-        print::taken(output, self.core.step(Input::Happens(Happening { now, event: told })))
-    }
-
-    fn step<W: Write>(&mut self, input: Taken, output: &mut W) -> Result<bool, Fault> {
+    fn step<W: Write>(&mut self, input: Taken, output: &mut W) -> Result<Fed, Fault> {
         print::answer(output, self.core.step(input))
     }
 
@@ -119,6 +94,7 @@ impl Peers {
 fn event_of(alloc: Global, said: Said) -> Result<Option<Told>, Fault> {
     Ok(Some(match said {
         Said::Fetch(wish) => Event::Fetch(items(alloc, wish)?),
+        Said::FetchAll(fetches) => Event::Fetch(items_of(alloc, fetches)?),
         Said::Retain(kept) => Event::Retain(kept),
         Said::Verdict { number, outcome } => Event::Verdict { number, outcome },
         Said::Wake => Event::PendingDue,
@@ -136,15 +112,6 @@ fn event_of(alloc: Global, said: Said) -> Result<Option<Told>, Fault> {
         },
         Said::Served { serve, value } => Event::Served { serve, value },
     }))
-}
-
-/// Some fetches, of any peer, as the engine takes them.
-fn items_of(alloc: Global, fetches: Vec<Fetch<Key, u16>>) -> Result<Vec<Wanted>, Fault> {
-    let mut items = Vec::with_capacity(alloc, fetches.len())?;
-    for fetch in fetches {
-        items.push(FetchKey::from_fetch(alloc, fetch)?)?;
-    }
-    Ok(items)
 }
 
 /// What a subscriber wants.

@@ -1,25 +1,26 @@
-//! The plan of a script, and what it tells the machine.
+//! The plan of a script.
 
 use crate::endings::Fault;
 use crate::kept::Kept;
-use crate::script::Why;
+use crate::machine::{Fed, Machine};
+use crate::script::{Said, Why};
 use resolver_backfill::Plan;
+use resolver_ingress::ingress::FetchKey;
 use resolver_mailbox::mocks::Key;
 use resolver_moment::Moment;
 use resolver_root::Fetch;
 use std::alloc::{AllocError, Global};
 use std::io::Write;
 
-/// What a plan tells. Each call prints the effects or the refusal, and answers whether it was taken.
-pub trait Tells {
-    fn fetch_all<W: Write>(
-        &mut self,
-        now: Moment,
-        fetches: Vec<Fetch<Key, u16>>,
-        output: &mut W,
-    ) -> Result<bool, Fault>;
-
-    fn retain<W: Write>(&mut self, now: Moment, kept: Kept, output: &mut W) -> Result<bool, Fault>;
+/// What a line says of the plan.
+#[derive(Drop)]
+pub enum Planned {
+    /// `backfill S M`: a new plan for this subscriber, whose fetches have this mark.
+    Open { subscriber: u16, mark: u64 },
+    /// `want LIST`: the plan wants these keys too.
+    Want(Vec<u8>),
+    /// `done LIST`: the plan wants these keys no more.
+    Done(Vec<u8>),
 }
 
 /// The plan that a script opened last, if it opened one.
@@ -40,15 +41,29 @@ impl Planning {
         Planning { alloc, plan: None }
     }
 
-    /// Opens a plan in place of the last one.
-    pub fn open(&mut self, subscriber: u16, mark: u64) {
-        self.plan = Some(Plan::new(self.alloc, subscriber, mark));
+    /// Does what a line says of the plan, or says why it may not stand here. Where the machine refuses
+    /// what it is fed, the plan stays as it was.
+    pub fn take<W: Write>(
+        &mut self,
+        machine: &mut Machine,
+        now: Moment,
+        planned: Planned,
+        output: &mut W,
+    ) -> Result<Option<Why>, Fault> {
+        match planned {
+            Planned::Open { subscriber, mark } => {
+                self.plan = Some(Plan::new(self.alloc, subscriber, mark));
+                Ok(None)
+            }
+            Planned::Want(keys) => self.want(machine, now, &named(self.alloc, &keys)?, output),
+            Planned::Done(keys) => self.done(machine, now, &named(self.alloc, &keys)?, output),
+        }
     }
 
-    /// Tells the machine what the plan didn't want. Where that is refused, the plan stays as it was.
-    pub fn want<T: Tells, W: Write>(
+    /// Feeds the machine one fetch of those of these keys that the plan didn't want, if there are some.
+    fn want<W: Write>(
         &mut self,
-        machine: &mut T,
+        machine: &mut Machine,
         now: Moment,
         keys: &[Key],
         output: &mut W,
@@ -56,22 +71,24 @@ impl Planning {
         let Some(plan) = &mut self.plan else {
             return Ok(Some(Why::Unplanned));
         };
-        let fetches = wanted(plan, keys)?;
+        let Ok(fetches) = plan.want(keys) else {
+            return Err(Fault::Memory);
+        };
         if fetches.is_empty() {
             return Ok(None);
         }
         let new = keys_of(self.alloc, &fetches)?;
-        if !machine.fetch_all(now, fetches, output)? {
+        if machine.happens(now, Said::FetchAll(fetches), output)? != Fed::Taken {
             plan.forget(&new);
         }
         Ok(None)
     }
 
-    /// Tells the machine what the plan wanted and wants no more. Where that is refused, the plan stays
-    /// as it was.
-    pub fn done<T: Tells, W: Write>(
+    /// Feeds the machine one retain that lets the plan's subscriber go from those of these keys that the
+    /// plan wanted, if there are some.
+    fn done<W: Write>(
         &mut self,
-        machine: &mut T,
+        machine: &mut Machine,
         now: Moment,
         keys: &[Key],
         output: &mut W,
@@ -85,19 +102,21 @@ impl Planning {
         let Some(without) = without else {
             return Ok(None);
         };
-        if machine.retain(now, Kept::Without(without), output)? {
+        let said = Said::Retain(Kept::Without(without));
+        if machine.happens(now, said, output)? == Fed::Taken {
             plan.forget(keys);
         }
         Ok(None)
     }
 }
 
-/// What the plan wants then and didn't want before.
-fn wanted(plan: &mut Plan<Key, u16>, keys: &[Key]) -> Result<Vec<Fetch<Key, u16>>, Fault> {
-    match plan.want(keys) {
-        Ok(fetches) => Ok(fetches),
-        Err(_) => Err(Fault::Memory),
+/// Keys by their numbers.
+fn named(alloc: Global, numbers: &[u8]) -> Result<Vec<Key>, AllocError> {
+    let mut keys = Vec::with_capacity(alloc, numbers.len())?;
+    for number in numbers {
+        keys.push(Key(*number))?;
     }
+    Ok(keys)
 }
 
 /// The keys of some fetches.
@@ -107,4 +126,16 @@ fn keys_of(alloc: Global, fetches: &[Fetch<Key, u16>]) -> Result<Vec<Key>, Alloc
         keys.push(fetch.key)?;
     }
     Ok(keys)
+}
+
+/// Some fetches, as a machine takes them, of any peer.
+pub fn items_of<M: Default + Drop>(
+    alloc: Global,
+    fetches: Vec<Fetch<Key, u16>>,
+) -> Result<Vec<FetchKey<Key, u16, M>>, AllocError> {
+    let mut items = Vec::with_capacity(alloc, fetches.len())?;
+    for fetch in fetches {
+        items.push(FetchKey::from_fetch(alloc, fetch)?)?;
+    }
+    Ok(items)
 }

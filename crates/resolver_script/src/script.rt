@@ -8,13 +8,14 @@ mod inputs;
 mod wrong;
 
 use crate::kept::Kept;
+use crate::planning::Planned;
 use bytes::Bytes;
-use fields::{Fields, count, moment, peer, peers, subscriber, timeout};
-use inputs::{of_both_machines, of_peers, of_scans, of_sources};
+use fields::{Fields, moment, peer, timeout};
+use inputs::{of_both_machines, of_peers, of_plans, of_scans, of_sources};
 use resolver_fetch::fetcher::Answer;
 use resolver_mailbox::mocks::Key;
 use resolver_moment::Moment;
-use resolver_root::{NonEmptyVec, Outcome};
+use resolver_root::{Fetch, NonEmptyVec, Outcome};
 use std::alloc::{AllocError, AllocFailed, Global};
 use std::str;
 pub use wrong::{Why, Wrong};
@@ -44,17 +45,13 @@ pub enum Command {
     At(Moment),
     /// `show`: prints the rows and the wake-up.
     Show,
-    /// `backfill S M`: a new plan for this subscriber, whose fetches have this mark.
-    Backfill { subscriber: u16, mark: u64 },
-    /// `want LIST`: the plan wants these keys too.
-    Want(Vec<Key>),
-    /// `done LIST`: the plan wants these keys no more.
-    Done(Vec<Key>),
     /// Something happened.
     Happens(Said),
     /// `drawn N`, `checked clear`, `checked T`, `sent accepted` and `sent refused`: what the open
     /// scan asked is answered.
     Answers(Answer),
+    /// `backfill S M`, `want LIST` and `done LIST`: what is planned.
+    Plans(Planned),
 }
 
 /// What a line says that happened.
@@ -62,7 +59,9 @@ pub enum Command {
 pub enum Said {
     /// `fetch K S M` and `fetch K S M LIST`: a subscriber wants a key.
     Fetch(Wish),
-    /// `keep-sub S` and `drop-key K`: subscribers want their keys no more.
+    /// `want LIST`: the plan's subscriber wants keys.
+    FetchAll(Vec<Fetch<Key, u16>>),
+    /// `keep-sub S`, `drop-key K` and `done LIST`: subscribers want their keys no more.
     Retain(Kept),
     /// `verdict N W`: what the consumer said, or nothing where it dropped the delivery.
     Verdict {
@@ -184,8 +183,8 @@ fn read_command(alloc: Global, word: &str, fields: &mut Fields<'_>) -> Result<Co
     if let Some(command) = of_the_script(word, fields)? {
         return Ok(command);
     }
-    if let Some(command) = of_plans(alloc, word, fields)? {
-        return Ok(command);
+    if let Some(planned) = of_plans(alloc, word, fields)? {
+        return Ok(Command::Plans(planned));
     }
     if let Some(answer) = of_scans(word, fields)? {
         return Ok(Command::Answers(answer));
@@ -207,33 +206,6 @@ fn of_the_script(word: &str, fields: &mut Fields<'_>) -> Result<Option<Command>,
         "show" => Command::Show,
         _ => return Ok(None),
     }))
-}
-
-/// What a line says to the plan, or that opens one, if its word does so.
-fn of_plans(
-    alloc: Global,
-    word: &str,
-    fields: &mut Fields<'_>,
-) -> Result<Option<Command>, Unread> {
-    Ok(Some(match word {
-        "backfill" => Command::Backfill {
-            subscriber: subscriber(fields.next())?,
-            mark: count(fields.next())?,
-        },
-        "want" => Command::Want(keys(alloc, fields)?),
-        "done" => Command::Done(keys(alloc, fields)?),
-        _ => return Ok(None),
-    }))
-}
-
-/// Keys, joined by commas; `-` is the empty list.
-fn keys(alloc: Global, fields: &mut Fields<'_>) -> Result<Vec<Key>, Unread> {
-    let numbers = peers(alloc, fields.next())?;
-    let mut keys = Vec::with_capacity(alloc, numbers.len())?;
-    for number in numbers {
-        keys.push(Key(number))?;
-    }
-    Ok(keys)
 }
 
 fn read_timing(fields: &mut Fields<'_>) -> Result<Timing, Unread> {
