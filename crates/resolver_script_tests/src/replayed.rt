@@ -12,6 +12,7 @@ use std::process::Abort;
 
 mod actors;
 mod peers;
+mod plans;
 mod scans;
 mod unreadable;
 mod worked;
