@@ -81,7 +81,7 @@ pub trait Asks {
     fn close(&mut self);
 }
 
-impl<R: Wait + Copy + Send + 'static> Asks for Asked<R> {
+impl<R: Wait + Copy + Send + 'static> Asks for Asked<Below, R> {
     fn fetch(&mut self, alloc: Global, wants: &[(u8, u16)]) -> Result<Feedback, Fault> {
         match wants {
             [(key, subscriber)] => Resolver::fetch(self, wanted(*key, *subscriber)),
