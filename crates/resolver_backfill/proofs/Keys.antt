@@ -1,19 +1,18 @@
 -- Keys in their order: put at their places, found, and removed.
-use Rattle.std.proofs.Common.{◌≡◌, ◌≢◌, ◌∙◌, sym, ap, refl, Bool, true, false, not, ◌&&◌, ◌||◌, cond, true≢false, ℕ, zero, suc, ◌<◌, List, [], ◌∷◌, ◌++◌, length, Option, None, Some, filter, take, get_or, arith}
-use Rattle.std.proofs.lemmas.Grind.{common_steps}
+use Rattle.std.proofs.Common.{◌≡◌, ◌≢◌, ◌∙◌, sym, ap, refl, Bool, true, false, not, ◌&&◌, ◌||◌, cond, true≢false, ℕ, zero, suc, ◌<◌, List, [], ◌∷◌, ◌++◌, length, Option, None, Some, IsSome, IfSome, ◌↔◌, filter, take, get_or, arith}
 use Rattle.std.proofs.lemmas.List.Folds.{list_any-append}
-use Rattle.std.specs.List.{AllByRecursion, find, list_any}
+use Rattle.std.specs.List.{AllByRecursion, find, list_any, slice_get}
 use Rattle.std.specs.List.Sorted.{IsStrictlySortedBy}
 use Rattle.std.specs.Cmp.{IsTotalOrder}
 use Rattle.std.specs.BTreeMap.{is_at}
 use Rattle.std.specs.BTreeSet.{insert_key}
 use Rattle.std.specs.Set.{remove_key}
-use Rattle.std.specs.Ordering.{is_eq, match_ordering, ordering_reverse}
+use Rattle.std.specs.Ordering.{is_eq, is_lt, match_ordering, ordering_reverse}
 use Rattle.std.specs.declared.cmp.Ordering.{Ordering}
 use Rattle.std.specs.declared.cmp.Ordering.TheVariants.{Less, Equal, Greater}
 use Rattle.resolver_ingress.proofs.Right.{flips-by, follows-by}
 use Rattle.resolver_backfill.specs.Alike.{has_alike}
-use Rattle.resolver_backfill.specs.Plans.{has, lacking, met, unmet, with_keys}
+use Rattle.resolver_backfill.specs.Plans.{from_bound, has, is_below, lacking, met, unmet, with_keys}
 
 module _ {K : Type 0} where
   -- tests that agree on each item leave the same
@@ -362,3 +361,65 @@ module _ {K : Type 0} (cmp : K → K → Ordering) (total : IsTotalOrder cmp) wh
   -- where none is met, all are left
   pub unmet-all : (ws keys : List K) → met cmp ws keys ≡ [] → unmet cmp ws keys ≡ ws
   unmet-all ws keys none = filter-all (λ k. not (has cmp keys k)) ws (all-by (λ k. has cmp keys k ≡ false) (λ k. not (has cmp keys k) ≡ true) (λ k h. ap not h) ws (none-filter (has cmp keys) ws none))
+
+  -- keys that are removed in turn
+  pub unmet-turn : (ws keys : List K) (key : K) → unmet cmp ws (key ∷ keys) ≡ unmet cmp (unmet cmp ws (key ∷ [])) keys
+  unmet-turn [] keys key = refl
+  unmet-turn (w ∷ ws) keys key = cases (is_eq (cmp w key)) (unmet-turn ws keys key) where
+    left : List K
+    left = unmet cmp (unmet cmp ws (key ∷ [])) keys
+
+    cases : (b : Bool) → unmet cmp ws (key ∷ keys) ≡ left
+        → cond (not (b || has cmp keys w)) (w ∷ unmet cmp ws (key ∷ keys)) (unmet cmp ws (key ∷ keys))
+        ≡ unmet cmp (cond (not (b || false)) (w ∷ unmet cmp ws (key ∷ [])) (unmet cmp ws (key ∷ []))) keys
+    cases true rest = rest
+    cases false rest = ap (λ xs. cond (not (has cmp keys w)) (w ∷ xs) xs) rest
+
+  -- where the first key isn't below a bound, none is
+  none-below : (bound w : K) (ws : List K) → IsStrictlySortedBy cmp (w ∷ ws) → is_below cmp bound w ≡ false → AllByRecursion (λ k. is_below cmp bound k ≡ false) ws
+  none-below bound w ws sorted from = all-by (λ y. cmp w y ≡ Less) (λ y. is_below cmp bound y ≡ false) (λ y less. later y less (cmp y bound) refl) ws (sorted-first w ws sorted) where
+    later : (y : K) → cmp w y ≡ Less → (o : Ordering) → cmp y bound ≡ o → is_lt (cmp y bound) ≡ false
+    later y less Less is = absurd (true≢false (sym (ap is_lt (total.trans w y bound less is)) ∙ from))
+    later y less Equal is = ap is_lt is
+    later y less Greater is = ap is_lt is
+
+  any-none : (p : K → Bool) (xs : List K) → AllByRecursion (λ x. p x ≡ false) xs → list_any p xs ≡ false
+  any-none p [] all = refl
+  any-none p (x ∷ xs) all = ap (λ b. b || list_any p xs) all.0 ∙ any-none p xs all.1
+
+  none-any : (p : K → Bool) (xs : List K) → list_any p xs ≡ false → AllByRecursion (λ x. p x ≡ false) xs
+  none-any p [] none = tt
+  none-any p (x ∷ xs) none = cases (p x) refl none (none-any p xs) where
+    cases : (b : Bool) → p x ≡ b → (b || list_any p xs) ≡ false → (list_any p xs ≡ false → AllByRecursion (λ x. p x ≡ false) xs) → AllByRecursion (λ x. p x ≡ false) (x ∷ xs)
+    cases true is none rest = absurd (true≢false none)
+    cases false is none rest = (is, rest none)
+
+  -- the first key says whether one is below a bound
+  pub below-first : (bound w : K) (ws : List K) → IsStrictlySortedBy cmp (w ∷ ws) → list_any (is_below cmp bound) (w ∷ ws) ≡ is_below cmp bound w
+  below-first bound w ws sorted = cases (is_below cmp bound w) refl where
+    cases : (b : Bool) → is_below cmp bound w ≡ b → (b || list_any (is_below cmp bound) ws) ≡ b
+    cases true is = refl
+    cases false is = any-none (is_below cmp bound) ws (none-below bound w ws sorted is)
+
+  pub below-got : (bound w : K) (ws : List K) → IsStrictlySortedBy cmp ws → slice_get ws 0 ≡ Some w → is_below cmp bound w ≡ list_any (is_below cmp bound) ws
+  below-got bound w [] sorted got = absurd (let wrong = got in cc)
+  below-got bound w (v ∷ ws) sorted got = ap (is_below cmp bound) (sym (same got)) ∙ sym (below-first bound v ws sorted) where
+    same : Some v ≡ Some w → v ≡ w
+    same e = cc
+
+  -- where no key is below a bound, all are left
+  pub from-all : (bound : K) (ws : List K) → list_any (is_below cmp bound) ws ≡ false → from_bound cmp ws bound ≡ ws
+  from-all bound ws none = filter-all (λ k. not (is_below cmp bound k)) ws (all-by (λ k. is_below cmp bound k ≡ false) (λ k. not (is_below cmp bound k) ≡ true) (λ k h. ap not h) ws (none-any (is_below cmp bound) ws none))
+
+  -- where one is, the first is, and is taken out
+  pub from-popped : (bound w : K) (ws : List K) → IsStrictlySortedBy cmp (w ∷ ws) → list_any (is_below cmp bound) (w ∷ ws) ≡ true → from_bound cmp ws bound ≡ from_bound cmp (w ∷ ws) bound
+  from-popped bound w ws sorted some = ap (λ b. cond (not b) (w ∷ from_bound cmp ws bound) (from_bound cmp ws bound)) (sym (sym (below-first bound w ws sorted) ∙ some))
+
+  -- the loop that takes out the first key while one is below a bound
+  pub popped : (bound : K) (was now : List K) (key : Option K) → (IsSome key ↔ (0 < length was)) → IfSome key (λ k. was ≡ k ∷ now) → IsStrictlySortedBy cmp was
+      → list_any (is_below cmp bound) was ≡ true → (from_bound cmp now bound ≡ from_bound cmp was bound) × (length now < length was)
+  popped bound [] now key some took sorted there = absurd (true≢false (sym there))
+  popped bound (w ∷ ws) now None some took sorted there = absurd (true≢false (sym (some.1 (omega arith))))
+  popped bound (w ∷ ws) now (Some key) some took sorted there =
+      let rest : ws ≡ now = cc in
+      (ap (λ ks. from_bound cmp ks bound) (sym rest) ∙ from-popped bound w ws sorted there, rw (sym rest) (omega arith))

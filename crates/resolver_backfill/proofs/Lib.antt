@@ -1,3 +1,3 @@
 pub mod Keys
 pub mod Turning
-pub mod Filled
+pub mod Told

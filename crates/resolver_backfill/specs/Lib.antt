@@ -1,5 +1,5 @@
 pub mod Plans
 pub mod Alike
 pub mod Given
-pub mod Filling
-pub mod PlanRows
+pub mod Telling
+pub mod WorkedPlan

@@ -1,22 +1,22 @@
 //! What is true of every plan, and a worked one. Each function says one of these, and does nothing.
 
-ghost use Rattle.std.specs.Prelude.{List, [], ◌∷◌};
+ghost use Rattle.std.specs.Prelude.{◌≡◌, List, [], ◌∷◌};
 ghost use Rattle.resolver_root.specs.Names.{names};
 ghost use Rattle.resolver_backfill.specs.Plans.{Plan, fetches_of, settled};
-ghost use Rattle.resolver_backfill.specs.Given.{Call, IsServed, Restores, Turns, called_all, told_all};
-ghost use Rattle.resolver_backfill.specs.PlanRows.{WorkedPlan};
+ghost use Rattle.resolver_backfill.specs.Given.{Call, KeepsGiven, Restores};
+ghost use Rattle.resolver_backfill.specs.WorkedPlan.{WorkedPlan};
 
-/// Two keys are wanted, then one more, and then two of them are done with while another subscriber
-/// wants one.
+/// Keys are wanted, done with and forgotten, while another subscriber wants two of them.
 pub fn worked_plan()
     ensures { WorkedPlan }
 {}
 
-/// After any number of calls, a demand that had the plan's pairs alone of its subscriber, and that
-/// was told all answers in turn, has those of the plan as it is then, and all other pairs as before.
+/// After any number of calls, a demand that had the plan's pairs alone of its subscriber, and that was
+/// told all answers in turn, has those of the plan as it is then, and all other pairs as they are then.
+/// Nothing is told of a key that came for the subscriber, whose pair the resolver retired: it is
+/// forgotten.
 pub fn calls_keep_demand<K: Ord, S: Ord>()
-    ensures { (plan : Plan K S) (calls : List (Call K)) → Turns (names K.cmp S.cmp) plan
-        (told_all (names K.cmp S.cmp) plan calls) (called_all (names K.cmp S.cmp) plan calls) }
+    ensures { (plan : Plan K S) (calls : List (Call K S)) → KeepsGiven (names K.cmp S.cmp) plan calls }
 {}
 
 /// To ask again for all that is wanted changes nothing, and restores what was lost.
@@ -25,8 +25,8 @@ pub fn again_restores<K: Ord, S: Ord>()
         → Restores (names K.cmp S.cmp) plan (fetches_of plan plan.wanted) }
 {}
 
-/// A plan that wants a key no more is right where the subscriber got the key, with nothing told.
-pub fn a_key_is_served<K: Ord, S: Ord>()
-    ensures { (plan : Plan K S) (key : K)
-        → IsServed (names K.cmp S.cmp) plan key (settled K.cmp plan (key ∷ [])) }
+/// To forget some keys is to forget one after the other.
+pub fn keys_are_forgotten_in_turn<K: Ord, S>()
+    ensures { (plan : Plan K S) (key : K) (keys : List K) → settled K.cmp plan (key ∷ keys)
+        ≡ settled K.cmp (settled K.cmp plan (key ∷ [])) keys }
 {}

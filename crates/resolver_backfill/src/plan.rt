@@ -1,10 +1,11 @@
-//! Which keys are wanted.
+//! Which keys are wanted for one subscriber.
 
 ghost use Rattle.std.specs.Prelude.{◌≡◌, ◌≢◌, [], ◌∷◌, None, IfOk, IfErr, OnOk, OnErr};
+ghost use Rattle.std.specs.List.{list_any};
 ghost use Rattle.std.specs.List.Sorted.{IsStrictlySortedBy};
 ghost use Rattle.resolver_base.specs.declared.base.fault.Fault.TheVariants.{OutOfMemory};
 ghost use Rattle.resolver_root.specs.Names.{names};
-ghost use Rattle.resolver_backfill.specs.Plans.{fetched, fetches_of, lacking, let_go, met, settled, unmet, wanting, with_keys};
+ghost use Rattle.resolver_backfill.specs.Plans.{fetched, fetches_of, from_bound, is_below, lacking, let_go, let_go_below, met, settled, settled_below, unmet, wanting, with_keys};
 ghost use Rattle.resolver_backfill.specs.Given.{Restores, Turns, fetch_told, retain_told};
 
 use crate::without::Without;
@@ -16,8 +17,9 @@ use std::marker::Model;
 
 /// The keys that are wanted for one subscriber.
 ///
-/// A call takes time in proportion to the keys that it is given, times the logarithm of how many
-/// are wanted.
+/// It tells nobody: its calls answer what a resolver has to be told, so that the resolver's demand has
+/// the plan's pairs. A call takes time in proportion to the keys that it is given, or that it removes or
+/// answers, times the logarithm of how many are wanted.
 pub struct Plan<K: Ord, S> {
     subscriber: S,
     mark: u64,
@@ -105,7 +107,25 @@ impl<K: Ord + Clone + Drop, S: Ord + Clone + Drop> Plan<K, S> {
         Ok(without)
     }
 
-    /// A fetch for each wanted key, in key order, to ask for all of them again.
+    /// Wants the keys below this one no more, and answers what lets the subscriber go from all keys below
+    /// it, if one of them was wanted. The key itself stays. Where memory is wanting, nothing changes.
+    pub fn done_below(&mut self, bound: &K) -> Result<Option<Without<K, S>>, Fault>
+        requires keys_clone { (x y : K) → K.is_clone x y → y ≡ x }
+        requires subscribers_clone { (x y : S) → S.is_clone x y → y ≡ x }
+        ensures without { IfOk result (λ without. without ≡ let_go_below K.cmp self.old bound.now) }
+        ensures ok { OnOk result (self.new ≡ settled_below K.cmp self.old bound.now) }
+        ensures turns { IfOk result (λ without. Turns (names K.cmp S.cmp) self.old
+            (retain_told (names K.cmp S.cmp) without) self.new) }
+        ensures err { OnErr result (self.new ≡ self.old) }
+        ensures only { IfErr result (λ fault. fault ≡ OutOfMemory) }
+    {
+        let without = self.without_below(bound)?;
+        self.forget_below(bound);
+        Ok(without)
+    }
+
+    /// A fetch for each wanted key, in key order, to ask for all of them again. Told to a resolver, it
+    /// brings back what was lost there, and changes nothing else.
     pub fn again(&self) -> Result<Vec<Fetch<K, S>>, Fault>
         requires keys_clone { (x y : K) → K.is_clone x y → y ≡ x }
         requires subscribers_clone { (x y : S) → S.is_clone x y → y ≡ x }
@@ -122,7 +142,8 @@ impl<K: Ord + Clone + Drop, S: Ord + Clone + Drop> Plan<K, S> {
         Ok(fetches)
     }
 
-    /// What `done` would answer. It takes no memory where none of the keys is wanted.
+    /// What `done` would answer, with the plan left as it is. It takes no memory where none of the keys
+    /// is wanted.
     pub fn without(&self, keys: &[K]) -> Result<Option<Without<K, S>>, Fault>
         requires keys_clone { (x y : K) → K.is_clone x y → y ≡ x }
         requires subscribers_clone { (x y : S) → S.is_clone x y → y ≡ x }
@@ -137,11 +158,35 @@ impl<K: Ord + Clone + Drop, S: Ord + Clone + Drop> Plan<K, S> {
         Ok(Some(Without::new(self.subscriber.clone()?, met)))
     }
 
-    /// Wants these keys no more. It takes no memory.
+    /// What `done_below` would answer, with the plan left as it is. It takes no memory where no key below
+    /// this one is wanted.
+    pub fn without_below(&self, bound: &K) -> Result<Option<Without<K, S>>, Fault>
+        requires keys_clone { (x y : K) → K.is_clone x y → y ≡ x }
+        requires subscribers_clone { (x y : S) → S.is_clone x y → y ≡ x }
+        ensures without { IfOk result (λ without. without ≡ let_go_below K.cmp self.now bound.now) }
+        ensures some { OnErr result (let_go_below K.cmp self.now bound.now ≢ None) }
+        ensures only { IfErr result (λ fault. fault ≡ OutOfMemory) }
+    {
+        if !has_below(&self.wanted, bound) {
+            return Ok(None);
+        }
+        let subscriber = self.subscriber.clone()?;
+        Ok(Some(Without::below(self.alloc, subscriber, bound.clone()?)))
+    }
+
+    /// Wants these keys no more, and has nothing told: for keys that came, which the resolver retired for
+    /// the subscriber by itself. It takes no memory.
     pub fn forget(&mut self, keys: &[K])
         ensures { self.new ≡ settled K.cmp self.old keys.now }
     {
         remove_all(&mut self.wanted, keys);
+    }
+
+    /// Wants the keys below this one no more, and has nothing told. It takes no memory.
+    pub fn forget_below(&mut self, bound: &K)
+        ensures { self.new ≡ settled_below K.cmp self.old bound.now }
+    {
+        remove_below(&mut self.wanted, bound);
     }
 
     /// Those of these keys that aren't wanted, in their order, each once. It takes no memory where
@@ -280,5 +325,27 @@ fn remove_all<K: Ord + Drop>(set: &mut BTreeSet<K>, keys: &[K])
 {
     for key in keys {
         set.remove(key);
+    }
+}
+
+/// Whether a set has a key below this one.
+fn has_below<K: Ord>(set: &BTreeSet<K>, bound: &K) -> bool
+    requires ordered { IsStrictlySortedBy K.cmp set.now.keys }
+    ensures { result ≡ list_any (is_below K.cmp bound.now) set.now.keys }
+{
+    match set.first() {
+        Some(first) => first.cmp(bound).is_lt(),
+        None => false,
+    }
+}
+
+/// Removes the keys below this one from a set.
+fn remove_below<K: Ord + Drop>(set: &mut BTreeSet<K>, bound: &K)
+    requires ordered { IsStrictlySortedBy K.cmp set.old.keys }
+    ensures left { set.new.keys ≡ from_bound K.cmp set.old.keys bound.now }
+    ensures ordered { IsStrictlySortedBy K.cmp set.new.keys }
+{
+    while has_below(set, bound) {
+        set.pop_first();
     }
 }

@@ -15,6 +15,11 @@ use resolver_root::{Fetch, NonEmptyVec, Predicate};
 /// caller does well to slow down, and Closed where the resolver takes no messages any more, nor
 /// will. Where memory is wanting (`OutOfMemory`), or a number for the handle (`Exhausted`), it
 /// leaves none.
+///
+/// What a call does is said by a ghost relation for each kind of call, over the handle before it, what it
+/// asks for, its answer, and the handle after it. Generic code knows nothing else of these relations: so a
+/// contract that says one of its handle says that exactly one call was made through it, this one, and
+/// that its answer was handed on. Each implementation says what the relation is.
 pub trait Resolver: Clone + Send + 'static {
     /// How data is named.
     type Key: Span;
@@ -25,11 +30,12 @@ pub trait Resolver: Clone + Send + 'static {
     /// Which subscribers stay.
     type Predicate: Predicate<Self::Key, Self::Subscriber>;
 
-    /// What one call that asks for these keys may answer, and how it leaves the handle.
+    /// One call that asks for these keys, of any peer: how it finds the handle, what it answers, and how it
+    /// leaves the handle.
     ghost asks: { Self → List (Fetch Self.Key Self.Subscriber)
         → Result Feedback Fault → Self → Type 0 };
 
-    /// What one call that keeps what this test keeps may answer, and how it leaves the handle.
+    /// One call that lets all go whom this predicate doesn't keep, likewise.
     ghost retains: { Self → Self.Predicate → Result Feedback Fault → Self → Type 0 };
 
     /// Asks for a key on behalf of a subscriber. The fetch persists until it is retired.
@@ -56,8 +62,7 @@ pub trait TargetedResolver: Resolver {
     /// How peers are named.
     type PublicKey: PublicKey;
 
-    /// What one call that asks for these keys, each of its own peers alone, may answer, and how it
-    /// leaves the handle.
+    /// One call that asks for these keys, each of its own peers alone, as `asks` has it of any peer.
     ghost asks_of: { Self → List (Fetch Self.Key Self.Subscriber × List Self.PublicKey)
         → Result Feedback Fault → Self → Type 0 };
 

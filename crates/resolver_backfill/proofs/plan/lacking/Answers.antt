@@ -1,5 +1,5 @@
-use Rattle.std.proofs.Common.{◌≡◌, ◌∙◌, sym, false, rules}
-use Rattle.resolver_backfill.proofs.Filled.{on-err}
+use Rattle.std.proofs.Common.{◌≡◌, false, rules}
+use Rattle.resolver_backfill.proofs.Told.{on-err}
 use Rattle.resolver_backfill.specs.Plans.{has}
 use Rattle.resolver_backfill.proofs.Keys.{lacking-some}
 use Rattle.resolver_backfill.proofs.plan.lacking.Goals as goal

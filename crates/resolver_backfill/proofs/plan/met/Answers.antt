@@ -1,6 +1,6 @@
 use Rattle.std.proofs.Common.{◌≡◌, ◌∙◌, sym, ap, rules, take, ◌++◌, ◌∷◌, []}
 use Rattle.std.proofs.lemmas.List.{take_more}
-use Rattle.resolver_backfill.proofs.Filled.{on-err}
+use Rattle.resolver_backfill.proofs.Told.{on-err}
 use Rattle.std.specs.BTreeSet.{BTreeSet, insert_key}
 use Rattle.resolver_backfill.specs.Plans.{met}
 use Rattle.resolver_backfill.proofs.Keys.{met-next, met-past, met-some, met-start}

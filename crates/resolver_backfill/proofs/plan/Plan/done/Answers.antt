@@ -1,7 +1,4 @@
-use Rattle.std.proofs.Common.{rules, ◌≡◌, sym, ap}
 use Rattle.resolver_root.specs.Names.{names}
-use Rattle.resolver_backfill.specs.Given.{Turns, retain_told}
-use Rattle.resolver_backfill.specs.Plans.{let_go, settled}
 use Rattle.resolver_backfill.proofs.Turning.{done-turns}
 use Rattle.resolver_backfill.proofs.plan.Plan.done.Goals as goal
 

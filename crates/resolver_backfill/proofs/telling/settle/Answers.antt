@@ -1,7 +1,7 @@
-use Rattle.std.proofs.Common.{◌≡◌, ◌∙◌, sym, None, rules}
+use Rattle.std.proofs.Common.{◌≡◌, sym, None, rules}
 use Rattle.resolver_backfill.specs.Plans.{let_go}
-use Rattle.resolver_backfill.proofs.Filled.{settled-none}
-use Rattle.resolver_backfill.proofs.filling.settle.Goals as goal
+use Rattle.resolver_backfill.proofs.Told.{settled-none}
+use Rattle.resolver_backfill.proofs.telling.settle.Goals as goal
 
 pub returns-in_default-clause-plan : goal.returns-in_default-clause-plan
 returns-in_default-clause-plan g c =

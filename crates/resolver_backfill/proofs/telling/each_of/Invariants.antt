@@ -1,6 +1,6 @@
 use Rattle.std.proofs.Common.{◌≡◌, ◌++◌, map}
 use Rattle.std.specs.Vec.Iter.{into_iter_items}
-use Rattle.resolver_backfill.proofs.filling.each_of.Given as goal
+use Rattle.resolver_backfill.proofs.telling.each_of.Given as goal
 
 -- what was made, and then what is left, is all
 abbrev pub invariant-loop-fetch : goal.invariant-loop-fetch

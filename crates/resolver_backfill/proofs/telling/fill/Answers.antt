@@ -1,11 +1,11 @@
 use Rattle.std.proofs.Common.{◌≡◌, ◌∙◌, sym, ap, true, false, Err, rules, cond}
 use Rattle.resolver_base.specs.declared.base.fault.Fault.TheVariants.{OutOfMemory}
 use Rattle.resolver_backfill.specs.Plans.{Plan, lacking, met, settled, wanting}
-use Rattle.resolver_backfill.specs.Filling.{AsksOf, is_taken}
-use Rattle.resolver_backfill.proofs.Filled.{asks-wanting}
+use Rattle.resolver_backfill.specs.Telling.{AsksOf, is_taken}
+use Rattle.resolver_backfill.proofs.Told.{asks-wanting}
 use Rattle.resolver_backfill.proofs.Keys.{lacking-new, taken-back}
-use Rattle.resolver_backfill.proofs.filling.fill.Goals as goal
-use Rattle.resolver_backfill.proofs.filling.fill.Goals.{then-not-is_taken, else-not-is_taken}
+use Rattle.resolver_backfill.proofs.telling.fill.Goals as goal
+use Rattle.resolver_backfill.proofs.telling.fill.Goals.{then-not-is_taken, else-not-is_taken}
 
 pub returns-in_err-lacking-clause-asks : goal.returns-in_err-lacking-clause-asks
 returns-in_err-lacking-clause-asks g c =

@@ -1,9 +1,9 @@
-//! A plan that has a resolver told.
+//! A plan that has a resolver told, by at most one call of its handle.
 
-ghost use Rattle.std.specs.Prelude.{◌≡◌, ◌≢◌, IfErr, IfOk, OnErr, map};
+ghost use Rattle.std.specs.Prelude.{◌≡◌, ◌≢◌, IfErr, IfOk, map};
 ghost use Rattle.resolver_base.specs.declared.base.fault.Fault.TheVariants.{Exhausted, OutOfMemory};
-ghost use Rattle.resolver_backfill.specs.Plans.{fetched, let_go};
-ghost use Rattle.resolver_backfill.specs.Filling.{AsksNew, AsksOf, IsOnce, RetainsNew, filled, is_taken, rid};
+ghost use Rattle.resolver_backfill.specs.Plans.{fetched, fetches_of, let_go, let_go_below, settled, settled_below, wanting};
+ghost use Rattle.resolver_backfill.specs.Telling.{AsksNew, AsksOf, CallsOnce, RetainsNew, if_taken, is_taken};
 
 use crate::plan::Plan;
 use crate::without::Without;
@@ -13,8 +13,10 @@ use resolver_root::{Fetch, NonEmptyVec};
 use std::alloc::{AllocError, Global};
 
 /// Wants these keys too, and asks the resolver for those that weren't wanted, by one call, of these
-/// peers or of any. Where nothing is new, the resolver isn't called. Where it is closed or there is a
-/// fault, the plan stays as it was.
+/// peers or of any.
+///
+/// Where nothing is new the resolver isn't called, so the targets of keys that are wanted already are not
+/// told. Where the resolver is closed, or there is a fault, the plan stays as it was.
 pub fn fill<K, S, P, R>(
     resolver: &mut R,
     plan: &mut Plan<K, S>,
@@ -31,7 +33,7 @@ where
     requires peers_clone { (x y : P) → P.is_clone x y → y ≡ x }
     ensures asks { AsksNew (AsksOf R.asks R.asks_of targets) (fetched K.cmp plan.old keys.now)
         resolver.old result resolver.new }
-    ensures plan { plan.new ≡ filled K.cmp plan.old keys.now result }
+    ensures plan { plan.new ≡ if_taken result (wanting K.cmp plan.old keys.now) plan.old }
     ensures only { IfErr result (λ fault. fault ≢ OutOfMemory → fault ≡ Exhausted) }
 {
     let lacking = plan.lacking(keys)?;
@@ -48,8 +50,10 @@ where
 }
 
 /// Wants these keys no more, and has the resolver let the subscriber go from those that were wanted,
-/// by one call. Where none was, the resolver isn't called. Where it is closed or there is a fault, the
-/// plan stays as it was.
+/// by one call.
+///
+/// Where none was, the resolver isn't called. Where it is closed, or there is a fault, the plan stays as
+/// it was.
 pub fn settle<K, S, R>(
     resolver: &mut R,
     plan: &mut Plan<K, S>,
@@ -63,7 +67,7 @@ where
     requires subscribers_clone { (x y : S) → S.is_clone x y → y ≡ x }
     ensures retains { RetainsNew R.retains (let_go K.cmp plan.old keys.now)
         resolver.old result resolver.new }
-    ensures plan { plan.new ≡ rid K.cmp plan.old keys.now result }
+    ensures plan { plan.new ≡ if_taken result (settled K.cmp plan.old keys.now) plan.old }
     ensures only { IfErr result (λ fault. fault ≢ OutOfMemory → fault ≡ Exhausted) }
 {
     let Some(without) = plan.without(keys)? else {
@@ -74,6 +78,65 @@ where
         plan.forget(keys);
     }
     answer
+}
+
+/// Wants the keys below this one no more, and has the resolver let the subscriber go from all keys below
+/// it, by one call. The key itself stays.
+///
+/// Where no such key was wanted, the resolver isn't called. Where it is closed, or there is a fault, the
+/// plan stays as it was.
+pub fn settle_below<K, S, R>(
+    resolver: &mut R,
+    plan: &mut Plan<K, S>,
+    bound: &K,
+) -> Result<Feedback, Fault>
+where
+    K: Span + Drop,
+    S: Ord + Clone + Drop,
+    R: Resolver<Key = K, Subscriber = S, Predicate = Without<K, S>>,
+    requires keys_clone { (x y : K) → K.is_clone x y → y ≡ x }
+    requires subscribers_clone { (x y : S) → S.is_clone x y → y ≡ x }
+    ensures retains { RetainsNew R.retains (let_go_below K.cmp plan.old bound.now)
+        resolver.old result resolver.new }
+    ensures plan { plan.new ≡ if_taken result (settled_below K.cmp plan.old bound.now) plan.old }
+    ensures only { IfErr result (λ fault. fault ≢ OutOfMemory → fault ≡ Exhausted) }
+{
+    let Some(without) = plan.without_below(bound)? else {
+        return Ok(Feedback::Ok);
+    };
+    let answer = resolver.retain(without);
+    if is_taken(&answer) {
+        plan.forget_below(bound);
+    }
+    answer
+}
+
+/// Asks the resolver again for all that is wanted, by one call, of these peers or of any. What the
+/// resolver lost is asked for then, and what it has stays as it is.
+///
+/// Where nothing is wanted, the resolver isn't called.
+pub fn refill<K, S, P, R>(
+    resolver: &mut R,
+    plan: &Plan<K, S>,
+    targets: Option<NonEmptyVec<P>>,
+) -> Result<Feedback, Fault>
+where
+    K: Span + Drop,
+    S: Ord + Clone + Drop,
+    P: PublicKey + Drop,
+    R: TargetedResolver<Key = K, Subscriber = S, PublicKey = P>,
+    requires keys_clone { (x y : K) → K.is_clone x y → y ≡ x }
+    requires subscribers_clone { (x y : S) → S.is_clone x y → y ≡ x }
+    requires peers_clone { (x y : P) → P.is_clone x y → y ≡ x }
+    ensures asks { AsksNew (AsksOf R.asks R.asks_of targets) (fetches_of plan.now plan.now.wanted)
+        resolver.old result resolver.new }
+    ensures only { IfErr result (λ fault. fault ≢ OutOfMemory → fault ≡ Exhausted) }
+{
+    if plan.wanted().is_empty() {
+        return Ok(Feedback::Ok);
+    }
+    let fetches = plan.again()?;
+    ask(plan.alloc(), resolver, fetches, targets)
 }
 
 /// Asks for keys by one call, of these peers or of any.
@@ -89,7 +152,7 @@ where
     P: PublicKey + Drop,
     R: TargetedResolver<Key = K, Subscriber = S, PublicKey = P>,
     requires peers_clone { (x y : P) → P.is_clone x y → y ≡ x }
-    ensures asks { IsOnce (AsksOf R.asks R.asks_of targets fetches.items)
+    ensures asks { CallsOnce (AsksOf R.asks R.asks_of targets fetches.items)
         resolver.old result resolver.new }
     ensures only { IfErr result (λ fault. fault ≢ OutOfMemory → fault ≡ Exhausted) }
 {
