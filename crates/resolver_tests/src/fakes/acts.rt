@@ -131,7 +131,7 @@ impl<M: Asks> World<M> {
 
 impl Held {
     /// Does this, of what needs no handle.
-    fn act(&mut self, act: Act<'_>) -> Result<(), Fault> {
+    pub fn act(&mut self, act: Act<'_>) -> Result<(), Fault> {
         match act {
             Act::Peers(index, numbers) => return self.set_peers(index, numbers),
             Act::Block(numbers) => return self.block(numbers),
