@@ -155,10 +155,11 @@ fn tell(
 }
 
 /// What the plan wants before each of these calls, and after the last one.
-const WANTED: [&str; 6] = ["", " 1 2", " 1 2 5", " 1 2 5", " 1 2", " 2"];
+const WANTED: &[&str] = &["", " 1 2", " 1 2 5", " 1 2 5", " 1 2", " 2"];
 
 /// What the resolver is told by these calls.
-const TOLD: &str = "ask 1/10/7 2/10/7\nask 5/10/7@40@41\nask 1/10/7 2/10/7 5/10/7\nlet go 10 5\nlet go 10 below 2\n";
+const TOLD: &str =
+    "ask 1/10/7 2/10/7\nask 5/10/7@40@41\nask 1/10/7 2/10/7 5/10/7\nlet go 10 5\nlet go 10 below 2\n";
 
 /// One call is refused, which leaves the plan as it was, and is made again.
 fn one_is_refused(rt: &impl Abort, alloc: Global, refused: u64, refusal: Refusal) {
@@ -167,7 +168,12 @@ fn one_is_refused(rt: &impl Abort, alloc: Global, refused: u64, refusal: Refusal
     for number in 0..5_u64 {
         wants(rt, alloc, &plan, WANTED[number as usize]);
         let mut answer = tell(rt, alloc, number, &mut resolver, &mut plan);
-        equal_at(rt, &number, &(answer != Some(Feedback::Ok)), &(number + 1 == refused));
+        equal_at(
+            rt,
+            &number,
+            &(answer != Some(Feedback::Ok)),
+            &(number + 1 == refused),
+        );
         if number + 1 == refused {
             wants(rt, alloc, &plan, WANTED[number as usize]);
             answer = tell(rt, alloc, number, &mut resolver, &mut plan);
@@ -209,6 +215,69 @@ fn what_is_not_new_is_not_told(rt: HostRuntime) {
     drop(resolver);
     drop(plan);
 }
+
+/// How many heights may be wanted at a time.
+const WINDOW: usize = 4;
+
+/// The heights that are wanted next, from this one up to the last.
+fn next_heights(
+    alloc: Global,
+    plan: &Plan<Letter, u8>,
+    from: u8,
+    last: u8,
+) -> Result<Vec<Letter>, Fault> {
+    let room = WINDOW.saturating_sub(plan.wanted().len());
+    let mut heights = Vec::new(alloc);
+    for height in (from..=last).take(room) {
+        heights.push(Letter(height))?;
+    }
+    Ok(heights)
+}
+
+/// Wants the next heights, and answers the first that isn't wanted so far.
+fn want_next(
+    alloc: Global,
+    resolver: &mut Fake,
+    plan: &mut Plan<Letter, u8>,
+    from: u8,
+) -> Result<u8, Fault> {
+    let heights = next_heights(alloc, plan, from, 20)?;
+    match fill(resolver, plan, &heights, None)? {
+        Feedback::Ok | Feedback::Backoff => Ok(from.saturating_add(heights.len() as u8)),
+        Feedback::Closed => Ok(from),
+    }
+}
+
+/// Keys come, and as many more are wanted; a resolver that lost all is asked again; the rest is given up.
+#[test]
+fn a_window_is_kept_full(rt: HostRuntime) {
+    let (rt, alloc) = (&rt, rt.alloc());
+    let mut resolver = Fake::new(alloc, 2, Refusal::Closed);
+    let mut plan = Plan::new(alloc, 10, 7);
+    let next = want_next(alloc, &mut resolver, &mut plan, 5).expect(rt, "memory");
+    equal(rt, &next, &9);
+    plan.forget(&[Letter(6)]);
+    plan.forget(&[Letter(5)]);
+    let next = want_next(alloc, &mut resolver, &mut plan, next).expect(rt, "memory");
+    equal(rt, &next, &9);
+    let next = want_next(alloc, &mut resolver, &mut plan, next).expect(rt, "memory");
+    equal(rt, &next, &11);
+    let mut restarted = Fake::new(alloc, 0, Refusal::Closed);
+    let answer = refill(&mut restarted, &plan, None);
+    equal(rt, &answer.ok(), &Some(Feedback::Ok));
+    let answer = settle_below(&mut restarted, &mut plan, &Letter(9));
+    equal(rt, &answer.ok(), &Some(Feedback::Ok));
+    wants(rt, alloc, &plan, " 9 10");
+    equal_texts(rt, resolver.told.as_str(), BEFORE);
+    equal_texts(rt, restarted.told.as_str(), AFTER);
+    drop(resolver);
+    drop(restarted);
+    drop(plan);
+}
+
+const BEFORE: &str = "ask 5/10/7 6/10/7 7/10/7 8/10/7\nask 9/10/7 10/10/7\n";
+
+const AFTER: &str = "ask 7/10/7 8/10/7 9/10/7 10/10/7\nlet go 10 below 9\n";
 
 /// Time that grows with the square of the number of keys would not end here.
 #[test]
