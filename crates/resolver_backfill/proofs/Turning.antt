@@ -1,7 +1,9 @@
 -- The answers of a plan's calls lead from what one plan gives to what the next gives.
-use Rattle.std.proofs.Common.{◌≡◌, ◌∙◌, sym, ap, refl, Bool, true, false, true≢false, not, ◌&&◌, ◌||◌, cond, ℕ, List, [], ◌∷◌, Option, None, Some, filter, map}
+use Rattle.std.proofs.Common.{◌≡◌, ◌∙◌, sym, ap, refl, Bool, true, false, true≢false, not, ◌&&◌, ◌||◌, cond, ℕ, List, [], ◌∷◌, Option, None, Some, filter, map, Result}
 use Rattle.std.specs.List.{list_all, list_any}
 use Rattle.std.specs.Cmp.{IsTotalOrder}
+use Rattle.resolver_base.specs.declared.base.fault.Fault.{Fault}
+use Rattle.resolver_base.specs.declared.base.feedback.Feedback.{Feedback}
 use Rattle.resolver_root.specs.Names.{Names, same_key, same_subscriber}
 use Rattle.resolver_root.specs.Subscribers.{is_among}
 use Rattle.resolver_root.specs.Demand.{Act, Pair, acts, added_all, kept, mark_of, without_named, IsSameDemand}
@@ -10,6 +12,7 @@ use Rattle.resolver_ingress.proofs.Marks.{both-true, or_else, or_else-assoc, mar
 use Rattle.resolver_ingress.proofs.Right.{flips-by, follows-by, mark_of-kept}
 use Rattle.resolver_backfill.specs.Plans.{Plan, Without, fetched, fetches_of, has, is_below, is_gone, keeps, lacking, let_go, let_go_below, met, settled, settled_below, wanting, without_keys}
 use Rattle.resolver_backfill.specs.Given.{Call, Want, Done, DoneBelow, Forget, KeepsGiven, Lacks, Restores, Turns, called, fetch_told, given, is_due, others, pair_of, retain_told, turned, turned_all}
+use Rattle.resolver_backfill.specs.Telling.{TakenTurns, if_taken, is_taken}
 use Rattle.resolver_backfill.specs.Alike.{below_alike, has_alike, keeps_alike}
 use Rattle.resolver_backfill.proofs.Keys.{from-all, has-filter, has-with, unmet-all}
 
@@ -240,6 +243,20 @@ module _ {K S : Type 0} (n : Names K S) (by_key : IsTotalOrder n.key) (by_subscr
       let both = both-true (is_due n plan.subscriber call) (list_all (is_due n plan.subscriber) calls) due in
       calls-same (called n plan call) calls (turned n plan call (given plan d)) (given (called n plan call) (others n call d)) (call-keeps plan call d lacks both.0) k s
       ∙ calls-keep (called n plan call) calls (others n call d) (rw (same-subscriber plan call) (others-lack plan.subscriber call d lacks)) (rw (same-subscriber plan call) both.1) k s
+
+  -- what is taken of a message, all of it or nothing
+  taken-turns : (plan now : Plan K S) (message : List (Act K S)) (answer : Result Feedback Fault) → Turns n plan message now → Turns n plan (if_taken answer message []) (if_taken answer now plan)
+  taken-turns plan now message answer turns = cases (is_taken answer) where
+    cases : (b : Bool) → Turns n plan (cond b message []) (cond b now plan)
+    cases true = turns
+    cases false = λ d lacks k s. refl
+
+  pub told-turns : (plan : Plan K S) (answer : Result Feedback Fault) → TakenTurns n plan answer
+  told-turns plan answer = record {
+    fills = λ keys. taken-turns plan (wanting n.key plan keys) (fetch_told (fetched n.key plan keys)) answer (want-turns plan keys);
+    settles = λ keys. taken-turns plan (settled n.key plan keys) (retain_told n (let_go n.key plan keys)) answer (done-turns plan keys);
+    settles_below = λ bound. taken-turns plan (settled_below n.key plan bound) (retain_told n (let_go_below n.key plan bound)) answer (done-below-turns plan bound);
+  }
 
   -- all that is wanted, asked for again
   pub again-restores : (plan : Plan K S) → Restores n plan (fetches_of plan plan.wanted)

@@ -5,7 +5,9 @@ use Rattle.resolver_base.specs.declared.base.fault.Fault.TheVariants.{OutOfMemor
 use Rattle.resolver_base.specs.declared.base.feedback.Feedback.{Feedback}
 use Rattle.resolver_base.specs.declared.base.feedback.Feedback.TheVariants as feedbacks
 use Rattle.resolver_root.specs.declared.root.Fetch.{Fetch}
-use Rattle.resolver_backfill.specs.Plans.{Without}
+use Rattle.resolver_root.specs.Names.{Names}
+use Rattle.resolver_backfill.specs.Plans.{Plan, Without, fetched, let_go, let_go_below, settled, settled_below, wanting}
+use Rattle.resolver_backfill.specs.Given.{Turns, fetch_told, retain_told}
 
 -- whether a message was taken
 abbrev pub is_taken : Result Feedback Fault → Bool
@@ -44,3 +46,10 @@ module _ {K S R : Type 0} where
   abbrev pub RetainsNew : (R → Without K S → Result Feedback Fault → R → Type 0) → Option (Without K S) → R → Result Feedback Fault → R → Type 0
   RetainsNew retain None was answer now = CallsNone (Ok feedbacks.Ok) was answer now
   RetainsNew retain (Some without) was answer now = CallsOnce (λ was answer now. retain was without answer now) was answer now
+
+module _ {K S : Type 0} (n : Names K S) where
+  -- What is taken of a message, all of it or nothing, turns what the plan before gives into what the plan after gives.
+  pub record TakenTurns (plan : Plan K S) (answer : Result Feedback Fault) : Type 0 where
+    pub fills : (keys : List K) → Turns n plan (if_taken answer (fetch_told (fetched n.key plan keys)) []) (if_taken answer (wanting n.key plan keys) plan)
+    pub settles : (keys : List K) → Turns n plan (if_taken answer (retain_told n (let_go n.key plan keys)) []) (if_taken answer (settled n.key plan keys) plan)
+    pub settles_below : (bound : K) → Turns n plan (if_taken answer (retain_told n (let_go_below n.key plan bound)) []) (if_taken answer (settled_below n.key plan bound) plan)

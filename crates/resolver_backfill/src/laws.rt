@@ -1,9 +1,12 @@
 //! What is true of every plan, and a worked one. Each function says one of these, and does nothing.
 
-ghost use Rattle.std.specs.Prelude.{◌≡◌, List, [], ◌∷◌};
+ghost use Rattle.std.specs.Prelude.{◌≡◌, List, [], ◌∷◌, Result};
+ghost use Rattle.resolver_base.specs.declared.base.fault.Fault.{Fault};
+ghost use Rattle.resolver_base.specs.declared.base.feedback.Feedback.{Feedback};
 ghost use Rattle.resolver_root.specs.Names.{names};
 ghost use Rattle.resolver_backfill.specs.Plans.{Plan, fetches_of, settled};
 ghost use Rattle.resolver_backfill.specs.Given.{Call, KeepsGiven, Restores};
+ghost use Rattle.resolver_backfill.specs.Telling.{TakenTurns};
 ghost use Rattle.resolver_backfill.specs.WorkedPlan.{WorkedPlan};
 
 /// Keys are wanted, done with and forgotten, while another subscriber wants two of them.
@@ -17,6 +20,13 @@ pub fn worked_plan()
 /// forgotten.
 pub fn calls_keep_demand<K: Ord, S: Ord>()
     ensures { (plan : Plan K S) (calls : List (Call K S)) → KeepsGiven (names K.cmp S.cmp) plan calls }
+{}
+
+/// What `fill`, `settle` and `settle_below` have a resolver told keeps to the plan, whether it is taken or
+/// not.
+pub fn what_is_told_keeps_demand<K: Ord, S: Ord>()
+    ensures { (plan : Plan K S) (answer : Result Feedback Fault)
+        → TakenTurns (names K.cmp S.cmp) plan answer }
 {}
 
 /// To ask again for all that is wanted changes nothing, and restores what was lost.

@@ -316,6 +316,7 @@ fn first_numbers(rt: &impl Abort, alloc: Global, count: u32) -> Vec<u32> {
 fn laws_of_plans(_rt: HostRuntime) {
     laws::worked_plan();
     laws::calls_keep_demand::<Letter, u8>();
+    laws::what_is_told_keeps_demand::<Letter, u8>();
     laws::again_restores::<Letter, u8>();
     laws::keys_are_forgotten_in_turn::<Letter, u8>();
 }
