@@ -183,14 +183,14 @@ fn read_command(alloc: Global, word: &str, fields: &mut Fields<'_>) -> Result<Co
     if let Some(command) = of_the_script(word, fields)? {
         return Ok(command);
     }
-    if let Some(planned) = of_plans(alloc, word, fields)? {
-        return Ok(Command::Plans(planned));
-    }
     if let Some(answer) = of_scans(word, fields)? {
         return Ok(Command::Answers(answer));
     }
-    match of_peers(alloc, word, fields)? {
-        Some(said) => Ok(Command::Happens(said)),
+    if let Some(said) = of_peers(alloc, word, fields)? {
+        return Ok(Command::Happens(said));
+    }
+    match of_plans(alloc, word, fields)? {
+        Some(planned) => Ok(Command::Plans(planned)),
         None => Err(Unread::Unreadable(Why::NoWord)),
     }
 }
