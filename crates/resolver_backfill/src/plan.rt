@@ -72,8 +72,8 @@ impl<K: Ord, S> Plan<K, S> {
 }
 
 impl<K: Ord + Clone + Drop, S: Ord + Clone + Drop> Plan<K, S> {
-    /// Wants these keys too, and answers a fetch for each that wasn't wanted, in key order. Where
-    /// memory is wanting, nothing changes.
+    /// Wants these keys too, and answers a fetch for each that wasn't wanted, in key order. It takes no
+    /// memory where none is new. Where memory is wanting, nothing changes.
     pub fn want(&mut self, keys: &[K]) -> Result<Vec<Fetch<K, S>>, Fault>
         requires keys_clone { (x y : K) → K.is_clone x y → y ≡ x }
         requires subscribers_clone { (x y : S) → S.is_clone x y → y ≡ x }
@@ -81,17 +81,21 @@ impl<K: Ord + Clone + Drop, S: Ord + Clone + Drop> Plan<K, S> {
         ensures ok { OnOk result (self.new ≡ wanting K.cmp self.old keys.now) }
         ensures turns { IfOk result (λ fetches. Turns (names K.cmp S.cmp) self.old
             (fetch_told fetches.items) self.new) }
+        ensures some { OnErr result (lacking K.cmp self.old.wanted keys.now ≢ []) }
         ensures err { OnErr result (self.new ≡ self.old) }
         ensures only { IfErr result (λ fault. fault ≡ OutOfMemory) }
     {
         let lacking = self.lacking(keys)?;
+        if lacking.is_empty() {
+            return Ok(Vec::new(self.alloc));
+        }
         let fetches = self.fetches(&lacking)?;
         self.add(&lacking)?;
         Ok(fetches)
     }
 
-    /// Wants these keys no more, and answers what lets the subscriber go from those that were
-    /// wanted, if any was. Where memory is wanting, nothing changes.
+    /// Wants these keys no more, and answers what lets the subscriber go from those that were wanted, if
+    /// any was. It takes no memory where none was. Where memory is wanting, nothing changes.
     pub fn done(&mut self, keys: &[K]) -> Result<Option<Without<K, S>>, Fault>
         requires keys_clone { (x y : K) → K.is_clone x y → y ≡ x }
         requires subscribers_clone { (x y : S) → S.is_clone x y → y ≡ x }
@@ -99,6 +103,7 @@ impl<K: Ord + Clone + Drop, S: Ord + Clone + Drop> Plan<K, S> {
         ensures ok { OnOk result (self.new ≡ settled K.cmp self.old keys.now) }
         ensures turns { IfOk result (λ without. Turns (names K.cmp S.cmp) self.old
             (retain_told (names K.cmp S.cmp) without) self.new) }
+        ensures some { OnErr result (let_go K.cmp self.old keys.now ≢ None) }
         ensures err { OnErr result (self.new ≡ self.old) }
         ensures only { IfErr result (λ fault. fault ≡ OutOfMemory) }
     {
@@ -108,7 +113,8 @@ impl<K: Ord + Clone + Drop, S: Ord + Clone + Drop> Plan<K, S> {
     }
 
     /// Wants the keys below this one no more, and answers what lets the subscriber go from all keys below
-    /// it, if one of them was wanted. The key itself stays. Where memory is wanting, nothing changes.
+    /// it, if one of them was wanted. The key itself stays. It takes no memory where none was wanted. Where
+    /// memory is wanting, nothing changes.
     pub fn done_below(&mut self, bound: &K) -> Result<Option<Without<K, S>>, Fault>
         requires keys_clone { (x y : K) → K.is_clone x y → y ≡ x }
         requires subscribers_clone { (x y : S) → S.is_clone x y → y ≡ x }
@@ -116,6 +122,7 @@ impl<K: Ord + Clone + Drop, S: Ord + Clone + Drop> Plan<K, S> {
         ensures ok { OnOk result (self.new ≡ settled_below K.cmp self.old bound.now) }
         ensures turns { IfOk result (λ without. Turns (names K.cmp S.cmp) self.old
             (retain_told (names K.cmp S.cmp) without) self.new) }
+        ensures some { OnErr result (let_go_below K.cmp self.old bound.now ≢ None) }
         ensures err { OnErr result (self.new ≡ self.old) }
         ensures only { IfErr result (λ fault. fault ≡ OutOfMemory) }
     {

@@ -263,7 +263,8 @@ fn a_window_is_kept_full(rt: HostRuntime) {
     let next = want_next(alloc, &mut resolver, &mut plan, next).expect(rt, "memory");
     equal(rt, &next, &11);
     let mut restarted = Fake::new(alloc, 0, Refusal::Closed);
-    let answer = refill(&mut restarted, &plan, None);
+    let targets = NonEmptyVec::new(alloc, Letter(40)).expect(rt, "memory");
+    let answer = refill(&mut restarted, &plan, Some(targets));
     equal(rt, &answer.ok(), &Some(Feedback::Ok));
     let answer = settle_below(&mut restarted, &mut plan, &Letter(9));
     equal(rt, &answer.ok(), &Some(Feedback::Ok));
@@ -277,7 +278,7 @@ fn a_window_is_kept_full(rt: HostRuntime) {
 
 const BEFORE: &str = "ask 5/10/7 6/10/7 7/10/7 8/10/7\nask 9/10/7 10/10/7\n";
 
-const AFTER: &str = "ask 7/10/7 8/10/7 9/10/7 10/10/7\nlet go 10 below 9\n";
+const AFTER: &str = "ask 7/10/7@40 8/10/7@40 9/10/7@40 10/10/7@40\nlet go 10 below 9\n";
 
 /// Time that grows with the square of the number of keys would not end here.
 #[test]
