@@ -74,6 +74,7 @@ fn opened(alloc: Global) -> Asker {
         me: Some(Peer(0)),
         fetch_timeout: 1_000,
         retry_delay: 100,
+        peer_limit: None,
         priority_requests: false,
     };
     Fetcher::new(alloc, config)

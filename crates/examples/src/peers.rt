@@ -150,6 +150,7 @@ where
         me: Some(net.0.me),
         fetch_timeout: 1_000_000,
         fetch_retry_delay: 100,
+        peer_limit: None,
         priority_requests: false,
         priority_responses: false,
     };

@@ -8,5 +8,6 @@ fetching cfg = record {
   me = cfg.me;
   fetch_timeout = cfg.fetch_timeout;
   retry_delay = cfg.fetch_retry_delay;
+  peer_limit = cfg.peer_limit;
   priority_requests = cfg.priority_requests;
 }

@@ -3,3 +3,4 @@ pub mod Timed
 pub mod NextIds
 pub mod NewIds
 pub mod Names
+pub mod Loaded

@@ -1,2 +1,3 @@
 pub mod Requests
 pub mod Ids
+pub mod Loads

@@ -1,5 +1,5 @@
 -- Requests that were sent and have no answer so far, by their ids.
-use Rattle.std.specs.Prelude.{◌≡◌, ℕ, Bool, true, false, nat_le, option_map, List, [], ◌∷◌, Option, None, Some, option_and_then, map, filter, find, if◌then◌else◌}
+use Rattle.std.specs.Prelude.{◌≡◌, ℕ, Bool, true, false, nat_le, option_map, List, [], ◌∷◌, length, Option, None, Some, option_and_then, map, filter, find, if◌then◌else◌}
 use Rattle.std.specs.List.{list_any}
 use Rattle.std.specs.Option.{option_map_or}
 use Rattle.std.specs.Ordering.{nat_cmp, is_eq, is_lt, ordering_then}
@@ -39,6 +39,13 @@ module _ {K P : Type 0} where
 module _ {K P : Type 0} (by_peer : P → P → Ordering) where
   abbrev pub if_of : P → Request K P → Option (Request K P)
   if_of peer r = if is_eq (by_peer peer r.peer) then Some r else None
+
+  abbrev pub is_to : P → ℕ × Request K P → Bool
+  is_to peer r = is_eq (by_peer r.1.peer peer)
+
+  -- how many requests name a peer
+  abbrev pub requests_to : List (ℕ × Request K P) → P → ℕ
+  requests_to asked peer = length (filter (is_to peer) asked)
 
   -- the request that a message of this peer under this id answers
   abbrev pub matching : List (ℕ × Request K P) → (id : ℕ) → P → Option (Request K P)

@@ -2,9 +2,10 @@
 
 pub mod request;
 
-ghost use Rattle.std.specs.Prelude.{◌≡◌, ◌≤◌, ℕ, Bool, false, None, Some, [], filter, is_some, length, IfErr, IfNone, IfOk, IfSome, OnErr, OnOk};
+ghost use Rattle.std.specs.Prelude.{◌≡◌, ◌≤◌, ◌<◌, ◌^◌, ℕ, Bool, false, None, Some, [], filter, is_some, length, IfErr, IfNone, IfOk, IfSome, OnErr, OnOk};
 ghost use Rattle.std.specs.BTreeMap.{IsOrdered, Updates, insert_entry};
 ghost use Rattle.std.specs.Fn.{FnReturnsAt};
+ghost use Rattle.std.specs.Map.Iter.{ShowsInOrder, deref_pair};
 ghost use Rattle.std.specs.Option.{option_copied, option_map};
 ghost use Rattle.std.specs.Ordering.{nat_cmp};
 ghost use Rattle.resolver_base.specs.Answering.{AnswersBy};
@@ -16,7 +17,7 @@ ghost use Rattle.resolver_asked.specs.Requests.{IsTaken, ids_of, is_asked, reque
 pub use request::{ID, Request};
 use resolver_base::base::Fault;
 use std::alloc::{AllocFailed, Global};
-use std::collections::btree_map::Entry;
+use std::collections::btree_map::{Entry, Iter};
 use std::collections::{BTreeMap, BTreeSet};
 use std::marker::Model;
 
@@ -68,7 +69,8 @@ impl<K: Ord + Drop, P: Drop> Requests<K, P> {
 
     /// How many requests there are.
     pub fn len(&self) -> usize
-        ensures { result ≡ length self.now }
+        ensures value { result ≡ length self.now }
+        ensures few { result < 2 ^ 63 }
     {
         self.by_id.len()
     }
@@ -155,6 +157,14 @@ impl<K: Ord + Drop, P: Drop> Requests<K, P> {
         let by_id = &self.by_id;
         self.deadlines.retain(|pair| by_id.contains_key(&pair.1));
         self.by_key.retain(|_, id| by_id.contains_key(&*id));
+    }
+
+    /// The requests with their ids, in the order of the ids.
+    pub fn iter(&self) -> Iter<'_, ID, Request<K, P>>
+        ensures rest { result ≡ self.now }
+        ensures runs { ShowsInOrder (deref_pair {K = ℕ} {X = Request K P}) }
+    {
+        self.by_id.iter()
     }
 
     /// The moment at which the time of a request is over next, if there is a request.

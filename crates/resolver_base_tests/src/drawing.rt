@@ -221,6 +221,7 @@ fn weights_change_between_scans(rt: HostRuntime) {
         me: None,
         fetch_timeout: 3_000_000_000,
         retry_delay: 1_000_000_000,
+        peer_limit: None,
         priority_requests: false,
     };
     goes_by(

@@ -135,6 +135,7 @@ fn timeout_and_limits(rt: HostRuntime) {
         me: Some(Letter(9)),
         fetch_timeout: 50,
         retry_delay: 0,
+        peer_limit: None,
         priority_requests: true,
     };
     fetches_by(&rt, rt.alloc(), config, &[FIRST, LIMITED], &[CALLS]);

@@ -165,6 +165,12 @@ pub fn respond(fetcher: &mut Node, id: u64, peer: Peer) -> bool {
     !fetcher.is_scanning() && fetcher.pop_response(id, &peer, 0).is_some()
 }
 
+/// Takes out a request whose time is over, and says whether there was one. The peer is charged.
+#[inline(never)]
+pub fn expire(fetcher: &mut Node) -> bool {
+    !fetcher.is_scanning() && fetcher.pop_active(1).is_some()
+}
+
 /// Answers the request for a key, and says whether there is one.
 pub fn answer_to(fetcher: &mut Node, key: u64) -> bool {
     let Some((id, request)) = fetcher.request(&key) else {

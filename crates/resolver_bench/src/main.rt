@@ -4,7 +4,8 @@
 //! fetcher and a full mailbox with many keys, one key with many subscribers, and an index with many places, and
 //! prints how many steps that took and what they had. With the word `rows` as its argument it takes the rows
 //! alone. With a number of keys, and of that key's subscribers, it takes none, and prints nanoseconds a step too;
-//! with a number of peers as a second argument it drives only what knows peers.
+//! with a number of peers as a second argument it drives only what knows peers, and with a third one a fetcher
+//! asks one peer for so many keys at once.
 #![tactic(auto)]
 
 mod actor;
@@ -24,6 +25,7 @@ use fault::Fault;
 use spent::Load;
 use std::env;
 use std::env::Env;
+use std::num::NonZeroU32;
 use std::process::ExitCode;
 use std::random::RandomSource;
 use std::rt::Clock;
@@ -103,19 +105,22 @@ fn asked(rt: &(impl AllocGlobal + Env)) -> Result<Work, Fault> {
     let _ = arguments.next();
     let first = arguments.next();
     let second = arguments.next();
+    let third = arguments.next();
     drop(arguments);
-    let work = asked_by(first.as_deref(), second.as_deref());
+    let work = asked_by(first.as_deref(), second.as_deref(), third.as_deref());
     drop(first);
     drop(second);
+    drop(third);
     work
 }
 
-/// The work that the first argument and the second one ask for.
-fn asked_by(first: Option<&str>, second: Option<&str>) -> Result<Work, Fault> {
+/// The work that the first argument and the others ask for.
+fn asked_by(first: Option<&str>, second: Option<&str>, third: Option<&str>) -> Result<Work, Fault> {
     let Some(word) = first else {
         let load = Load {
             keys: FEW,
             peers: 0,
+            limit: None,
             with_time: false,
         };
         return Ok(Work {
@@ -132,6 +137,7 @@ fn asked_by(first: Option<&str>, second: Option<&str>) -> Result<Work, Fault> {
     let load = Load {
         keys: number(word)?,
         peers: number(second.unwrap_or("0"))?,
+        limit: NonZeroU32::new(number(third.unwrap_or("0"))?),
         with_time: true,
     };
     Ok(Work {

@@ -16,7 +16,7 @@ mod post;
 use crate::fault::Fault;
 use demand::Demand;
 use entries::Deliveries;
-use fetcher::Asker;
+use fetcher::{Asker, Sparing};
 use index::Index;
 use overflow::Overflow;
 use part::{Ending, Way, taken};
@@ -69,6 +69,10 @@ fn take_parts(rows: &mut Rows<impl Print>, alloc: Global) {
     rows.print(
         "fetcher_first_request",
         taken::<_, Asker>(alloc, way, fetcher::FIRST_REQUEST),
+    );
+    rows.print(
+        "fetcher_limit",
+        taken::<_, Sparing>(alloc, way, fetcher::FULL),
     );
 }
 

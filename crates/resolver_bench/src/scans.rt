@@ -1,13 +1,15 @@
 //! Scans of a fetcher with many keys and peers: each key is made to wait; scans are begun while every peer is
-//! blocked, and the wake-up is asked for; each scan's first request is taken; and each request is answered.
+//! blocked, and the wake-up is asked for; each scan's first request is taken; and each request is answered, or its time
+//! is over.
 
 use crate::fault::Fault;
 use crate::fetcher::{
-    Node, aim, answer_to, begin, block, know, limit, may_wait, record, respond, scan, wait, wakes,
+    Node, aim, answer_to, begin, block, expire, know, limit, may_wait, record, respond, scan, wait,
+    wakes,
 };
 use crate::spent::{Driven, Kind, Load, Steps, Times, drive};
 use crate::workload::{CONFIG, named, scattered};
-use resolver_fetch::fetcher::Fetcher;
+use resolver_fetch::fetcher::{Config, Fetcher};
 use std::alloc::Global;
 use std::rt::Clock;
 
@@ -26,6 +28,7 @@ const TURNS: &[&[Steps]] = &[
         Steps(Kind::Scan, Times::Keys, "scan", "requests"),
         Steps(Kind::Respond, Times::Keys, "respond", "requests"),
     ],
+    &[Steps(Kind::Overdue, Times::Keys, "timeout", "requests")],
     &[Steps(Kind::Round, Times::Keys, "round", "requests")],
     &[Steps(
         Kind::Aimed,
@@ -45,14 +48,18 @@ const TURNS: &[&[Steps]] = &[
 /// Takes keys through fetchers that know the peers.
 pub fn run(rt: &(impl AllocGlobal + Clock + Print), load: &Load) -> Result<(), Fault> {
     for table in TURNS {
-        drive(rt, Fetcher::new(rt.alloc(), CONFIG), table, load)?;
+        let config = Config {
+            peer_limit: load.limit,
+            ..CONFIG
+        };
+        drive(rt, Fetcher::new(rt.alloc(), config), table, load)?;
     }
     Ok(())
 }
 
 /// What a fetcher that knows the peers needs before the steps of a kind: keys wait while every peer is blocked, and
-/// then each is asked for; in a round keys wait, and so they do for new peers; keys with targets have a few each; and
-/// one key is tried with each peer in vain.
+/// then each is asked for; in a round keys wait, and so they do for new peers; keys with targets have a few each; one
+/// key is tried with each peer in vain, and where the time of requests is over each key was asked for.
 fn prepare(alloc: Global, fetcher: &mut Node, kind: Kind, load: &Load) -> Result<(), Fault> {
     match kind {
         Kind::Ready => block(fetcher, named(alloc, 0, load.peers)?),
@@ -66,6 +73,10 @@ fn prepare(alloc: Global, fetcher: &mut Node, kind: Kind, load: &Load) -> Result
             Ok(())
         }
         Kind::Anew => wait_all(fetcher, ANEW),
+        Kind::Overdue => {
+            wait_all(fetcher, load.keys)?;
+            ask_all(fetcher, load.keys)
+        }
         _ => wait_all(fetcher, load.keys),
     }
 }
@@ -74,6 +85,14 @@ fn prepare(alloc: Global, fetcher: &mut Node, kind: Kind, load: &Load) -> Result
 fn wait_all(fetcher: &mut Node, size: u64) -> Result<(), Fault> {
     for i in 0..size {
         wait(fetcher, scattered(i))?;
+    }
+    Ok(())
+}
+
+/// Asks for so many keys that wait.
+fn ask_all(fetcher: &mut Node, size: u64) -> Result<(), Fault> {
+    for i in 0..size {
+        let _asked = scan(fetcher, i)?;
     }
     Ok(())
 }
@@ -118,6 +137,7 @@ fn take(alloc: Global, fetcher: &mut Node, kind: Kind, i: u64) -> Result<bool, F
         Kind::Idle => return begin(fetcher),
         Kind::Wake => return Ok(wakes(fetcher)),
         Kind::Respond => return Ok(answer_to(fetcher, scattered(i))),
+        Kind::Overdue => return Ok(expire(fetcher)),
         Kind::Round => return round(fetcher, i),
         Kind::Limit => return limit(fetcher, i),
         Kind::Anew => {

@@ -2,6 +2,7 @@
 
 use crate::fault::Fault;
 use std::alloc::Global;
+use std::num::NonZeroU32;
 use std::rt::Clock;
 use std::time::Instant;
 
@@ -12,6 +13,8 @@ pub struct Load {
     pub keys: u64,
     /// How many peers there are.
     pub peers: u16,
+    /// How many requests one peer may have of a fetcher, if that is limited.
+    pub limit: Option<NonZeroU32>,
     /// Whether the time of a step is printed, too.
     pub with_time: bool,
 }
@@ -34,6 +37,7 @@ pub enum Kind {
     Wake,
     Scan,
     Respond,
+    Overdue,
     Round,
     Aimed,
     Limit,

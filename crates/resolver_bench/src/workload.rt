@@ -46,6 +46,7 @@ pub const CONFIG: Config<Peer> = Config {
     me: None,
     fetch_timeout: 1,
     retry_delay: 1,
+    peer_limit: None,
     priority_requests: false,
 };
 

@@ -33,11 +33,11 @@ module _ {P : Type 0} where
   counts-same keep at [] v = refl
   counts-same keep at (p ∷ set) v = let rest = counts-same keep at set v in grind (arith, common_steps, rest)
 
-module _ {K P : Type 0} (o : Orders K P) (f : Fetcher K P) (none : askable o.peer (known (snapshot o f)) ≡ 0) where
+module _ {K P : Type 0} (o : Orders K P) (f : Fetcher K P) (none : askable o.peer (known o (snapshot o f)) ≡ 0) where
   none-left : (trail : List (Try K P)) (w : K × Waiting P) → left o (snapshot o f) trail w ≡ []
   none-left trail w =
       ap (filter (λ p. not (was_tried o trail w.0 p.0)))
-      (none-pass (λ p. may_be_asked o.peer (known (snapshot o f)) p.0) (λ p. is_target o.peer w.1.targets p.0) f.peers none)
+      (none-pass (λ p. may_be_asked o.peer (known o (snapshot o f)) p.0) (λ p. is_target o.peer w.1.targets p.0) f.peers none)
 
   and-false : (b : Bool) → (b && false) ≡ false
   and-false true = refl

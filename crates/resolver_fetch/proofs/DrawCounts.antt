@@ -125,7 +125,7 @@ module _ {K P : Type 0} (o : Orders K P) (s : Snapshot K P) where
     left-distinct : (trail : List (Try K P)) (w : K × Waiting P) → IsDistinct (eq_by_cmp o.peer) (keys_of (left o s trail w))
     left-distinct trail w =
         IsDistinct-keys_filter (eq_by_cmp o.peer) (λ p. not (was_tried o trail w.0 p.0)) (eligible o s w.1.targets)
-        (IsDistinct-keys_filter (eq_by_cmp o.peer) (λ p. is_eligible o.peer (known s) w.1.targets p.0) s.peers distinct)
+        (IsDistinct-keys_filter (eq_by_cmp o.peer) (λ p. is_eligible o.peer (known o s) w.1.targets p.0) s.peers distinct)
 
     pub draw_counts : DrawCounts o s
     draw_counts = record {

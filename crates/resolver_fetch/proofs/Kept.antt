@@ -1,21 +1,24 @@
 -- What is so of every fetcher, after its calls.
-use Rattle.std.proofs.Common.{◌≡◌, refl, ap, sym, ◌∙◌, ℕ, ◌≤◌, false, List, [], length, Option, None, Some, option_map, is_some, arith}
+use Rattle.std.proofs.Common.{◌≡◌, refl, ap, sym, subst, ◌∙◌, ℕ, ◌≤◌, ◌<◌, ◌+◌, ◌-◌, ◌^◌, Bool, true, if◌then◌else◌, false, List, [], length, Option, None, Some, option_map, is_some, arith}
 use Rattle.std.specs.Prelude.{IfSome}
-use Rattle.std.specs.BTreeMap.{insert_entry}
+use Rattle.std.specs.BTreeMap.{insert_entry, is_at}
 use Rattle.std.specs.Cmp.{IsTotalOrder}
 use Rattle.std.specs.Ordering.{nat_cmp}
 use Rattle.std.specs.declared.cmp.Ordering.{Ordering}
 use Rattle.resolver_priorities.specs.Priorities.{priorities_of, put, without}
 use Rattle.resolver_asked.specs.declared.requests.request.Request.{Request}
 use Rattle.resolver_asked.specs.Ids.{is_held}
-use Rattle.resolver_asked.specs.Requests.{IsTaken, ids_of, is_asked, matching, overdue, taken_if, taken_matching, taken_overdue, taken_soonest, without_request}
+use Rattle.resolver_asked.specs.Loads.{Counts, IsLoadedBy, Load, counted, load_of, loaded, one_fewer, one_more}
+use Rattle.resolver_waiting.specs.Pending.{Pending, awake}
+use Rattle.resolver_asked.proofs.Loaded.{load-without, requests-few}
+use Rattle.resolver_asked.specs.Requests.{IsTaken, ids_of, is_asked, matching, overdue, requests_to, taken_if, taken_matching, taken_overdue, taken_soonest, without_request}
 use Rattle.resolver_trying.specs.declared.cursor.Cursor.{Cursor}
 use Rattle.resolver_trying.specs.declared.place.Place.{Place}
 use Rattle.resolver_fetch.specs.Cursor.{IsKept, scan_of}
-use Rattle.resolver_trying.specs.Fetcher.{Fetcher, charge, pop_active, pop_missing, popped_active, popped_missing}
+use Rattle.resolver_trying.specs.Fetcher.{Fetcher, charge, pop_active, pop_missing, pop_request, popped_active, popped_missing, popped_request}
 use Rattle.resolver_request.specs.Times.{elapsed_since}
 use Rattle.resolver_trying.specs.Orders.{Orders}
-use Rattle.resolver_trying.specs.Waiting.{place_order}
+use Rattle.resolver_trying.specs.Waiting.{place_order, waiter_freed}
 use Rattle.resolver_fetch.proofs.Phases.{fewer-without, once-put, once-sent}
 
 -- where no scan is open, what is asked of an open one is so
@@ -64,6 +67,46 @@ module _ {K P : Type 0} {by_key : K → K → Ordering} (o : IsTotalOrder by_key
     none_yet = λ none. let clash : None ≡ Some id = sym none ∙ taken in absurd cc;
   }
 
+-- where requests are limited the waiter is cleared
+pub freed-pending : {K P N : Type 0} (by_peer : P → P → Ordering) (get : N → ℕ) (counts : Option (Counts P)) (limit : Option N) (asked : List (ℕ × Request K P)) (pending : Pending K)
+    → option_map (loaded by_peer) counts ≡ load_of by_peer (option_map get limit) asked
+    → (if is_some counts then awake pending else pending) ≡ record pending { waiter = waiter_freed limit pending.waiter }
+freed-pending by_peer get None None asked pending is = refl
+freed-pending by_peer get None (Some most) asked pending is = absurd cc
+freed-pending by_peer get (Some counts) None asked pending is = absurd cc
+freed-pending by_peer get (Some counts) (Some most) asked pending is = refl
+
+-- what is counted is what is asked
+pub loaded-by : {K P : Type 0} (by_peer : P → P → Ordering) (limit : Option ℕ) (asked : List (ℕ × Request K P)) (load : Option (Load P)) → load ≡ load_of by_peer limit asked → IsLoadedBy by_peer asked load
+loaded-by {K} {P} by_peer limit asked load is = subst (λ (l : Option (Load P)). IsLoadedBy by_peer asked l) (sym is) (of limit) where
+  of : (most : Option ℕ) → IsLoadedBy by_peer asked (load_of by_peer most asked)
+  of None = tt
+  of (Some most) = refl
+
+-- there is room to count one more
+pub room-with : {K P : Type 0} (by_peer : P → P → Ordering) (counts : Option (Counts P)) (asked : List (ℕ × Request K P)) (name : P) → IsLoadedBy by_peer asked (option_map (loaded by_peer) counts)
+    → length asked + 1 < 2 ^ 64 → IfSome counts (λ c. counted by_peer c.counts name + 1 < 2 ^ 64)
+room-with by_peer None asked name is few = tt
+room-with {K} {P} by_peer (Some c) asked name is few =
+    let same : counted by_peer c.counts name ≡ requests_to by_peer asked name = ap (λ (f : P → ℕ). f name) is in
+    let fewer = requests-few by_peer asked name in
+    omega (arith, same, fewer, few)
+
+back : (b : Bool) (n : ℕ) → (if b then (if b then n + 1 else n) - 1 else (if b then n + 1 else n)) ≡ n
+back true n = omega arith
+back false n = refl
+
+-- one more, and one fewer
+pub undone : {P : Type 0} (by_peer : P → P → Ordering) (name : P) (load : Option (Load P)) → option_map (one_fewer by_peer name) (option_map (one_more by_peer name) load) ≡ load
+undone by_peer name None = refl
+undone by_peer name (Some load) = λ i. Some (record { limit = load.limit; requests = λ p. back (is_at (by_peer name) p) (load.requests p) i })
+
+-- the peer of the request that is taken out has one fewer
+pub load-taken : {K P : Type 0} (by_peer : P → P → Ordering) (limit : Option ℕ) (load : Option (Load P)) (asked new : List (ℕ × Request K P)) (r : Request K P)
+    → load ≡ load_of by_peer limit asked → IsTaken asked new r → option_map (one_fewer by_peer r.peer) load ≡ load_of by_peer limit new
+load-taken by_peer limit load asked new r is out =
+    ap (option_map (one_fewer by_peer r.peer)) is ∙ sym (load-without by_peer limit out.0 r asked out.1) ∙ ap (load_of by_peer limit) (sym out.2)
+
 module _ {K P : Type 0} (o : Orders K P) (f : Fetcher K P) (r : Request K P) (left : List (ℕ × Request K P)) where
   active-found : (found : Option (ℕ × Request K P)) → (Some r, left) ≡ taken_soonest f.asked found
       → popped_active o f found ≡ (Some r.key, charge o r.peer f.configuration.fetch_timeout (record f { asked = left }))
@@ -91,6 +134,21 @@ module _ {K P : Type 0} (o : Orders K P) (f : Fetcher K P) (r : Request K P) (le
   pub missing-popped : (id : ℕ) (peer : P) (now : ℕ) → (Some r, left) ≡ taken_matching o.peer f.asked id peer
       → pop_missing o id peer now f ≡ (Some r.key, charge o r.peer (elapsed_since r.start now) (record f { asked = left }))
   missing-popped id peer now is = missing-found id now (matching o.peer f.asked id peer) is
+
+module _ {K P : Type 0} (o : Orders K P) (f : Fetcher K P) (r : Request K P) (left : List (ℕ × Request K P)) where
+  request-found : (id : ℕ) (found : Option (Request K P)) → (Some r, left) ≡ taken_if f.asked id found
+      → popped_request o f id found ≡ (Some r, record f { asked = left; waiter = waiter_freed f.configuration.peer_limit f.waiter })
+  request-found id None is = let clash = ap (λ p. p.0) is in absurd cc
+  request-found id (Some x) is =
+      let one = ap (λ p. p.0) is in
+      let same : r ≡ x = cc in
+      let rest = ap (λ p. p.1) is in
+      rw (same, rest) refl
+
+  -- the whole request is taken out
+  pub request-popped : (id : ℕ) (peer : P) → (Some r, left) ≡ taken_matching o.peer f.asked id peer
+      → pop_request o id peer f ≡ (Some r, record f { asked = left; waiter = waiter_freed f.configuration.peer_limit f.waiter })
+  request-popped id peer is = request-found id (matching o.peer f.asked id peer) is
 
 module _ {K P : Type 0} (o : Orders K P) (f : Fetcher K P) (left : List (ℕ × Request K P)) where
   active-left : (found : Option (ℕ × Request K P)) → (None, left) ≡ taken_soonest f.asked found → (left ≡ f.asked) × (popped_active o f found ≡ (None, f))

@@ -13,3 +13,6 @@ pub mod Fetching
 pub mod Phases
 pub mod Kept
 pub mod Weighing
+pub mod Refitting
+pub mod Recounting
+pub mod Freeing

@@ -17,7 +17,7 @@ abbrev numbers : Orders ℕ ℕ
 numbers = orders nat_cmp nat_cmp
 
 abbrev plain : (timeout delay : ℕ) → Config ℕ
-plain timeout delay = record { me = None; fetch_timeout = timeout; retry_delay = delay; priority_requests = false }
+plain timeout delay = record { me = None; fetch_timeout = timeout; retry_delay = delay; peer_limit = None; priority_requests = false }
 
 abbrev none_yet : (timeout delay : ℕ) → Fetcher ℕ ℕ
 none_yet timeout delay = opening (plain timeout delay)

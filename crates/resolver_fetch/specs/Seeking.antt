@@ -1,15 +1,17 @@
 -- How a fetcher finds what a scan tries next, and when a scan in vain may be begun again.
-use Rattle.std.specs.Prelude.{ℕ, false, not, nat_le, nat_lt, List, length, map, Option, None, Some, option_map, filter, find}
+use Rattle.std.specs.Prelude.{ℕ, not, nat_le, nat_lt, List, length, map, Option, None, Some, option_map, filter, find}
+use Rattle.resolver_asked.specs.declared.requests.request.Request.{Request}
 use Rattle.resolver_priorities.specs.Priorities.{after}
+use Rattle.resolver_trying.specs.declared.config.Config.{Config}
 use Rattle.resolver_trying.specs.declared.place.Place.{Place}
 use Rattle.resolver_trying.specs.declared.trail.Try.{Try}
 use Rattle.resolver_trying.specs.declared.trying.Next.{Next}
 use Rattle.resolver_trying.specs.declared.trying.Next.TheVariants.{Try as Tries, Wait}
 use Rattle.resolver_trying.specs.Orders.{Orders}
 use Rattle.resolver_trying.specs.Known.{Known}
-use Rattle.resolver_trying.specs.Snapshot.{eligible}
+use Rattle.resolver_trying.specs.Snapshot.{eligible, known}
 use Rattle.resolver_trying.specs.Scan.{Scan, can_be_tried, trail_moment, was_tried}
-use Rattle.resolver_trying.specs.Trying.{Trying, weighed, trying, trying_for}
+use Rattle.resolver_trying.specs.Trying.{Trying, drawn_from, weighed, trying, trying_for}
 use Rattle.resolver_trying.specs.Waiting.{place_order}
 use Rattle.resolver_trying.specs.Fetcher.{Fetcher, opening, retries_of, snapshot, targets_of, waiting_of}
 
@@ -18,10 +20,11 @@ abbrev pub scan_at : {K P : Type 0} → (moment : ℕ) → List (Try K P) → Sc
 scan_at moment trail = record { moment = moment; trail = trail; expects = None }
 
 -- what the key to try depends on
-abbrev pub searched : {K P : Type 0} → List (Place × K) → (targets : List (K × List P)) → (retries : List (K × ℕ)) → Known P → Fetcher K P
-searched waiting targets retries known =
-    record (opening (record { me = known.local; fetch_timeout = 0; retry_delay = 0; priority_requests = false })) {
+abbrev pub searched : {K P : Type 0} → List (Place × K) → (targets : List (K × List P)) → (retries : List (K × ℕ)) → Known P → Config P → List (ℕ × Request K P) → Fetcher K P
+searched waiting targets retries known configuration asked =
+    record (opening configuration) {
       waiting = waiting;
+      asked = asked;
       targets = targets;
       retries = retries;
       peers = known.set;
@@ -35,7 +38,7 @@ module _ {K P : Type 0} (o : Orders K P) where
     place = place;
     key = key;
     retries = retries_of o f key;
-    all = weighed (eligible o (snapshot o f) (targets_of o f key));
+    all = drawn_from o.peer (known o (snapshot o f)) (targets_of o f key);
     left = weighed (filter (λ p. not (was_tried o trail key p.0)) (eligible o (snapshot o f) (targets_of o f key)));
   }
 

@@ -9,7 +9,7 @@ pub mod laws;
 mod peers;
 mod scanning;
 
-ghost use Rattle.std.specs.Prelude.{◌≡◌, Bool, None, false, ◌<◌, ◌^◌, length, is_some, option_map, IfErr, IfSome, OnErr, OnOk};
+ghost use Rattle.std.specs.Prelude.{◌≡◌, Bool, None, false, ◌<◌, ◌^◌, filter, if◌then◌else◌, length, is_some, option_map, IfErr, IfSome, OnErr, OnOk};
 ghost use Rattle.std.specs.Option.{option_copied};
 ghost use Rattle.std.specs.Fn.{FnReturnsAt};
 ghost use Rattle.resolver_base.specs.Answering.{AnswersBy};
@@ -18,8 +18,13 @@ ghost use Rattle.resolver_base.specs.declared.base.fault.Fault.TheVariants.{OutO
 ghost use Rattle.resolver_trying.specs.Fetcher as calls;
 ghost use Rattle.resolver_trying.specs.Fetcher.{EachOnce, IsTimely, opening};
 ghost use Rattle.resolver_trying.specs.Orders.{orders};
+ghost use Rattle.resolver_waiting.specs.Pending.{awake};
 ghost use Rattle.resolver_waiting.specs.Queues.{IsQueued, fresh_queue, retry_queue};
+ghost use Rattle.resolver_asked.specs.Loads.{IsLoadedBy};
 ghost use Rattle.resolver_asked.specs.Requests.{is_asked, request_for};
+ghost use Rattle.resolver_trying.specs.Known.{known_by};
+ghost use Rattle.resolver_fetch.specs.Left.{loaded_by};
+ghost use Rattle.resolver_trying.specs.Snapshot.{known};
 ghost use Rattle.resolver_request.specs.Times.{charged, elapsed_since};
 
 use crate::fetcher::peers::Peers;
@@ -42,6 +47,7 @@ use std::collections::BTreeMap;
 use std::fmt;
 use std::fmt::{Formatter, Write};
 use std::marker::Model;
+use std::num::NonZeroU32;
 
 /// The keys that wait or are asked for, their targets and retries, and the peers.
 ///
@@ -67,6 +73,7 @@ pub struct Fetcher<K: Ord, P: Ord> {
     peers: Peers<P>,
     fetch_timeout: u128,
     retry_delay: u128,
+    peer_limit: Option<NonZeroU32>,
     priority_requests: bool,
     last_id: Option<ID>,
     /// Where the open scan stands.
@@ -75,11 +82,14 @@ pub struct Fetcher<K: Ord, P: Ord> {
 }
 
 impl<K: Ord, P: Ord> Model for Fetcher<K, P> {
-    ghost use Rattle.std.specs.Prelude.{IfSome, option_map};
+    ghost use Rattle.std.specs.NonZero.{non_zero_u32_get};
+    ghost use Rattle.std.specs.Prelude.{◌≡◌, IfSome, option_map};
     ghost use Rattle.resolver_fetch.specs.Cursor.{IsKept, IsRight, scan_of};
     ghost use Rattle.resolver_trying.specs.Fetcher.{Fetcher};
     ghost use Rattle.resolver_trying.specs.Orders.{orders};
     ghost use Rattle.resolver_fetch.specs.Seeking.{searched};
+    ghost use Rattle.resolver_asked.specs.Loads.{load_of};
+    ghost use Rattle.resolver_trying.specs.Known.{known_by};
 
     ghost Value = { Fetcher K P };
 
@@ -94,6 +104,7 @@ impl<K: Ord, P: Ord> Model for Fetcher<K, P> {
         me = a.peers.local;
         fetch_timeout = a.fetch_timeout;
         retry_delay = a.retry_delay;
+        peer_limit = a.peer_limit;
         priority_requests = a.priority_requests;
       };
       waiter = a.pending.waiter;
@@ -102,8 +113,15 @@ impl<K: Ord, P: Ord> Model for Fetcher<K, P> {
     } };
 
     ghost invariant = { λ a. IsKept K.cmp a.fetch_timeout a.retry_delay a.last_id a.pending.keys a.requests
+        × ((known_by P.cmp a.peers).load ≡ load_of P.cmp (option_map non_zero_u32_get a.peer_limit) a.requests)
         × IfSome a.cursor (IsRight (orders K.cmp P.cmp)
-        (searched a.pending.keys a.targets.entries a.retries.entries a.peers) a.requests a.last_id) };
+        (searched a.pending.keys a.targets.entries a.retries.entries (known_by P.cmp a.peers) (record {
+          me = a.peers.local;
+          fetch_timeout = a.fetch_timeout;
+          retry_delay = a.retry_delay;
+          peer_limit = a.peer_limit;
+          priority_requests = a.priority_requests;
+        }) a.requests) a.requests a.last_id) };
 }
 
 impl<K: Ord + Drop, P: Ord + Drop> Drop for Fetcher<K, P> {
@@ -116,6 +134,7 @@ impl<K: Ord + Drop, P: Ord + Drop> Drop for Fetcher<K, P> {
             peers: _,
             fetch_timeout: _,
             retry_delay: _,
+            peer_limit: _,
             priority_requests: _,
             last_id: _,
             cursor: _,
@@ -136,6 +155,14 @@ impl<K: Ord + Drop, P: Ord + Drop> fmt::Debug for Fetcher<K, P> {
 }
 
 impl<K: Ord + Drop, P: Ord + Drop> Fetcher<K, P> {
+    /// What is known of the peers.
+    fn peers(&self) -> &Peers<P>
+        ensures { known_by P.cmp result.now
+            ≡ known (orders K.cmp P.cmp) (calls.snapshot (orders K.cmp P.cmp) self.now) }
+    {
+        &self.peers
+    }
+
     /// No key is wanted, and no peer is known.
     pub fn new(alloc: Global, config: Config<P>) -> Self
         requires { IsTimely config.fetch_timeout config.retry_delay }
@@ -146,9 +173,10 @@ impl<K: Ord + Drop, P: Ord + Drop> Fetcher<K, P> {
             requests: Requests::new(alloc),
             targets: BTreeMap::new(alloc),
             retries: BTreeMap::new(alloc),
-            peers: Peers::new(alloc, config.me),
+            peers: Peers::new(alloc, config.me, config.peer_limit),
             fetch_timeout: config.fetch_timeout,
             retry_delay: config.retry_delay,
+            peer_limit: config.peer_limit,
             priority_requests: config.priority_requests,
             last_id: None,
             cursor: None,
@@ -252,12 +280,12 @@ impl<K: Ord + Drop, P: Ord + Drop> Fetcher<K, P> {
         }
     }
 
-    /// The weight with which a peer of the latest set is drawn: 0 where it is the local one or
-    /// blocked, else that of its score. There is none for other peers.
+    /// The weight with which a peer of the latest set is drawn: 0 where it is the local one, blocked,
+    /// or has as many requests as it may have, else that of its score. There is none for other peers.
     pub fn weight(&self, peer: &P) -> Option<u64>
         ensures { result ≡ calls.weight (orders K.cmp P.cmp) peer.now self.now }
     {
-        self.peers.weight(peer)
+        self.peers().weight(peer)
     }
 
     /// When a scan may do something, if a key waits. It takes time logarithmic in the waiting keys.
@@ -388,6 +416,7 @@ impl<K: Ord + Drop, P: Ord + Drop> Fetcher<K, P> {
     pub fn retain<F: Fn(&K) -> bool>(&mut self, keep: F)
         requires closed { is_some self.old.scan ≡ false }
         requires callable { F.IsAlwaysCallable keep }
+        requires pure { (test : K → Bool) × AnswersBy F.Fn keep test }
         ensures { (test : K → Bool) → AnswersBy F.Fn keep test
             → self.new ≡ calls.retain (orders K.cmp P.cmp) test self.old }
     {
@@ -397,6 +426,7 @@ impl<K: Ord + Drop, P: Ord + Drop> Fetcher<K, P> {
                 ensures { FnReturnsAt F.Fn keep key.now result }
             { keep(key) },
         );
+        free_each(&self.requests, &mut self.peers, &keep);
         self.requests.retain(
             |key| -> bool
                 requires { F.IsAlwaysCallable keep }
@@ -437,14 +467,16 @@ impl<K: Ord + Drop, P: Ord + Drop> Fetcher<K, P> {
         ensures popped { (result, self.new) ≡ calls.pop_active (orders K.cmp P.cmp) now self.old }
         ensures idle { IfSome result (calls.IsIdle (orders K.cmp P.cmp) self.new) }
     {
-        let request = self.requests.take_overdue(now)?;
+        let overdue = self.requests.take_overdue(now)?;
+        self.peers.freed(&overdue.peer);
         let time = charged(self.fetch_timeout, self.retry_delay);
-        self.peers.record(&request.peer, time, 0);
-        Some(request.key)
+        self.peers.record(&overdue.peer, time, 0);
+        Some(overdue.key)
     }
 
     /// Takes out the request that a response of this peer under this id answers, and says how long
-    /// it took. Where there is none, nothing changes.
+    /// it took. Where there is none, nothing changes. Where requests are limited a scan may be begun
+    /// at once then: the peer may be asked again.
     #[inline]
     pub fn pop_response(&mut self, id: ID, peer: &P, now: u128) -> Option<(K, u128)>
         requires closed { is_some self.old.scan ≡ false }
@@ -469,6 +501,10 @@ impl<K: Ord + Drop, P: Ord + Drop> Fetcher<K, P> {
             (λ request. calls.IsIdle (orders K.cmp P.cmp) self.new request.key) }
     {
         let request = self.requests.take_matching(id, peer)?;
+        self.peers.freed(&request.peer);
+        if self.peers.is_limited() {
+            self.pending.wake();
+        }
         Some(request)
     }
 
@@ -481,10 +517,32 @@ impl<K: Ord + Drop, P: Ord + Drop> Fetcher<K, P> {
             ≡ calls.pop_missing (orders K.cmp P.cmp) id peer.now now self.old }
         ensures idle { IfSome result (calls.IsIdle (orders K.cmp P.cmp) self.new) }
     {
-        let request = self.requests.take_matching(id, peer)?;
-        let time = charged(elapsed_since(request.start, now), self.retry_delay);
-        self.peers.record(&request.peer, time, 0);
-        Some(request.key)
+        let missed = self.requests.take_matching(id, peer)?;
+        self.peers.freed(&missed.peer);
+        let time = charged(elapsed_since(missed.start, now), self.retry_delay);
+        self.peers.record(&missed.peer, time, 0);
+        Some(missed.key)
+    }
+}
+
+/// Each peer has as many requests fewer as it has of those whose keys aren't kept.
+fn free_each<K: Ord + Drop, P: Ord + Drop, F: Fn(&K) -> bool>(
+    requests: &Requests<K, P>,
+    peers: &mut Peers<P>,
+    keep: &F,
+)
+    requires callable { F.IsAlwaysCallable keep.now }
+    requires loaded { IsLoadedBy P.cmp requests.now (known_by P.cmp peers.old).load }
+    ensures { (test : K → Bool) → AnswersBy F.Fn keep.now test → known_by P.cmp peers.new
+        ≡ loaded_by P.cmp (filter (λ r. test r.1.key) requests.now) (known_by P.cmp peers.old) }
+{
+    if !peers.is_limited() {
+        return;
+    }
+    for (_, request) in requests.iter() {
+        if !keep(&request.key) {
+            peers.freed(&request.peer);
+        }
     }
 }
 

@@ -26,7 +26,7 @@ use Rattle.resolver_machine.proofs.Mapped.{insert_entry-seen, set_value-seen}
 use Rattle.resolver_peer.specs.declared.named.Source.{Source}
 use Rattle.resolver_peer.specs.Parties.{Parties, names_of, orders_of}
 use Rattle.resolver_peer.specs.PeerRows.{Row, Judged, Judging, change_entry, request_in, request_of}
-use Rattle.resolver_peer.specs.Peer.{Deliver, Done, Machine, Open, answered, hand_out, handed_as, is_key, responds, row_of}
+use Rattle.resolver_peer.specs.Peer.{freed, Deliver, Done, Machine, Open, answered, hand_out, handed_as, is_key, responds, row_of}
 use Rattle.resolver_peer.specs.declared.effects.Effect.{Effect as Told}
 use Rattle.resolver_peer.specs.declared.effects.Effect.TheVariants as told
 use Rattle.resolver_parts.specs.declared.parts.Parts.{Parts}
@@ -122,7 +122,7 @@ module _ {K S P : Type 0} (a : Parties K S P) (o : IsTotalOrder a.key) (e : Part
   -- the request that is answered, its row, and what is left
   pub record Answers : Type 0 where
     pub found : answered a m peer id ≡ Some r
-    pub left : popped ≡ fetchers.without_id (orders_of a) id (fetcher_of a m)
+    pub left : popped ≡ fetchers.freed (orders_of a) id (fetcher_of a m)
     pub asked : AskedRow a o m.rows (id, r)
 
   pub answers : Agrees a e m → fetchers.pop_request (orders_of a) id peer e.fetcher ≡ (Some r, popped) → Answers
@@ -131,7 +131,7 @@ module _ {K S P : Type 0} (a : Parties K S P) (o : IsTotalOrder a.key) (e : Part
       at : (found : Option (Request K P)) → answered a m peer id ≡ found → fetchers.popped_request (orders_of a) (fetcher_of a m) id (answered a m peer id) ≡ (Some r, popped) → Answers
       at None found pops = absurd (none-pair r popped (fetcher_of a m) _ pops (ap (fetchers.popped_request (orders_of a) (fetcher_of a m) id) found))
       at (Some q) found pops =
-          let same = some-pair r q popped (fetchers.without_id (orders_of a) id (fetcher_of a m)) _ pops (ap (fetchers.popped_request (orders_of a) (fetcher_of a m) id) found) in
+          let same = some-pair r q popped (fetchers.freed (orders_of a) id (fetcher_of a m)) _ pops (ap (fetchers.popped_request (orders_of a) (fetcher_of a m) id) found) in
           let there : answered a m peer id ≡ Some r = found ∙ ap Some (sym same.0) in
           record {
             found = there;
@@ -165,7 +165,7 @@ module _ {K S P : Type 0} (a : Parties K S P) (o : IsTotalOrder a.key) (c : Code
     begun = record { handed = handed_as a r.key row.subscribers judging; source = source; accepted = false }
 
     abbrev later : Machine K S P
-    later = record m {
+    later = record (freed m) {
       rows = change_entry (is_key a r.key) judged m.rows;
       deliveries = insert_entry nat_cmp m.deliveries m.next_delivery begun;
       next_delivery = m.next_delivery + 1;
@@ -260,7 +260,7 @@ module _ {K S P : Type 0} (a : Parties K S P) (o : IsTotalOrder a.key) (c : Code
       }
 
     -- what the machine does with the response
-    does-answer : responds a m now value (answered a m peer id) (option_and_then (λ r. row_of a m r.key) (answered a m peer id)) ≡ hand_out a m r.key row.subscribers judging
+    does-answer : responds a m now value (answered a m peer id) (option_and_then (λ r. row_of a m r.key) (answered a m peer id)) ≡ hand_out a (freed m) r.key row.subscribers judging
     does-answer =
         ap (λ found. responds a m now value found (option_and_then (λ r. row_of a m r.key) found)) x.found
         ∙ ap (responds a m now value (Some r)) (row-here a o e m is r.key row at)

@@ -23,7 +23,7 @@ use Rattle.resolver_machine.specs.Verdicts.{ruling}
 use Rattle.resolver_peer.specs.Parties.{Parties, names_of, orders_of}
 use Rattle.resolver_peer.specs.PeerRows.{Row, Phase, Waits, Asked, Judged, Judging, change_entry}
 use Rattle.resolver_peer.specs.declared.named.Serve.{Serve}
-use Rattle.resolver_peer.specs.Peer.{Machine, Open, Done, Item, Status, Running, Ended, Failed, Input, Happens, Answers, Event, Fetch, Retain, PeerSet, Blocked, ActiveDue, PendingDue, Verdict, Served, Net, End, quiet, and_then, snapshot, closed, served_by, row_of, is_key, fetch, fetch_one, fails, times_out, hand_out, account_for, serves_rest, ruled, ruled_in, ruled_at, verdict_on, responds, misses, answered, receive, does, retry, has_subscribers, pruned, is_newer, with_sent, is_due, wake_up, scanned_if, scanned, step_of, answer_of, step_running, step_in, step, opening}
+use Rattle.resolver_peer.specs.Peer.{Machine, Open, Done, Item, Status, Running, Ended, Failed, Input, Happens, Answers, Event, Fetch, Retain, PeerSet, Blocked, ActiveDue, PendingDue, Verdict, Served, Net, End, quiet, and_then, snapshot, closed, served_by, row_of, is_key, fetch, fetch_one, fails, times_out, hand_out, account_for, serves_rest, ruled, ruled_in, ruled_at, verdict_on, freed, responds, misses, answered, receive, does, retry, has_subscribers, pruned, is_newer, with_sent, is_due, wake_up, scanned_if, scanned, step_of, answer_of, step_running, step_in, step, opening}
 use Rattle.resolver_peer.specs.PeerRun.{Fed, after}
 use Rattle.resolver_machine.proofs.Rows.{Distinct-inserted, Distinct-removed}
 
@@ -154,10 +154,14 @@ module _ {K S P : Type 0} (a : Parties K S P) (laws : IsEquivalence (same_key (n
       kept-and a m d (ruled_at a d.machine now number h outcome (row_of a d.machine h.handed.key)) (account-kept (closed m number) h h.accepted outcome)
       (at-kept d.machine number h outcome (row_of a d.machine h.handed.key))
 
+  freed-kept : (m : Machine K S P) (o : Option (Done K S P)) → IsKeptIfDone a (freed m) o → IsKeptIfDone a m o
+  freed-kept m None kept = kept
+  freed-kept m (Some d) kept = kept
+
   responds-kept : (m : Machine K S P) (value : List ℕ) (r : Option (Request K P)) (row : Option (Row K S P)) → IsKeptIfDone a m (responds a m now value r row)
   responds-kept m value None row = (λ all. all)
   responds-kept m value (Some q) None = (λ all. all)
-  responds-kept m value (Some q) (Some row) = handed-kept m q.key row.subscribers _
+  responds-kept m value (Some q) (Some row) = freed-kept m _ (handed-kept (freed m) q.key row.subscribers _)
 
   receive-kept : (m : Machine K S P) (peer : P) (id : ℕ) (payload : Payload K) → IsKeptIfDone a m (receive a m now peer id payload)
   receive-kept m peer id (payloads.Request key) = kept-if a m (nat_lt m.next_serve (2 ^ 64)) _ (λ all. all)

@@ -31,7 +31,7 @@ use Rattle.resolver_machine.specs.Verdicts.{ruling}
 use Rattle.resolver_peer.specs.Parties.{Parties, names_of, orders_of}
 use Rattle.resolver_peer.specs.PeerRows.{Row, Phase, Waits, Asked, Judged, Judging, change_entry, waiting_in, waiting_of}
 use Rattle.resolver_peer.specs.declared.named.Serve.{Serve}
-use Rattle.resolver_peer.specs.Peer.{Machine, Open, Done, Item, Status, Running, Ended, Failed, Input, Happens, Answers, Event, Fetch, Retain, PeerSet, Blocked, ActiveDue, PendingDue, Verdict, Served, Net, End, quiet, and_then, snapshot, closed, served_by, row_of, is_key, fetch, fetch_one, times_out, hand_out, account_for, serves_rest, ruled, ruled_in, ruled_at, verdict_on, responds, misses, answered, receive, does, has_subscribers, pruned, is_newer, turned, with_sent, is_due, wake_up, scanned_if, scanned, step_of, answer_of, step_running, step_in, step, opening}
+use Rattle.resolver_peer.specs.Peer.{Machine, Open, Done, Item, Status, Running, Ended, Failed, Input, Happens, Answers, Event, Fetch, Retain, PeerSet, Blocked, ActiveDue, PendingDue, Verdict, Served, Net, End, quiet, and_then, snapshot, closed, served_by, row_of, is_key, fetch, fetch_one, times_out, hand_out, account_for, serves_rest, ruled, ruled_in, ruled_at, verdict_on, freed, responds, misses, answered, receive, does, has_subscribers, pruned, is_newer, turned, with_sent, is_due, wake_up, scanned_if, scanned, step_of, answer_of, step_running, step_in, step, opening}
 use Rattle.resolver_peer.specs.PeerRun.{Fed, after}
 use Rattle.resolver_peer.specs.PeerLaws.{AcceptsSend, AskedOnce, EndsOrRetries}
 use Rattle.resolver_peer.proofs.Apart.{AreApart, run-apart, step-apart}
@@ -226,10 +226,14 @@ module _ {K S P : Type 0} (a : Parties K S P) (total : IsTotalOrder a.key) (key 
         (at-goes d.machine number h outcome (row_of a d.machine h.handed.key)
         (subst (λ (x : List (K × Row K S P)). AreApart a x) (sym same.0) apart) (subst (λ (x : List (K × Row K S P)). IsBusyAt x) (sym same.0) busy))
 
+    freed-goes : (m : Machine K S P) (o : Option (Done K S P)) → GoesIfDone (freed m) o → GoesIfDone m o
+    freed-goes m None goes = goes
+    freed-goes m (Some d) goes = goes
+
     responds-goes : (m : Machine K S P) (value : List ℕ) (r : Option (Request K P)) (row : Option (Row K S P)) → IsBusyAt m.rows → GoesIfDone m (responds a m now value r row)
     responds-goes m value None row busy = inr (inr busy)
     responds-goes m value (Some q) None busy = inr (inr busy)
-    responds-goes m value (Some q) (Some row) busy = handed-goes m q.key row.subscribers _ busy
+    responds-goes m value (Some q) (Some row) busy = freed-goes m _ (handed-goes (freed m) q.key row.subscribers _ busy)
 
     receive-goes : (m : Machine K S P) (peer : P) (id : ℕ) (payload : Payload K) → IsBusyAt m.rows → GoesIfDone m (receive a m now peer id payload)
     receive-goes m peer id (payloads.Request k) busy = goes-if m (nat_lt m.next_serve (2 ^ 64)) _ (inr (inr busy))

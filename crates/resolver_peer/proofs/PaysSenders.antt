@@ -27,7 +27,7 @@ use Rattle.resolver_machine.specs.Verdicts.{ruling}
 use Rattle.resolver_peer.specs.Parties.{Parties, orders_of}
 use Rattle.resolver_peer.specs.PeerRows.{Row, Phase, Waits, Asked, Judged, Judging}
 use Rattle.resolver_peer.specs.declared.named.Serve.{Serve}
-use Rattle.resolver_peer.specs.Peer.{Machine, Open, Done, Effect, Ask, Deliver, Cancel, Produce, Reply, Credit, Block, Item, Event, Fetch, Retain, PeerSet, Blocked, ActiveDue, PendingDue, Verdict, Served, Net, End, Input, Happens, Answers, Status, Running, Ended, Failed, quiet, and_then, snapshot, cancel_in, cancels, pruned, has_subscribers, closed, end, served_by, row_of, fetch_one, fetch, peer_set, is_newer, times_out, hand_out, account_for, serves_rest, ruled, ruled_in, ruled_at, verdict_on, verdict, responds, misses, answered, receive, does, with_sent, turned, question, scanned_if, scanned, is_due, wake_up, step_of, answer_of, step_running, step_in, step, retry, without_row}
+use Rattle.resolver_peer.specs.Peer.{Machine, Open, Done, Effect, Ask, Deliver, Cancel, Produce, Reply, Credit, Block, Item, Event, Fetch, Retain, PeerSet, Blocked, ActiveDue, PendingDue, Verdict, Served, Net, End, Input, Happens, Answers, Status, Running, Ended, Failed, quiet, and_then, snapshot, cancel_in, cancels, pruned, has_subscribers, closed, end, served_by, row_of, fetch_one, fetch, peer_set, is_newer, times_out, hand_out, account_for, serves_rest, ruled, ruled_in, ruled_at, verdict_on, verdict, freed, responds, misses, answered, receive, does, with_sent, turned, question, scanned_if, scanned, is_due, wake_up, step_of, answer_of, step_running, step_in, step, retry, without_row}
 use Rattle.resolver_peer.specs.PeerRun.{Fed}
 use Rattle.resolver_peer.specs.PeerSteps.{Runs}
 use Rattle.resolver_peer.specs.PeerLaws.{brought, senders_in, IsFrom, PaysSender, PaySenders, IsPaidToSenders}
@@ -207,7 +207,7 @@ module _ {K S P : Type 0} (a : Parties K S P) where
     responds-pays value None same row = still (Happens (Net peer message)) senders m m [] knows refl refl refl tt
     responds-pays value (Some r) same None = still (Happens (Net peer message)) senders m m [] knows refl refl refl tt
     responds-pays value (Some r) same (Some row) =
-        handed-pays (Happens (Net peer message)) senders m r.key row.subscribers _ refl
+        handed-pays (Happens (Net peer message)) senders (freed m) r.key row.subscribers _ refl
         (Each-imply (IsSentBy senders) (IsSentBy (senders ++ (m.next_delivery, peer) ∷ [])) (λ d from. from-more senders ((m.next_delivery, peer) ∷ []) d.1.handed.response d.1.source.peer from) m.deliveries knows.sent)
         (peer, lookup-last m.next_delivery senders peer knows.below, same)
         (Each-push (λ e. e.0 < m.next_delivery + 1) senders (m.next_delivery, peer) (each-later m.next_delivery senders knows.below) (omega arith))

@@ -44,7 +44,7 @@ use Rattle.resolver_peer.specs.Parties.{Parties, names_of, orders_of}
 use Rattle.resolver_peer.specs.declared.named.Source.{Source}
 use Rattle.resolver_peer.specs.PeerRows.{Row, Phase, Waits, Asked, Judged, Judging, change_entry, waiting_in, waiting_of, request_in, request_of}
 use Rattle.resolver_peer.specs.declared.named.Serve.{Serve}
-use Rattle.resolver_peer.specs.Peer.{Machine, Open, Done, Effect, Ask, Deliver, Item, Event, Fetch, Retain, PeerSet, Blocked, ActiveDue, PendingDue, Verdict, Served, Net, End, Input, Happens, Answers, Status, Running, Ended, Failed, quiet, and_then, snapshot, cancel_in, cancels, pruned, has_subscribers, retain, closed, end, served_by, is_key, row_of, retry, fetch_one, fetch, is_newer, times_out, hand_out, account_for, serves_rest, ruled, ruled_in, ruled_at, verdict_on, verdict, responds, misses, answered, receive, does, with_sent, turned, question, scanned_if, scanned, is_due, wake_up, step_of, happen, answer_of, step_running, step_in, opening}
+use Rattle.resolver_peer.specs.Peer.{Machine, Open, Done, Effect, Ask, Deliver, Item, Event, Fetch, Retain, PeerSet, Blocked, ActiveDue, PendingDue, Verdict, Served, Net, End, Input, Happens, Answers, Status, Running, Ended, Failed, quiet, and_then, snapshot, cancel_in, cancels, pruned, has_subscribers, retain, closed, end, served_by, is_key, row_of, retry, fetch_one, fetch, is_newer, times_out, hand_out, account_for, serves_rest, ruled, ruled_in, ruled_at, verdict_on, verdict, freed, responds, misses, answered, receive, does, with_sent, turned, question, scanned_if, scanned, is_due, wake_up, step_of, happen, answer_of, step_running, step_in, opening}
 use Rattle.resolver_peer.specs.PeerRun.{Fed, change_of, delivery_in, demanded}
 use Rattle.resolver_peer.specs.PeerStanding.{judgment_of, held_of, standing_of}
 use Rattle.resolver_peer.specs.PeerSteps.{Runs}
@@ -306,7 +306,7 @@ module _ {K S P : Type 0} (a : Parties K S P) where
           (responds a m now value (Some r) (Some row))
           (hands-tallies (names_of a) laws (standing_of m) c r.key (held_of row) (lookup-map_values held_of (is_key a r.key) m.rows ∙ ap (option_map held_of) is) (not_judged m.rows r.key row idle is) stands.tallies)
           refl
-          (hand_out-comes m r.key row.subscribers m.next_delivery (record { peer = r.peer; elapsed = elapsed_since r.start now; bytes = length value }) value false row c.completed is stands.flags stands.own
+          (hand_out-comes (freed m) r.key row.subscribers m.next_delivery (record { peer = r.peer; elapsed = elapsed_since r.start now; bytes = length value }) value false row c.completed is stands.flags stands.own
           (sym (never_completed c.completed m.next_delivery stands.tallies.completed)))
 
   -- what leaves the standing

@@ -22,7 +22,7 @@ use Rattle.resolver_machine.specs.Verdicts.{ruling}
 use Rattle.resolver_peer.specs.Parties.{Parties}
 use Rattle.resolver_peer.specs.PeerRows.{Row, Phase, Waits, Asked, Judged, Judging, change_entry}
 use Rattle.resolver_peer.specs.declared.named.Serve.{Serve}
-use Rattle.resolver_peer.specs.Peer.{Machine, Open, Done, Item, Event, Fetch, Retain, PeerSet, Blocked, ActiveDue, PendingDue, Verdict, Served, Net, End, quiet, snapshot, closed, served_by, row_of, is_key, fetch, fetch_one, fails, times_out, hand_out, account_for, serves_rest, ruled, ruled_in, ruled_at, verdict_on, responds, misses, answered, receive, does, retry, has_subscribers, pruned, is_newer}
+use Rattle.resolver_peer.specs.Peer.{Machine, Open, Done, Item, Event, Fetch, Retain, PeerSet, Blocked, ActiveDue, PendingDue, Verdict, Served, Net, End, quiet, snapshot, closed, served_by, row_of, is_key, fetch, fetch_one, fails, times_out, hand_out, account_for, serves_rest, ruled, ruled_in, ruled_at, verdict_on, freed, responds, misses, answered, receive, does, retry, has_subscribers, pruned, is_newer}
 
 -- Of each row's phase this is so.
 module _ {K S P : Type 0} (Q : Phase K P → Type 0) where
@@ -152,10 +152,14 @@ module _ {K S P : Type 0} (a : Parties K S P) (Q : Phase K P → Type 0) (now : 
       kept-and Q m d (ruled_at a d.machine now number h outcome (row_of a d.machine h.handed.key)) (account-kept (closed m number) h h.accepted outcome)
       (at-kept d.machine number h outcome (row_of a d.machine h.handed.key))
 
+  freed-kept : (m : Machine K S P) (o : Option (Done K S P)) → IsKeptIfDone Q (freed m) o → IsKeptIfDone Q m o
+  freed-kept m None kept = kept
+  freed-kept m (Some d) kept = kept
+
   responds-kept : (m : Machine K S P) (value : List ℕ) (r : Option (Request K P)) (row : Option (Row K S P)) → IsKeptIfDone Q m (responds a m now value r row)
   responds-kept m value None row = (refl, refl, refl, λ all. all)
   responds-kept m value (Some q) None = (refl, refl, refl, λ all. all)
-  responds-kept m value (Some q) (Some row) = handed-kept m q.key row.subscribers _
+  responds-kept m value (Some q) (Some row) = freed-kept m _ (handed-kept (freed m) q.key row.subscribers _)
 
   receive-kept : (m : Machine K S P) (peer : P) (id : ℕ) (payload : Payload K) → IsKeptIfDone Q m (receive a m now peer id payload)
   receive-kept m peer id (payloads.Request key) = kept-if Q m (nat_lt m.next_serve (2 ^ 64)) _ (refl, refl, refl, λ all. all)

@@ -19,7 +19,7 @@ use Rattle.resolver_trying.specs.declared.scan.Ask.{Ask as Question}
 use Rattle.resolver_trying.specs.Orders.{same_key}
 use Rattle.resolver_request.specs.Times.{elapsed_since, charged}
 use Rattle.resolver_trying.specs.Waiting as waits
-use Rattle.resolver_trying.specs.Waiting.{fresh_at, retry_at, once_more, in_order}
+use Rattle.resolver_trying.specs.Waiting.{fresh_at, retry_at, once_more, in_order, waiter_freed}
 use Rattle.resolver_asked.specs.Requests.{soonest, overdue, matching, by_id}
 use Rattle.resolver_trying.specs.Peers.{replaced, observed, with_targets, set_of}
 use Rattle.resolver_trying.specs.Snapshot.{Snapshot}
@@ -174,6 +174,10 @@ module _ {K S P : Type 0} where
 
   abbrev pub closed : Machine K S P → (number : ℕ) → Machine K S P
   closed m number = record m { deliveries = remove_entry (λ n. number == n) m.deliveries }
+
+  -- Where requests are limited the peer that responds may be asked again.
+  abbrev pub freed : Machine K S P → Machine K S P
+  freed m = record m { waiter = waiter_freed m.configuration.peer_limit m.waiter }
 
   abbrev pub served_by : Machine K S P → (serve : ℕ) → Option (List ℕ) → Option (Serve P) → Done K S P
   served_by m serve bytes None = quiet m
@@ -343,7 +347,7 @@ module _ {K S P : Type 0} (a : Parties K S P) where
   verdict m now number outcome = verdict_on m now number outcome (lookup (λ n. number == n) m.deliveries)
 
   abbrev pub responds : Machine K S P → (now : ℕ) → List ℕ → Option (Request K P) → Option (Row K S P) → Option (Done K S P)
-  responds m now value (Some r) (Some row) = hand_out m r.key row.subscribers (record {
+  responds m now value (Some r) (Some row) = hand_out (freed m) r.key row.subscribers (record {
     number = m.next_delivery;
     response = m.next_delivery;
     source = record { peer = r.peer; elapsed = elapsed_since r.start now; bytes = length value };

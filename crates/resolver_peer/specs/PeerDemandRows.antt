@@ -19,7 +19,7 @@ abbrev numbers : Parties ℕ ℕ ℕ
 numbers = parties nat_cmp nat_cmp nat_cmp
 
 abbrev opened : Machine ℕ ℕ ℕ
-opened = opening (record { me = Some 9; fetch_timeout = 50; retry_delay = 10; priority_requests = false }) false
+opened = opening (record { me = Some 9; fetch_timeout = 50; retry_delay = 10; peer_limit = None; priority_requests = false }) false
 
 abbrev at : ℕ → Event ℕ ℕ ℕ → Fed ℕ ℕ ℕ
 at now event = record { now = now; input = Happens event }

@@ -33,7 +33,7 @@ module _ {K S P : Type 0} (a : Parties K S P) where
   EarnsOnce = (configuration : Config P) (replies_first : Bool) (inputs : List (Fed K S P)) (response : ℕ)
       → length (account response (all_effects (answers a (opening configuration replies_first) inputs))) ≤ 1
 
-  -- the peer is in the latest set, not local, not blocked, and among the key's targets, if it has any
+  -- the peer is in the latest set, not local, not blocked, below the limit, and among the key's targets, where there are such
   abbrev pub IsEligibleFor : Machine K S P → K → P → Type 0
   IsEligibleFor m key peer = (w : Waiting P) × IsAmong (key, w) (snapshot a m).waiting × ((x : Averages) × IsAmong (peer, x) (eligible (orders_of a) (snapshot a m) w.targets))
 

@@ -1,5 +1,5 @@
 -- Worked runs of the peer machine, with keys, subscribers and peers that are numbers.
-use Rattle.std.specs.Prelude.{◌≡◌, ℕ, ◌-◌, ◌^◌, true, false, not, ◌==◌, List, [], ◌∷◌, take, Option, None, Some, Result, Ok, Err}
+use Rattle.std.specs.Prelude.{◌≡◌, ◌<◌, ℕ, ◌-◌, ◌^◌, true, false, not, ◌==◌, List, [], ◌∷◌, take, Option, None, Some, Result, Ok, Err}
 use Rattle.std.specs.Ordering.{nat_cmp}
 use Rattle.resolver_base.specs.declared.base.check.Check.TheVariants.{Clear, Until}
 use Rattle.resolver_base.specs.declared.base.fault.Fault.{Fault}
@@ -26,7 +26,7 @@ abbrev Run : Type 0
 Run = List (ℕ × Input ℕ ℕ ℕ)
 
 abbrev opens : Option ℕ → (timeout delay : ℕ) → Machine ℕ ℕ ℕ
-opens local timeout delay = opening (record { me = local; fetch_timeout = timeout; retry_delay = delay; priority_requests = false }) false
+opens local timeout delay = opening (record { me = local; fetch_timeout = timeout; retry_delay = delay; peer_limit = None; priority_requests = false }) false
 
 abbrev and_so_on : (Machine ℕ ℕ ℕ → List (Result (List (Effect ℕ ℕ ℕ)) Fault)) → Result (List (Effect ℕ ℕ ℕ)) Fault × Machine ℕ ℕ ℕ → List (Result (List (Effect ℕ ℕ ℕ)) Fault)
 and_so_on rest answer = answer.0 ∷ rest answer.1
@@ -484,3 +484,78 @@ pub record VerdictsRepeated : Type 0 where
       []
   pub left : (after (opens (Some 9) 50 10) hostile_dead_verdicts).rows ≡ []
   pub wakes : wake_up numbers (after (opens (Some 9) 50 10) hostile_dead_verdicts) ≡ None
+
+-- A limit of one request to a peer
+
+abbrev limited : 0 < 1 → Machine ℕ ℕ ℕ
+limited some = opening (record { me = None; fetch_timeout = 50; retry_delay = 10; peer_limit = Some (record { value = 1; ok = some }); priority_requests = false }) false
+
+-- the peer 4 is asked for the key 1, and is full
+abbrev full : Run
+full =
+    (0, Happens (PeerSet 1 (4 ∷ []))) ∷
+    (0, fetch 1 10 7) ∷
+    (0, Answers (Drawn 0)) ∷
+    (0, Answers (Drawn 0)) ∷
+    (0, Answers (Checked Clear)) ∷
+    (0, Answers (Drawn 5)) ∷
+    (0, Answers (Sent true)) ∷
+    []
+
+-- a response frees its peer
+
+abbrev limit_one_peer : Run
+limit_one_peer =
+    (20, Happens (Net 4 (Some (has 5 (104 ∷ 105 ∷ []))))) ∷
+    (20, Answers (Drawn 0)) ∷
+    (20, Answers (Drawn 0)) ∷
+    (20, Answers (Checked Clear)) ∷
+    (20, Answers (Sent true)) ∷
+    (20, Happens (Verdict 0 (Some (Resolved Complete)))) ∷
+    (20, fetch 3 10 9) ∷
+    []
+
+pub record LimitOnePeer : Type 0 where
+  pub waits : (some : 0 < 1) → answers (after (limited some) full) ((0, fetch 2 10 8) ∷ []) ≡ Ok [] ∷ []
+  pub rows : (some : 0 < 1) → (after (after (limited some) full) ((0, fetch 2 10 8) ∷ [])).rows ≡
+      (1, record { subscribers = ((10, 7) ∷ []); targets = None; retries = 0; phase = Asked 5 (record { key = 1; peer = 4; start = 0; deadline = 50 }) }) ∷
+      (2, record { subscribers = ((10, 8) ∷ []); targets = None; retries = 0; phase = Waits (fresh_at 0) }) ∷
+      []
+  pub wakes : (some : 0 < 1) → wake_up numbers (after (after (limited some) full) ((0, fetch 2 10 8) ∷ [])) ≡ Some (2 ^ 128 - 1)
+  pub answered : (some : 0 < 1) → answers (after (after (limited some) full) ((0, fetch 2 10 8) ∷ [])) limit_one_peer ≡
+      Ok (Deliver 0 (handed 0 1 ((10, 7) ∷ [])) (104 ∷ 105 ∷ []) ∷ Ask (asks.Draw 4) ∷ []) ∷
+      Ok (Ask (asks.Draw 1) ∷ []) ∷
+      Ok (Ask (asks.Check 4) ∷ []) ∷
+      Ok (sends 4 6 2 ∷ []) ∷
+      Ok [] ∷
+      Ok (Credit 0 (source 4 20 2) ∷ []) ∷
+      Ok [] ∷
+      []
+
+-- the end of its time frees a peer
+
+abbrev limit_timeout : Run
+limit_timeout =
+    (0, fetch 2 10 8) ∷
+    (50, Happens ActiveDue) ∷
+    (50, Answers (Drawn 0)) ∷
+    (50, Answers (Drawn 0)) ∷
+    (50, Answers (Checked Clear)) ∷
+    []
+
+pub record LimitTimeout : Type 0 where
+  pub answered : (some : 0 < 1) → answers (after (limited some) full) limit_timeout ≡
+      Ok [] ∷
+      Ok (Ask (asks.Draw 4) ∷ []) ∷
+      Ok (Ask (asks.Draw 1) ∷ []) ∷
+      Ok (Ask (asks.Check 4) ∷ []) ∷
+      Ok (sends 4 6 2 ∷ []) ∷
+      []
+
+-- a peer that leaves and comes back is as full as before
+
+abbrev limit_peer_returns : Run
+limit_peer_returns = (0, Happens (PeerSet 2 (3 ∷ []))) ∷ (0, Happens (PeerSet 3 (4 ∷ []))) ∷ (0, fetch 2 10 8) ∷ []
+
+pub record LimitPeerReturns : Type 0 where
+  pub answered : (some : 0 < 1) → answers (after (limited some) full) limit_peer_returns ≡ Ok [] ∷ Ok [] ∷ Ok [] ∷ []

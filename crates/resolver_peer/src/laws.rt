@@ -67,6 +67,21 @@ pub fn verdicts_repeated()
     ensures { peer.VerdictsRepeated }
 {}
 
+/// A full peer is asked again once it responds, and not for a credit.
+pub fn limit_one_peer()
+    ensures { peer.LimitOnePeer }
+{}
+
+/// A full peer is asked again once the time of its request is over.
+pub fn limit_timeout()
+    ensures { peer.LimitTimeout }
+{}
+
+/// A peer that left and came back is as full as it was.
+pub fn limit_peer_returns()
+    ensures { peer.LimitPeerReturns }
+{}
+
 /// In a run of the peer machine each response earns its peer at most one credit or one block.
 pub fn earns_once<K: Ord, S: Ord, P: Ord>()
     ensures { EarnsOnce (parties K.cmp S.cmp P.cmp) }

@@ -46,6 +46,7 @@ impl Peers {
             me: timing.me.map(Peer),
             fetch_timeout: timing.timeout,
             retry_delay: timing.delay,
+            peer_limit: timing.limit,
             priority_requests: false,
         };
         Peers {

@@ -10,13 +10,14 @@ mod wrong;
 use crate::kept::Kept;
 use crate::planning::Planned;
 use bytes::Bytes;
-use fields::{Fields, moment, peer, timeout};
+use fields::{Fields, limit, moment, peer, timeout};
 use inputs::{of_both_machines, of_peers, of_plans, of_scans, of_sources};
 use resolver_fetch::fetcher::Answer;
 use resolver_mailbox::mocks::Key;
 use resolver_moment::Moment;
 use resolver_root::{Fetch, NonEmptyVec, Outcome};
 use std::alloc::{AllocError, AllocFailed, Global};
+use std::num::NonZeroU32;
 use std::str;
 pub use wrong::{Why, Wrong};
 
@@ -29,6 +30,8 @@ pub struct Timing {
     pub timeout: u128,
     /// How long a key waits before it is tried again.
     pub delay: u128,
+    /// How many requests one peer may have, if that is limited.
+    pub limit: Option<NonZeroU32>,
     ghost positive: { 0 < timeout },
     ghost timeout_in_range: { timeout < 2 ^ 94 },
     ghost delay_in_range: { delay < 2 ^ 94 },
@@ -39,7 +42,7 @@ pub struct Timing {
 pub enum Command {
     /// `opaque DELAY`: a new actor.
     Opaque { delay: Moment },
-    /// `p2p ME TIMEOUT DELAY`: a new engine.
+    /// `p2p ME TIMEOUT DELAY` and `p2p ME TIMEOUT DELAY LIMIT`: a new engine.
     Peers(Timing),
     /// `at T`: the moment from now on.
     At(Moment),
@@ -215,5 +218,14 @@ fn read_timing(fields: &mut Fields<'_>) -> Result<Timing, Unread> {
     };
     let timeout = timeout(fields.next())?;
     let delay = moment(fields.next())?.nanoseconds;
-    Ok(Timing { me, timeout, delay })
+    let limit = match fields.next() {
+        None => None,
+        field => Some(limit(field)?),
+    };
+    Ok(Timing {
+        me,
+        timeout,
+        delay,
+        limit,
+    })
 }

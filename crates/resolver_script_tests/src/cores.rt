@@ -56,6 +56,7 @@ pub fn make_core(alloc: Global, me: Option<Peer>) -> Plain {
         me,
         fetch_timeout: 50,
         retry_delay: 10,
+        peer_limit: None,
         priority_requests: false,
     };
     Core::new(alloc, configuration, false)

@@ -212,6 +212,7 @@ fn printed<R: Abort + Copy + Drop>(rt: R, alloc: Global, is_one_run: bool) -> St
         me: Some(Peer(9)),
         fetch_timeout: 50,
         fetch_retry_delay: 10,
+        peer_limit: None,
         priority_requests: false,
         priority_responses: false,
     };

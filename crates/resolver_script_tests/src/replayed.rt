@@ -11,6 +11,7 @@ use std::panic::Expect;
 use std::process::Abort;
 
 mod actors;
+mod limits;
 mod peers;
 mod plans;
 mod scans;

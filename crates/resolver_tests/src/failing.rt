@@ -147,6 +147,7 @@ where
         me: 9,
         wrong,
         seed: plan.seed,
+        limit: None,
     };
     let eligible = if plan.is_targeted { 1 } else { 3 };
     let mut play = Course {

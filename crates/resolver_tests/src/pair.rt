@@ -144,7 +144,7 @@ where
     for setting in settings {
         let made = make_loop::<Below, _>(rt, alloc, *setting).expect(&rt, "a loop");
         let side = Looping::new(&rt, alloc, made);
-        let core = make_core(alloc, setting.me);
+        let core = make_core(alloc, *setting);
         let pair = Pair::new(&rt, alloc, side, core, *setting, eligible);
         pairs.push(pair).expect(&rt, "memory");
     }

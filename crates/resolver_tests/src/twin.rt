@@ -177,11 +177,12 @@ impl Steps for Plain {
 }
 
 /// A core with a timeout of 50 and a delay of 10, as a call that promises nothing.
-pub fn make_core(alloc: Global, me: u8) -> Plain {
+pub fn make_core(alloc: Global, setting: Setting) -> Plain {
     let configuration = Config {
-        me: Some(Peer(me)),
+        me: Some(Peer(setting.me)),
         fetch_timeout: 50,
         retry_delay: 10,
+        peer_limit: setting.limit,
         priority_requests: false,
     };
     Core::new(alloc, configuration, false)
@@ -199,10 +200,14 @@ fn make_fakes(rt: &impl Abort, alloc: Global, setting: Setting) -> Fakes {
     }
 }
 
-/// The line that opens an engine which is called so.
-fn begin_script(rt: &impl Abort, alloc: Global, me: u8) -> String {
+/// The line that opens an engine with this setting.
+fn begin_script(rt: &impl Abort, alloc: Global, setting: Setting) -> String {
     let mut script = String::new(alloc);
-    writeln!(script, "p2p {me} 50 10").expect(rt, "memory");
+    write!(script, "p2p {} 50 10", setting.me).expect(rt, "memory");
+    if let Some(limit) = setting.limit {
+        write!(script, " {limit}").expect(rt, "memory");
+    }
+    script.push_str("\n").expect(rt, "memory");
     script
 }
 
@@ -313,10 +318,24 @@ pub fn asked_in(rows: &[Shown], key: u8) -> Option<(u64, u8)> {
     None
 }
 
+/// How many keys the peer is asked for that is asked for the most of them.
+fn most_asked(rows: &[Shown]) -> u32 {
+    let mut counts = [0_u32; 256];
+    let mut most = 0;
+    for row in rows {
+        if let Stage::Asked { peer, .. } = row.stage {
+            let count = &mut counts[usize::from(peer)];
+            *count = count.saturating_add(1);
+            most = most.max(*count);
+        }
+    }
+    most
+}
+
 impl Hands {
     /// Nothing is open, and nothing was counted.
     fn new(rt: &impl Abort, alloc: Global, setting: Setting) -> Hands {
-        let script = begin_script(rt, alloc, setting.me);
+        let script = begin_script(rt, alloc, setting);
         let fakes = make_fakes(rt, alloc, setting);
         Hands {
             alloc,
@@ -521,6 +540,19 @@ impl<C: Steps> Twin<C> {
         self.hands.judge(rt, complaint);
     }
 
+    /// No peer is asked for more keys at once than it may be.
+    fn judge_limit(&self, rt: &(impl Abort + Print)) {
+        let Some(limit) = self.hands.setting.limit else {
+            return;
+        };
+        let rows = self.rows(rt);
+        let is_past = most_asked(rows.as_slice()) > limit.get();
+        drop(rows);
+        if is_past {
+            self.hands.fail(rt, "a peer has too many requests");
+        }
+    }
+
     /// Takes an event, and answers what its scan asks.
     fn take(&mut self, rt: &(impl Abort + Print), event: Happened) {
         write_event(rt, &mut self.hands.script, &event);
@@ -529,6 +561,7 @@ impl<C: Steps> Twin<C> {
         let answer = self.hands.carry_out_all(rt, effects);
         self.answer_all(rt, answer);
         self.judge_scan(rt);
+        self.judge_limit(rt);
     }
 
     /// What is due.

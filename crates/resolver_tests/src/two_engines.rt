@@ -12,6 +12,7 @@ use resolver::{Outcome, Resolution};
 use resolver_fakes::seen::Wrong;
 use std::alloc::AllocGlobal;
 use std::io::Print;
+use std::num::NonZeroU32;
 use std::panic::Expect;
 use std::process::Abort;
 use std::random::RandomSource;
@@ -20,8 +21,14 @@ use std::sync::Wait;
 /// How many names of keys there are.
 const KEYS: u64 = 250;
 
-/// How many fetches each engine makes: of each key four times, for two subscribers of its own each time.
-const FETCHES: u64 = 4 * 2 * KEYS;
+/// How many fetches each engine makes: of each key four times, for two subscribers of its own each time; and of each
+/// once where a peer may have few requests, since a run is as long then.
+fn all_fetches(setting: Setting) -> u64 {
+    match setting.limit {
+        None => 4 * 2 * KEYS,
+        Some(_) => 2 * KEYS,
+    }
+}
 
 /// How many of its fetches wait at once, at the most.
 const OPEN: u64 = 128;
@@ -46,7 +53,7 @@ struct Course {
 fn next_fetch(hands: &mut Hands) -> Option<(u8, u16)> {
     let fetches = hands.counts.fetches;
     let open = fetches.saturating_sub(hands.delivered.len() as u64);
-    if fetches >= FETCHES || open >= OPEN {
+    if fetches >= all_fetches(hands.setting) || open >= OPEN {
         return None;
     }
     let place = fetches % (2 * KEYS);
@@ -171,24 +178,26 @@ fn draw_step(course: &mut Course, number: u64) -> Step {
 fn is_over(pair: &mut impl Acts) -> bool {
     let deadlines = pair.deadlines();
     let hands = pair.hands();
-    hands.counts.fetches >= FETCHES && deadlines == (None, None) && hands.deliveries.is_empty()
+    hands.counts.fetches >= all_fetches(hands.setting)
+        && deadlines == (None, None)
+        && hands.deliveries.is_empty()
 }
 
-/// Whether each of these, in their order, stands there once, and there are as many as were fetched.
-fn is_each_once(delivered: &[(u8, u16)]) -> bool {
+/// Whether each of these, in their order, stands there once, and there are so many.
+fn is_each_once(delivered: &[(u8, u16)], count: u64) -> bool {
     for i in 1..delivered.len() {
         if delivered[i - 1] == delivered[i] {
             return false;
         }
     }
-    delivered.len() as u64 == FETCHES
+    delivered.len() as u64 == count
 }
 
 /// What is wrong at the end, if anything is: each key is to be delivered once to each subscriber, each response that
 /// was handed out to have earned one credit, and nothing to be awaited.
 fn complaint(rt: &impl Abort, hands: &mut Hands, awaited: Option<u128>) -> Option<&'static str> {
     hands.delivered.sort().expect(rt, "memory");
-    if !is_each_once(hands.delivered.as_slice()) {
+    if !is_each_once(hands.delivered.as_slice(), all_fetches(hands.setting)) {
         return Some("a key was not delivered once to each subscriber");
     }
     if hands.counts.credits != hands.counts.responses {
@@ -232,11 +241,12 @@ fn go_all<P: Acts>(rt: &(impl Abort + Print), one: &mut P, two: &mut P, course: 
 }
 
 /// One of the two engines.
-fn setting(me: u8, seed: u64) -> Setting {
+fn setting(me: u8, seed: u64, limit: Option<NonZeroU32>) -> Setting {
     Setting {
         me,
         wrong: Wrong::Sevenths,
         seed: Some(seed),
+        limit,
     }
 }
 
@@ -249,13 +259,17 @@ impl Play for Course {
     }
 }
 
-/// Runs of ten seeds, from this one on. Where one of the two goes wrong its script is printed.
-fn run_all<R>(rt: R, first: u64)
+/// Runs of ten seeds, from this one on, in which a peer may have so many requests at once. Where one of the two
+/// goes wrong its script is printed.
+fn run_all<R>(rt: R, first: u64, limit: Option<NonZeroU32>)
 where
     R: Abort + Print + Wait + RandomSource + AllocGlobal + Copy + Drop + Send + 'static,
 {
     for seed in first..first.saturating_add(10) {
-        let settings = [setting(1, seed), setting(2, seed.wrapping_add(1000))];
+        let settings = [
+            setting(1, seed, limit),
+            setting(2, seed.wrapping_add(1000), limit),
+        ];
         let mut course = Course {
             now: 0,
             index: 0,
@@ -267,50 +281,55 @@ where
 
 #[test]
 fn seeds_from_0(rt: HostRuntime) {
-    run_all(rt, 0);
+    run_all(rt, 0, None);
 }
 
 #[test]
 fn seeds_from_10(rt: HostRuntime) {
-    run_all(rt, 10);
+    run_all(rt, 10, None);
 }
 
 #[test]
 fn seeds_from_20(rt: HostRuntime) {
-    run_all(rt, 20);
+    run_all(rt, 20, None);
 }
 
 #[test]
 fn seeds_from_30(rt: HostRuntime) {
-    run_all(rt, 30);
+    run_all(rt, 30, None);
 }
 
 #[test]
 fn seeds_from_40(rt: HostRuntime) {
-    run_all(rt, 40);
+    run_all(rt, 40, None);
 }
 
 #[test]
 fn seeds_from_50(rt: HostRuntime) {
-    run_all(rt, 50);
+    run_all(rt, 50, None);
 }
 
 #[test]
 fn seeds_from_60(rt: HostRuntime) {
-    run_all(rt, 60);
+    run_all(rt, 60, None);
 }
 
 #[test]
 fn seeds_from_70(rt: HostRuntime) {
-    run_all(rt, 70);
+    run_all(rt, 70, None);
 }
 
 #[test]
 fn seeds_from_80(rt: HostRuntime) {
-    run_all(rt, 80);
+    run_all(rt, 80, None);
 }
 
 #[test]
 fn seeds_from_90(rt: HostRuntime) {
-    run_all(rt, 90);
+    run_all(rt, 90, None);
+}
+
+#[test]
+fn seeds_with_a_limit_of_two(rt: HostRuntime) {
+    run_all(rt, 100, NonZeroU32::new(2));
 }

@@ -9,5 +9,6 @@ pub mod InVain
 pub mod TriesAll
 pub mod TriesPairs
 pub mod WakesLater
+pub mod Weights
 pub mod NeedsPairs
 pub mod ChoosesBelow

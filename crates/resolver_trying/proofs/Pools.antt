@@ -3,7 +3,7 @@ use Rattle.std.proofs.Common.{◌≡◌, refl, ap, sym, ◌∙◌, ℕ, zero, su
 use Rattle.std.specs.BTreeMap.{is_at}
 use Rattle.std.specs.Cmp.{IsTotalOrder}
 use Rattle.std.specs.List.Sorted.{IsStrictlySortedBy}
-use Rattle.std.specs.Map.{set_value}
+use Rattle.std.specs.Map.{keys_of, set_value}
 use Rattle.std.specs.Ordering.{is_eq}
 use Rattle.std.specs.Option.{option_copied}
 use Rattle.std.specs.Prelude.{IfSome, is_some, nat_lt, sum}
@@ -19,12 +19,16 @@ use Rattle.resolver_trees.specs.Choice.{chosen}
 use Rattle.resolver_request.specs.Left.{restored}
 use Rattle.resolver_trees.specs.SumTrees.{mark}
 use Rattle.resolver_trees.proofs.Choices.{chosen-first, chosen-later}
-use Rattle.resolver_trees.proofs.Marks.{marks-set, marks-stay}
+use Rattle.resolver_trees.proofs.Marks.{marks-set}
 use Rattle.resolver_request.proofs.Restored.{restored-last, restored-length}
-use Rattle.resolver_trying.specs.Pools.{IsNamed, IsPool, is_named, weighing}
+use Rattle.resolver_trying.specs.Pools.{IsNamed, IsPool, is_named, weighing, weighted}
 use Rattle.resolver_trying.specs.Trying.{apart_from, at_place, at_weight, weights_of}
 use Rattle.resolver_trying.proofs.Searched.{before-named, named-within, none-behind, or-neither}
 use Rattle.resolver_trying.proofs.Tried.{equal-back, equal-is}
+
+-- the names that weigh something, with what they weigh
+abbrev pub weighing_of : {P : Type 0} → List P → (weights : List ℕ) → List (P × ℕ)
+weighing_of names weights = weighing (weighted names weights)
 
 sum-cons : (w : ℕ) (ws : List ℕ) → sum (w ∷ ws) ≡ w + sum ws
 sum-cons w ws = sum_by-cons (λ x. x) w ws
@@ -50,58 +54,58 @@ got None xs k some is = let past : length xs ≤ k = grind (arith, nat_tests, so
 got (Some x) xs k some is = let within : k < length xs = grind (arith, nat_tests, some) in sym (get-at xs k x.now within is)
 
 module _ {P : Type 0} where
-  pub some-weighs : (n : P) (ns : List P) (w : ℕ) (ws : List ℕ) → 0 < w → weighing (n ∷ ns) (w ∷ ws) ≡ (n, w) ∷ weighing ns ws
+  pub some-weighs : (n : P) (ns : List P) (w : ℕ) (ws : List ℕ) → 0 < w → weighing_of (n ∷ ns) (w ∷ ws) ≡ (n, w) ∷ weighing_of ns ws
   some-weighs n ns w ws some = rw (lt-ltb 0 w some) refl
 
-  none-weighs : (n : P) (ns : List P) (w : ℕ) (ws : List ℕ) → w ≤ 0 → weighing (n ∷ ns) (w ∷ ws) ≡ weighing ns ws
+  none-weighs : (n : P) (ns : List P) (w : ℕ) (ws : List ℕ) → w ≤ 0 → weighing_of (n ∷ ns) (w ∷ ws) ≡ weighing_of ns ws
   none-weighs n ns w ws none = rw (le-ltb 0 w none) refl
 
   -- those that weigh nothing add nothing
-  pub same-total : (ns : List P) (ws : List ℕ) → length ns ≡ length ws → sum (weights_of (weighing ns ws)) ≡ sum ws
+  pub same-total : (ns : List P) (ws : List ℕ) → length ns ≡ length ws → sum (weights_of (weighing_of ns ws)) ≡ sum ws
   same-total [] [] many = refl
   same-total [] (w ∷ ws) many = absurd (omega (arith, many))
   same-total (n ∷ ns) [] many = absurd (omega (arith, many))
   same-total (n ∷ ns) (w ∷ ws) many =
-      let rest : sum (weights_of (weighing ns ws)) ≡ sum ws = same-total ns ws (omega (arith, many)) in
+      let rest : sum (weights_of (weighing_of ns ws)) ≡ sum ws = same-total ns ws (omega (arith, many)) in
       elim (cases_lt 0 w) [
         | inl some ↦
-            let here : sum (weights_of (weighing (n ∷ ns) (w ∷ ws))) ≡ sum (w ∷ weights_of (weighing ns ws)) = ap (λ (ps : List (P × ℕ)). sum (weights_of ps)) (some-weighs n ns w ws some) in
-            omega (arith, here, sum-cons w (weights_of (weighing ns ws)), sum-cons w ws, rest)
+            let here : sum (weights_of (weighing_of (n ∷ ns) (w ∷ ws))) ≡ sum (w ∷ weights_of (weighing_of ns ws)) = ap (λ (ps : List (P × ℕ)). sum (weights_of ps)) (some-weighs n ns w ws some) in
+            omega (arith, here, sum-cons w (weights_of (weighing_of ns ws)), sum-cons w ws, rest)
         | inr none ↦
-            let here : sum (weights_of (weighing (n ∷ ns) (w ∷ ws))) ≡ sum (weights_of (weighing ns ws)) = ap (λ (ps : List (P × ℕ)). sum (weights_of ps)) (none-weighs n ns w ws none) in
+            let here : sum (weights_of (weighing_of (n ∷ ns) (w ∷ ws))) ≡ sum (weights_of (weighing_of ns ws)) = ap (λ (ps : List (P × ℕ)). sum (weights_of ps)) (none-weighs n ns w ws none) in
             omega (arith, here, sum-cons w ws, none, rest)
       ]
 
   -- one mark for each that weighs something
-  pub same-count : (ns : List P) (ws : List ℕ) → length ns ≡ length ws → length (weighing ns ws) ≡ sum (map mark ws)
+  pub same-count : (ns : List P) (ws : List ℕ) → length ns ≡ length ws → length (weighing_of ns ws) ≡ sum (map mark ws)
   same-count [] [] many = refl
   same-count [] (w ∷ ws) many = absurd (omega (arith, many))
   same-count (n ∷ ns) [] many = absurd (omega (arith, many))
   same-count (n ∷ ns) (w ∷ ws) many =
-      let rest : length (weighing ns ws) ≡ sum (map mark ws) = same-count ns ws (omega (arith, many)) in
+      let rest : length (weighing_of ns ws) ≡ sum (map mark ws) = same-count ns ws (omega (arith, many)) in
       elim (cases_lt 0 w) [
         | inl some ↦
-            let here : length (weighing (n ∷ ns) (w ∷ ws)) ≡ suc (length (weighing ns ws)) = ap length (some-weighs n ns w ws some) in
+            let here : length (weighing_of (n ∷ ns) (w ∷ ws)) ≡ suc (length (weighing_of ns ws)) = ap length (some-weighs n ns w ws some) in
             omega (arith, here, sum-cons (mark w) (map mark ws), some-mark w some, rest)
         | inr none ↦
-            let here : length (weighing (n ∷ ns) (w ∷ ws)) ≡ length (weighing ns ws) = ap length (none-weighs n ns w ws none) in
+            let here : length (weighing_of (n ∷ ns) (w ∷ ws)) ≡ length (weighing_of ns ws) = ap length (none-weighs n ns w ws none) in
             omega (arith, here, sum-cons (mark w) (map mark ws), no-mark w none, rest)
       ]
 
   -- a number chooses the same peer by all weights and by those of the peers left
   weight-chooses : (ns : List P) (ws : List ℕ) (k : ℕ) → length ns ≡ length ws → k < sum ws
-      → at_place (weighing ns ws) (chosen (weights_of (weighing ns ws)) k) ≡ slice_get ns (chosen ws k)
+      → at_place (weighing_of ns ws) (chosen (weights_of (weighing_of ns ws)) k) ≡ slice_get ns (chosen ws k)
   weight-chooses [] [] k many below = absurd (omega (arith, below))
   weight-chooses [] (w ∷ ws) k many below = absurd (omega (arith, many))
   weight-chooses (n ∷ ns) [] k many below = absurd (omega (arith, many))
   weight-chooses (n ∷ ns) (w ∷ ws) k many below =
-      let left : List (P × ℕ) = weighing ns ws in
+      let left : List (P × ℕ) = weighing_of ns ws in
       let whole : sum (w ∷ ws) ≡ w + sum ws = sum-cons w ws in
       let later : (j : ℕ) → j < sum ws → at_place left (chosen (weights_of left) j) ≡ slice_get ns (chosen ws j) =
       λ j less. weight-chooses ns ws j (omega (arith, many)) less in
       elim (cases_lt 0 w) [
         | inl some ↦
-            let here : at_place (weighing (n ∷ ns) (w ∷ ws)) (chosen (weights_of (weighing (n ∷ ns) (w ∷ ws))) k) ≡ at_place ((n, w) ∷ left) (chosen (w ∷ weights_of left) k) =
+            let here : at_place (weighing_of (n ∷ ns) (w ∷ ws)) (chosen (weights_of (weighing_of (n ∷ ns) (w ∷ ws))) k) ≡ at_place ((n, w) ∷ left) (chosen (w ∷ weights_of left) k) =
             ap (λ (ps : List (P × ℕ)). at_place ps (chosen (weights_of ps) k)) (some-weighs n ns w ws some) in
             elim (cases_lt k w) [
               | inl first ↦
@@ -123,20 +127,20 @@ module _ {P : Type 0} where
       ]
 
   -- whom a number below the total chooses by weight
-  pub chosen-by-weight : (ns : List P) (ws : List ℕ) (k : ℕ) → length ns ≡ length ws → k < sum ws → at_weight (weighing ns ws) k ≡ slice_get ns (chosen ws k)
+  pub chosen-by-weight : (ns : List P) (ws : List ℕ) (k : ℕ) → length ns ≡ length ws → k < sum ws → at_weight (weighing_of ns ws) k ≡ slice_get ns (chosen ws k)
   chosen-by-weight ns ws k many below =
-      let left : List (P × ℕ) = weighing ns ws in
+      let left : List (P × ℕ) = weighing_of ns ws in
       ap (λ (b : Bool). if b then at_place left (chosen (weights_of left) k) else None) (lt-ltb k (sum (weights_of left)) (omega (arith, same-total ns ws many, below)))
       ∙ weight-chooses ns ws k many below
 
   -- one past the total chooses none
-  pub none-by-weight : (ns : List P) (ws : List ℕ) (k : ℕ) → length ns ≡ length ws → sum ws ≤ k → at_weight (weighing ns ws) k ≡ None
+  pub none-by-weight : (ns : List P) (ws : List ℕ) (k : ℕ) → length ns ≡ length ws → sum ws ≤ k → at_weight (weighing_of ns ws) k ≡ None
   none-by-weight ns ws k many past =
-      let left : List (P × ℕ) = weighing ns ws in
+      let left : List (P × ℕ) = weighing_of ns ws in
       ap (λ (b : Bool). if b then at_place left (chosen (weights_of left) k) else None) (le-ltb k (sum (weights_of left)) (omega (arith, same-total ns ws many, past)))
 
   -- whom a number below the count chooses by place
-  pub chosen-by-place : (ns : List P) (ws : List ℕ) (k : ℕ) → length ns ≡ length ws → k < sum (map mark ws) → at_place (weighing ns ws) k ≡ slice_get ns (chosen (map mark ws) k)
+  pub chosen-by-place : (ns : List P) (ws : List ℕ) (k : ℕ) → length ns ≡ length ws → k < sum (map mark ws) → at_place (weighing_of ns ws) k ≡ slice_get ns (chosen (map mark ws) k)
   chosen-by-place [] [] k many below = absurd (omega (arith, below))
   chosen-by-place [] (w ∷ ws) k many below = absurd (omega (arith, many))
   chosen-by-place (n ∷ ns) [] k many below = absurd (omega (arith, many))
@@ -150,8 +154,8 @@ module _ {P : Type 0} where
             ∙ chosen-by-place ns ws k (omega (arith, many)) (omega (arith, below, whole, no-mark w none))
             ∙ sym (ap (slice_get (n ∷ ns)) (chosen-later (mark w) (map mark ws) k (omega (arith, no-mark w none))) ∙ get-next n ns (chosen (map mark ws) (k - mark w)) ∙ ap (λ (j : ℕ). slice_get ns (chosen (map mark ws) j)) less)
       ] where
-        first : (k : ℕ) → k < sum (map mark (w ∷ ws)) → ((j : ℕ) → suc j < sum (map mark (w ∷ ws)) → at_place (weighing ns ws) j ≡ slice_get ns (chosen (map mark ws) j)) → 0 < w
-            → at_place (weighing (n ∷ ns) (w ∷ ws)) k ≡ slice_get (n ∷ ns) (chosen (map mark (w ∷ ws)) k)
+        first : (k : ℕ) → k < sum (map mark (w ∷ ws)) → ((j : ℕ) → suc j < sum (map mark (w ∷ ws)) → at_place (weighing_of ns ws) j ≡ slice_get ns (chosen (map mark ws) j)) → 0 < w
+            → at_place (weighing_of (n ∷ ns) (w ∷ ws)) k ≡ slice_get (n ∷ ns) (chosen (map mark (w ∷ ws)) k)
         first zero below later some =
             ap (λ (ps : List (P × ℕ)). at_place ps 0) (some-weighs n ns w ws some)
             ∙ sym (ap (slice_get (n ∷ ns)) (chosen-first (mark w) (map mark ws) 0 (omega (arith, some-mark w some))))
@@ -162,9 +166,9 @@ module _ {P : Type 0} where
             ∙ sym (ap (slice_get (n ∷ ns)) (chosen-later (mark w) (map mark ws) (suc k) (omega (arith, some-mark w some))) ∙ get-next n ns (chosen (map mark ws) (suc k - mark w)) ∙ ap (λ (j : ℕ). slice_get ns (chosen (map mark ws) j)) less)
 
   -- one past the count chooses none
-  pub none-by-place : (ns : List P) (ws : List ℕ) (k : ℕ) → length ns ≡ length ws → sum (map mark ws) ≤ k → at_place (weighing ns ws) k ≡ None
+  pub none-by-place : (ns : List P) (ws : List ℕ) (k : ℕ) → length ns ≡ length ws → sum (map mark ws) ≤ k → at_place (weighing_of ns ws) k ≡ None
   none-by-place ns ws k many past =
-      ap (option_map (λ (p : P × ℕ). p.0)) (slice_get_past (weighing ns ws) k (omega (arith, same-count ns ws many, past)))
+      ap (option_map (λ (p : P × ℕ). p.0)) (slice_get_past (weighing_of ns ws) k (omega (arith, same-count ns ws many, past)))
 
 module _ {P : Type 0} {R : P → P → Ordering} (total : IsTotalOrder R) (x : P) where
   keeps-other : (n : P) (w : ℕ) (ps : List (P × ℕ)) → is_eq (R n x) ≡ false → apart_from R x ((n, w) ∷ ps) ≡ (n, w) ∷ apart_from R x ps
@@ -174,7 +178,7 @@ module _ {P : Type 0} {R : P → P → Ordering} (total : IsTotalOrder R) (x : P
   drops-same n w ps same = rw same refl
 
   -- where the peer is none of the names, all of them are others
-  pub all-others : (ns : List P) (ws : List ℕ) → is_named R ns x ≡ false → apart_from R x (weighing ns ws) ≡ weighing ns ws
+  pub all-others : (ns : List P) (ws : List ℕ) → is_named R ns x ≡ false → apart_from R x (weighing_of ns ws) ≡ weighing_of ns ws
   all-others [] ws none = refl
   all-others (n ∷ ns) [] none = refl
   all-others (n ∷ ns) (w ∷ ws) none =
@@ -183,128 +187,68 @@ module _ {P : Type 0} {R : P → P → Ordering} (total : IsTotalOrder R) (x : P
       elim (cases_lt 0 w) [
         | inl some ↦
             ap (apart_from R x) (some-weighs n ns w ws some)
-            ∙ keeps-other n w (weighing ns ws) both.0
+            ∙ keeps-other n w (weighing_of ns ws) both.0
             ∙ ap (λ (ps : List (P × ℕ)). (n, w) ∷ ps) rest
             ∙ sym (some-weighs n ns w ws some)
         | inr weightless ↦ ap (apart_from R x) (none-weighs n ns w ws weightless) ∙ rest ∙ sym (none-weighs n ns w ws weightless)
       ]
 
   -- the others are left, once the place of the peer weighs nothing
-  pub others-left : (ns : List P) (ws : List ℕ) (i : ℕ) → IsStrictlySortedBy R ns → IsNamed R ns i x → weighing ns (slice_set ws i 0) ≡ apart_from R x (weighing ns ws)
+  pub others-left : (ns : List P) (ws : List ℕ) (i : ℕ) → IsStrictlySortedBy R ns → IsNamed R ns i x → weighing_of ns (slice_set ws i 0) ≡ apart_from R x (weighing_of ns ws)
   others-left [] ws i sorted named = absurd named
   others-left (n ∷ ns) [] i sorted named = refl
   others-left (n ∷ ns) (w ∷ ws) zero sorted named =
-      let rest : apart_from R x (weighing ns ws) ≡ weighing ns ws = all-others ns ws (none-behind total x n (equal-is (R n x) named) ns (sorted_head R n ns sorted)) in
+      let rest : apart_from R x (weighing_of ns ws) ≡ weighing_of ns ws = all-others ns ws (none-behind total x n (equal-is (R n x) named) ns (sorted_head R n ns sorted)) in
       elim (cases_lt 0 w) [
-        | inl some ↦ sym (ap (apart_from R x) (some-weighs n ns w ws some) ∙ drops-same n w (weighing ns ws) named ∙ rest)
+        | inl some ↦ sym (ap (apart_from R x) (some-weighs n ns w ws some) ∙ drops-same n w (weighing_of ns ws) named ∙ rest)
         | inr none ↦ sym (ap (apart_from R x) (none-weighs n ns w ws none) ∙ rest)
       ]
   others-left (n ∷ ns) (w ∷ ws) (suc i) sorted named =
-      let rest : weighing ns (slice_set ws i 0) ≡ apart_from R x (weighing ns ws) = others-left ns ws i (sorted_tail R n ns sorted) named in
+      let rest : weighing_of ns (slice_set ws i 0) ≡ apart_from R x (weighing_of ns ws) = others-left ns ws i (sorted_tail R n ns sorted) named in
       let other : is_eq (R n x) ≡ false = ap is_eq (before-named total x n ns i (sorted_head R n ns sorted) named) in
       elim (cases_lt 0 w) [
         | inl some ↦
             some-weighs n ns w (slice_set ws i 0) some
             ∙ ap (λ (ps : List (P × ℕ)). (n, w) ∷ ps) rest
-            ∙ sym (ap (apart_from R x) (some-weighs n ns w ws some) ∙ keeps-other n w (weighing ns ws) other)
+            ∙ sym (ap (apart_from R x) (some-weighs n ns w ws some) ∙ keeps-other n w (weighing_of ns ws) other)
         | inr none ↦ none-weighs n ns w (slice_set ws i 0) none ∙ rest ∙ sym (ap (apart_from R x) (none-weighs n ns w ws none))
       ]
 
   -- how many others are left
   pub count-others : (ns : List P) (ws : List ℕ) (i : ℕ) → IsStrictlySortedBy R ns → length ns ≡ length ws → IsNamed R ns i x
-      → length (apart_from R x (weighing ns ws)) + slice_index (map mark ws) i ≡ sum (map mark ws)
+      → length (apart_from R x (weighing_of ns ws)) + slice_index (map mark ws) i ≡ sum (map mark ws)
   count-others ns ws i sorted many named =
       let within : i < length (map mark ws) = omega (arith, named-within R x ns i named, many, length-map ws mark) in
-      let count : length (weighing ns (slice_set ws i 0)) ≡ sum (map mark (slice_set ws i 0)) = same-count ns (slice_set ws i 0) (many ∙ sym (length-set ws i 0)) in
+      let count : length (weighing_of ns (slice_set ws i 0)) ≡ sum (map mark (slice_set ws i 0)) = same-count ns (slice_set ws i 0) (many ∙ sym (length-set ws i 0)) in
       let marks : sum (map mark (slice_set ws i 0)) ≡ sum (slice_set (map mark ws) i 0) = ap sum (marks-set ws i 0) in
-      let same : length (weighing ns (slice_set ws i 0)) ≡ length (apart_from R x (weighing ns ws)) = ap length (others-left ns ws i sorted named) in
+      let same : length (weighing_of ns (slice_set ws i 0)) ≡ length (apart_from R x (weighing_of ns ws)) = ap length (others-left ns ws i sorted named) in
       let less : sum (slice_set (map mark ws) i 0) + slice_index (map mark ws) i ≡ sum (map mark ws) + 0 = sum_by-set (λ m. m) (map mark ws) i 0 0 within in
       omega (arith, count, marks, same, less)
 
-  set-later : (n : P) (w : ℕ) (ps : List (P × ℕ)) (v : ℕ) → is_eq (R n x) ≡ false → set_value (is_at (R x)) ((n, w) ∷ ps) v ≡ (n, w) ∷ set_value (is_at (R x)) ps v
-  set-later n w ps v other = let turned : is_eq (R x n) ≡ false = equal-back total x n ∙ other in rw turned refl
-
   -- where the peer is none of the names no weight is set
-  pub set-none : (ns : List P) (ws : List ℕ) (v : ℕ) → is_named R ns x ≡ false → set_value (is_at (R x)) (weighing ns ws) v ≡ weighing ns ws
+  pub set-none : (ns : List P) (ws : List ℕ) (v : ℕ) → is_named R ns x ≡ false → set_value (is_at (R x)) (weighted ns ws) v ≡ weighted ns ws
   set-none [] ws v none = refl
   set-none (n ∷ ns) [] v none = refl
   set-none (n ∷ ns) (w ∷ ws) v none =
       let both = or-neither (is_eq (R n x)) (is_named R ns x) none in
-      let rest : set_value (is_at (R x)) (weighing ns ws) v ≡ weighing ns ws = set-none ns ws v both.1 in
-      elim (cases_lt 0 w) [
-        | inl some ↦
-            ap (λ (ps : List (P × ℕ)). set_value (is_at (R x)) ps v) (some-weighs n ns w ws some)
-            ∙ set-later n w (weighing ns ws) v both.0
-            ∙ ap (λ (ps : List (P × ℕ)). (n, w) ∷ ps) rest
-            ∙ sym (some-weighs n ns w ws some)
-        | inr weightless ↦ ap (λ (ps : List (P × ℕ)). set_value (is_at (R x)) ps v) (none-weighs n ns w ws weightless) ∙ rest ∙ sym (none-weighs n ns w ws weightless)
-      ]
+      let turned : is_eq (R x n) ≡ false = equal-back total x n ∙ both.0 in
+      let rest : set_value (is_at (R x)) (weighted ns ws) v ≡ weighted ns ws = set-none ns ws v both.1 in
+      rw (turned, rest) refl
 
-  set-first : (n : P) (w : ℕ) (ps : List (P × ℕ)) (v : ℕ) → is_eq (R n x) ≡ true → set_value (is_at (R x)) ((n, w) ∷ ps) v ≡ (n, v) ∷ ps
-  set-first n w ps v same = let turned : is_eq (R x n) ≡ true = equal-back total x n ∙ same in rw turned refl
+  -- a peer weighs something else, where its place does
+  pub set-here : (ns : List P) (ws : List ℕ) (i v : ℕ) → IsStrictlySortedBy R ns → IsNamed R ns i x → weighted ns (slice_set ws i v) ≡ set_value (is_at (R x)) (weighted ns ws) v
+  set-here [] ws i v sorted named = absurd named
+  set-here (n ∷ ns) [] i v sorted named = refl
+  set-here (n ∷ ns) (w ∷ ws) zero v sorted named = let turned : is_eq (R x n) ≡ true = equal-back total x n ∙ named in rw turned refl
+  set-here (n ∷ ns) (w ∷ ws) (suc i) v sorted named =
+      let rest : weighted ns (slice_set ws i v) ≡ set_value (is_at (R x)) (weighted ns ws) v = set-here ns ws i v (sorted_tail R n ns sorted) named in
+      let turned : is_eq (R x n) ≡ false = equal-back total x n ∙ ap is_eq (before-named total x n ns i (sorted_head R n ns sorted) named) in
+      rw (turned, rest) refl
 
-  -- a peer that is left weighs something else, where its place does
-  pub set-here : (ns : List P) (ws : List ℕ) (i v : ℕ) → IsStrictlySortedBy R ns → IsNamed R ns i x → 0 < slice_index ws i → 0 < v
-      → weighing ns (slice_set ws i v) ≡ set_value (is_at (R x)) (weighing ns ws) v
-  set-here [] ws i v sorted named some positive = absurd named
-  set-here (n ∷ ns) [] i v sorted named some positive = refl
-  set-here (n ∷ ns) (w ∷ ws) zero v sorted named some positive =
-      some-weighs n ns v ws positive
-      ∙ sym (ap (λ (ps : List (P × ℕ)). set_value (is_at (R x)) ps v) (some-weighs n ns w ws some) ∙ set-first n w (weighing ns ws) v named)
-  set-here (n ∷ ns) (w ∷ ws) (suc i) v sorted named some positive =
-      let rest : weighing ns (slice_set ws i v) ≡ set_value (is_at (R x)) (weighing ns ws) v = set-here ns ws i v (sorted_tail R n ns sorted) named some positive in
-      let other : is_eq (R n x) ≡ false = ap is_eq (before-named total x n ns i (sorted_head R n ns sorted) named) in
-      elim (cases_lt 0 w) [
-        | inl weighs ↦
-            some-weighs n ns w (slice_set ws i v) weighs
-            ∙ ap (λ (ps : List (P × ℕ)). (n, w) ∷ ps) rest
-            ∙ sym (ap (λ (ps : List (P × ℕ)). set_value (is_at (R x)) ps v) (some-weighs n ns w ws weighs) ∙ set-later n w (weighing ns ws) v other)
-        | inr none ↦ none-weighs n ns w (slice_set ws i v) none ∙ rest ∙ sym (ap (λ (ps : List (P × ℕ)). set_value (is_at (R x)) ps v) (none-weighs n ns w ws none))
-      ]
-
-  -- one that weighs nothing does so still
-  pub set-weightless : (ns : List P) (ws : List ℕ) (i v : ℕ) → IsStrictlySortedBy R ns → IsNamed R ns i x → slice_index ws i ≤ 0
-      → set_value (is_at (R x)) (weighing ns ws) v ≡ weighing ns ws
-  set-weightless [] ws i v sorted named none = absurd named
-  set-weightless (n ∷ ns) [] i v sorted named none = refl
-  set-weightless (n ∷ ns) (w ∷ ws) zero v sorted named none =
-      let rest : set_value (is_at (R x)) (weighing ns ws) v ≡ weighing ns ws = set-none ns ws v (none-behind total x n (equal-is (R n x) named) ns (sorted_head R n ns sorted)) in
-      ap (λ (ps : List (P × ℕ)). set_value (is_at (R x)) ps v) (none-weighs n ns w ws none) ∙ rest ∙ sym (none-weighs n ns w ws none)
-  set-weightless (n ∷ ns) (w ∷ ws) (suc i) v sorted named none =
-      let rest : set_value (is_at (R x)) (weighing ns ws) v ≡ weighing ns ws = set-weightless ns ws i v (sorted_tail R n ns sorted) named none in
-      let other : is_eq (R n x) ≡ false = ap is_eq (before-named total x n ns i (sorted_head R n ns sorted) named) in
-      elim (cases_lt 0 w) [
-        | inl weighs ↦
-            ap (λ (ps : List (P × ℕ)). set_value (is_at (R x)) ps v) (some-weighs n ns w ws weighs)
-            ∙ set-later n w (weighing ns ws) v other
-            ∙ ap (λ (ps : List (P × ℕ)). (n, w) ∷ ps) rest
-            ∙ sym (some-weighs n ns w ws weighs)
-        | inr weightless ↦ ap (λ (ps : List (P × ℕ)). set_value (is_at (R x)) ps v) (none-weighs n ns w ws weightless) ∙ rest ∙ sym (none-weighs n ns w ws weightless)
-      ]
-
--- a mark says whether there is a weight
-pub marked : (ws : List ℕ) (i : ℕ) → slice_index (map mark ws) i ≡ mark (slice_index ws i)
-marked [] i = refl
-marked (w ∷ ws) zero = refl
-marked (w ∷ ws) (suc i) = marked ws i
-
-pub weighs-marked : (w : ℕ) → 0 < mark w → 0 < w
-weighs-marked w some =
-    elim (cases_lt 0 w) [
-      | inl weighs ↦ weighs
-      | inr none ↦ absurd (omega (arith, some, no-mark w none))
-    ]
-
-pub weightless-unmarked : (w : ℕ) → mark w ≤ 0 → w ≤ 0
-weightless-unmarked w none =
-    elim (cases_lt 0 w) [
-      | inl weighs ↦ absurd (omega (arith, none, some-mark w weighs))
-      | inr weightless ↦ weightless
-    ]
-
--- a weight that stays one leaves the marks as they were
-pub marks-kept : (ws : List ℕ) (i v : ℕ) → i < length ws → 0 < slice_index ws i → 0 < v → map mark (slice_set ws i v) ≡ map mark ws
-marks-kept ws i v within some positive = marks-stay ws i v within (some-mark (slice_index ws i) some ∙ sym (some-mark v positive))
+-- what is made of names and weights has them
+pub weighted-apart : {P : Type 0} (ps : List (P × ℕ)) → weighted (keys_of ps) (weights_of ps) ≡ ps
+weighted-apart [] = refl
+weighted-apart (p ∷ ps) = ap (λ qs. p ∷ qs) (weighted-apart ps)
 
 -- one place more that is taken changes nothing in what there was
 pub restored-more : (ws : List ℕ) (taken : List (ℕ × ℕ)) (i : ℕ) → restored (slice_set ws i 0) (taken ++ (i, slice_index ws i) ∷ []) ≡ restored ws taken
@@ -347,12 +291,12 @@ module _ {P : Type 0} (R : P → P → Ordering) (ns : List P) (ws cs : List ℕ
   }
 
   -- and after a weight became another
-  pub weighs-else : (i v : ℕ) → i < length ws → 0 < slice_index ws i → 0 < v → IsPool R ns (slice_set ws i v) cs taken
-  weighs-else i v within some positive =
+  pub weighs-else : (i v : ℕ) → IsPool R ns (slice_set ws i v) (slice_set cs i (mark v)) taken
+  weighs-else i v =
       let same : length (slice_set ws i v) ≡ length ws = length-set ws i v in
       record {
         ordered = pool.ordered;
         many = omega (arith, pool.many, same);
-        counted = pool.counted ∙ sym (marks-kept ws i v within some positive);
+        counted = ap (λ (ms : List ℕ). slice_set ms i (mark v)) pool.counted ∙ sym (marks-set ws i v);
         within = λ k d it. omega (arith, pool.within k d it, same);
       }

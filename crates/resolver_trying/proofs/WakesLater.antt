@@ -1,22 +1,18 @@
 -- A scan in vain wakes later, and leaves every weight.
-use Rattle.std.proofs.Common.{◌≡◌, refl, sym, subst, ℕ, ◌+◌, ◌<◌, min, Bool, true, false, List, [], ◌∷◌, Option, None, Some, Result, Ok, Err, if◌then◌else◌, arith}
+use Rattle.std.proofs.Common.{◌≡◌, refl, sym, subst, ℕ, ◌+◌, ◌<◌, min, Bool, true, false, List, [], ◌∷◌, Option, None, Some, if◌then◌else◌, arith}
 use Rattle.std.proofs.lemmas.Bool.{leb-false}
 use Rattle.std.specs.Prelude.{unwrap_or}
-use Rattle.resolver_base.specs.declared.base.fault.Fault.{Fault}
-use Rattle.resolver_asked.specs.declared.requests.request.Request.{Request}
 use Rattle.resolver_request.specs.Times.{never}
 use Rattle.resolver_trying.specs.declared.place.Place.{Place}
-use Rattle.resolver_trying.specs.declared.scan.Answer.{Answer}
 use Rattle.resolver_trying.specs.declared.trail.Reason.{Reason}
 use Rattle.resolver_trying.specs.declared.trail.Reason.TheVariants.{Limited, Refused}
 use Rattle.resolver_trying.specs.declared.trail.Try.{Try}
 use Rattle.resolver_trying.specs.Orders.{Orders}
 use Rattle.resolver_trying.specs.Waiting.{Waiting, wake_up}
 use Rattle.resolver_trying.specs.Snapshot.{Snapshot}
-use Rattle.resolver_trying.specs.Scan as scans
 use Rattle.resolver_trying.specs.Scan.{Scan, Turn, begins, ends, goes_on_with, is_due, least, least_until, limit_of, next, next_due, trail_moment, waiter_of}
-use Rattle.resolver_trying.specs.Fetcher.{Fetcher, answered, pending_deadline, scan_taken, snapshot, turned, weight, with_sent}
-use Rattle.resolver_trying.specs.FetcherLaws.{AllAre, IsInVain, IsLaterIfAny, IsLaterLimit, KeepsWeights, WakesLater}
+use Rattle.resolver_trying.specs.Fetcher.{Fetcher, pending_deadline, snapshot, turned}
+use Rattle.resolver_trying.specs.FetcherLaws.{AllAre, IsInVain, IsLaterIfAny, IsLaterLimit, WakesLater}
 use Rattle.resolver_trying.proofs.InVain.{goes-on, takes-in-vain}
 
 module _ (now : ℕ) where
@@ -97,22 +93,4 @@ module _ {K P : Type 0} (o : Orders K P) where
   wakes_later = record {
     at_once = λ f now waits fits. begins-later f now waits fits;
     later = λ f scan answer t e waits fits limits vain. takes-in-vain o (snapshot o f) (IsLater f waits) (ends-later f waits) scan answer t e vain fits limits;
-  }
-
-  weight-sent : (f : Fetcher K P) (peer : P) (sent : Option (ℕ × Request K P)) → weight o peer (with_sent o sent f) ≡ weight o peer f
-  weight-sent f peer None = refl
-  weight-sent f peer (Some r) = refl
-
-  weight-taken : (f : Fetcher K P) (peer : P) (r : Result (Turn K P) Fault) → weight o peer (scan_taken o f r).1 ≡ weight o peer f
-  weight-taken f peer (Ok t) = weight-sent f peer t.sent
-  weight-taken f peer (Err fault) = refl
-
-  weight-answered : (f : Fetcher K P) (peer : P) (answer : Answer) (scan : Option (Scan K P)) → weight o peer (answered o f answer scan).1 ≡ weight o peer f
-  weight-answered f peer answer None = refl
-  weight-answered f peer answer (Some scan) = weight-taken f peer (scans.takes o (snapshot o f) scan answer)
-
-  pub keeps_weights : KeepsWeights o
-  keeps_weights = record {
-    begun = λ f peer now. weight-sent f peer (begins o (snapshot o f) now).sent;
-    answered = λ f peer answer. weight-answered f peer answer f.scan;
   }

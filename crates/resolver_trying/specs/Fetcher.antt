@@ -17,7 +17,7 @@ use Rattle.resolver_trying.specs.declared.scan.Ask.TheVariants as asks
 use Rattle.resolver_asked.specs.Ids.{is_held}
 use Rattle.resolver_trying.specs.Orders.{Orders}
 use Rattle.resolver_request.specs.Times.{elapsed_since, charged}
-use Rattle.resolver_trying.specs.Waiting.{Waiting, place_order, fresh_at, retry_at, once_more, wake_up}
+use Rattle.resolver_trying.specs.Waiting.{Waiting, place_order, fresh_at, retry_at, once_more, waiter_freed, wake_up}
 use Rattle.resolver_asked.specs.Requests.{ids_of, is_asked, soonest, overdue, matching, without_request}
 use Rattle.resolver_trying.specs.Peers.{replaced, observed, with_targets, set_of}
 use Rattle.resolver_trying.specs.Known.{weight_in}
@@ -156,6 +156,10 @@ module _ {K P : Type 0} (o : Orders K P) where
   abbrev pub without_id : (id : ℕ) → Fetcher K P → Fetcher K P
   without_id id f = record f { asked = without_request id f.asked }
 
+  -- so is one that is answered; where requests are limited, its peer may be asked again, and the waiter is clear
+  abbrev pub freed : (id : ℕ) → Fetcher K P → Fetcher K P
+  freed id f = record (without_id id f) { waiter = waiter_freed f.configuration.peer_limit f.waiter }
+
   -- a peer is charged for a time that did not help
   abbrev pub charge : P → (time : ℕ) → Fetcher K P → Fetcher K P
   charge peer time f = record_response peer (charged time f.configuration.retry_delay) 0 f
@@ -170,7 +174,7 @@ module _ {K P : Type 0} (o : Orders K P) where
 
   abbrev pub popped_response : Fetcher K P → (id now : ℕ) → Option (Request K P) → Option (K × ℕ) × Fetcher K P
   popped_response f id now None = (None, f)
-  popped_response f id now (Some r) = (Some (r.key, elapsed_since r.start now), without_id id f)
+  popped_response f id now (Some r) = (Some (r.key, elapsed_since r.start now), freed id f)
 
   -- the request of this id and this peer, and how long it took
   abbrev pub pop_response : (id : ℕ) → P → (now : ℕ) → Fetcher K P → Option (K × ℕ) × Fetcher K P
@@ -178,7 +182,7 @@ module _ {K P : Type 0} (o : Orders K P) where
 
   abbrev pub popped_request : Fetcher K P → (id : ℕ) → Option (Request K P) → Option (Request K P) × Fetcher K P
   popped_request f id None = (None, f)
-  popped_request f id (Some r) = (Some r, without_id id f)
+  popped_request f id (Some r) = (Some r, freed id f)
 
   -- the whole request of this id and this peer
   abbrev pub pop_request : (id : ℕ) → P → Fetcher K P → Option (Request K P) × Fetcher K P
@@ -234,7 +238,7 @@ module _ {K P : Type 0} (o : Orders K P) where
 
   -- the weight with which a peer of the set is drawn
   abbrev pub weight : P → Fetcher K P → Option ℕ
-  weight peer f = weight_in o.peer (known (snapshot f)) peer
+  weight peer f = weight_in o.peer (known o (snapshot f)) peer
 
 module _ {K P : Type 0} where
   -- when a scan may do something; none: no key waits

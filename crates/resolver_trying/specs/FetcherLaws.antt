@@ -1,9 +1,9 @@
 -- What holds of every scan.
-use Rattle.std.specs.Prelude.{◌≡◌, ℕ, ◌<◌, ◌⊎◌, Bool, true, false, List, [], ◌∷◌, Option, None, Some, is_some, nat_lt, length, sum, Result, Ok, Err, ⊤}
+use Rattle.std.specs.Prelude.{◌≡◌, ℕ, ◌<◌, ◌⊎◌, Bool, true, false, ◌&&◌, option_map, List, [], ◌∷◌, Option, None, Some, is_some, nat_lt, length, sum, Result, Ok, Err, ⊤}
 use Rattle.resolver_base.specs.declared.base.fault.Fault.{Fault}
 use Rattle.resolver_request.specs.declared.score.Averages.{Averages}
 use Rattle.resolver_trying.specs.declared.scan.Answer.{Answer}
-use Rattle.resolver_trying.specs.declared.scan.Answer.TheVariants.{Drawn}
+use Rattle.resolver_trying.specs.declared.scan.Answer.TheVariants.{Drawn, Sent}
 use Rattle.resolver_trying.specs.declared.scan.Ask.{Ask}
 use Rattle.resolver_trying.specs.declared.scan.Ask.TheVariants as asks
 use Rattle.resolver_trying.specs.declared.trail.Expected.{Expected}
@@ -16,9 +16,11 @@ use Rattle.resolver_request.specs.Scores.{weight_of}
 use Rattle.resolver_request.specs.Times.{never}
 use Rattle.resolver_trying.specs.Orders.{Orders, same_peer}
 use Rattle.resolver_trying.specs.Waiting.{Waiting}
-use Rattle.resolver_trying.specs.Snapshot.{Snapshot, eligible}
+use Rattle.resolver_asked.specs.Loads.{is_full}
+use Rattle.resolver_trying.specs.Snapshot.{Snapshot, eligible, known}
 use Rattle.resolver_trying.specs.Scan.{Scan, Turn, is_over, is_due, was_tried, least_until, weights, by_weight, by_place, left, begins, answered, takes, question_for, question}
-use Rattle.resolver_trying.specs.Fetcher.{Fetcher, pending_deadline, scan_begin, scan_answer, snapshot, turned, weight}
+use Rattle.resolver_trying.specs.Fetcher as calls
+use Rattle.resolver_trying.specs.Fetcher.{AsksNewId, Fetcher, pending_deadline, scan_begin, scan_answer, snapshot, turned, weight}
 
 -- each of these is so
 abbrev pub AllAre : {X : Type 0} → (X → Type 0) → List X → Type 0
@@ -43,6 +45,11 @@ IsLaterIfAny now (Some moment) = now < moment
 abbrev pub IsLaterLimit : (now : ℕ) → Reason → Type 0
 IsLaterLimit now (Limited until) = now < until
 IsLaterLimit now Refused = ⊤
+
+-- no weight, where this is so
+abbrev pub weight_unless : (is_full : Bool) → (weight : Option ℕ) → Option ℕ
+weight_unless true weight = option_map (λ w. 0) weight
+weight_unless false weight = weight
 
 -- what an answer makes of a scan; a refused one changes nothing
 abbrev pub unless_refused : {K P : Type 0} → Turn K P → Result (Turn K P) Fault → Turn K P
@@ -114,10 +121,17 @@ module _ {K P : Type 0} (o : Orders K P) where
         → 0 < f.configuration.retry_delay → t.scan.moment < never → AllAre (λ y. IsLaterLimit t.scan.moment y.reason) t.scan.trail
         → IsInVain t → IsLaterIfAny t.scan.moment (pending_deadline (turned o t f))
 
-  -- A scan leaves every weight as it was.
+  -- whether a request to a peer is accepted
+  abbrev pub is_sent_to : P → Option (Ask K P) → Answer → Bool
+  is_sent_to peer (Some (asks.Request other id key priority)) (Sent true) = same_peer o other peer
+  is_sent_to peer ask answer = false
+
+  -- A scan leaves every weight as it was, but that of a peer that an accepted request brings to the limit: it is nothing then.
   pub record KeepsWeights : Type 0 where
     pub begun : (f : Fetcher K P) (peer : P) (now : ℕ) → weight o peer (scan_begin o now f) ≡ weight o peer f
-    pub answered : (f : Fetcher K P) (peer : P) (answer : Answer) → weight o peer (scan_answer o answer f).1 ≡ weight o peer f
+    pub answered : (f : Fetcher K P) (peer : P) (answer : Answer) → AsksNewId o f (calls.question o f)
+        → let after = (scan_answer o answer f).1 in
+        weight o peer after ≡ weight_unless (is_sent_to peer (calls.question o f) answer && is_full (known o (snapshot o after)).load peer) (weight o peer f)
 
 -- how many of the numbers that a question asks for pass as its answers
 abbrev pub count_answers : {K P : Type 0} → Ask K P → (Answer → Bool) → ℕ

@@ -4,6 +4,7 @@ use Rattle.std.specs.BTreeMap.{is_at}
 use Rattle.std.specs.Map.{lookup}
 use Rattle.std.specs.Ordering.{is_eq}
 use Rattle.std.specs.declared.cmp.Ordering.{Ordering}
+use Rattle.resolver_asked.specs.Loads.{Counts, Load, is_full, loaded}
 use Rattle.resolver_request.specs.declared.score.Averages.{Averages}
 use Rattle.resolver_trying.specs.Orders.{is_one_of}
 use Rattle.resolver_request.specs.Scores.{weight_of}
@@ -14,8 +15,25 @@ pub record Known (P : Type 0) : Type 0 where
   -- the latest set, in the order of the peers
   pub set : List (P × Averages)
   pub blocked : List P
+  -- none: requests are not limited
+  pub load : Option (Load P)
+
+-- the same, with what is counted of the requests
+pub record Company (P : Type 0) : Type 0 where
+  pub local : Option P
+  pub set : List (P × Averages)
+  pub blocked : List P
+  -- none: requests are not limited
+  pub counts : Option (Counts P)
+
+-- another load
+abbrev pub with_load : {P : Type 0} → (Option (Load P) → Option (Load P)) → Known P → Known P
+with_load change known = record known { load = change known.load }
 
 module _ {P : Type 0} (by_peer : P → P → Ordering) where
+  abbrev pub known_by : Company P → Known P
+  known_by c = record { local = c.local; set = c.set; blocked = c.blocked; load = option_map (loaded by_peer) c.counts }
+
   abbrev pub is_local : Option P → P → Bool
   is_local None p = false
   is_local (Some local) p = is_eq (by_peer local p)
@@ -26,7 +44,7 @@ module _ {P : Type 0} (by_peer : P → P → Ordering) where
 
   -- whether a peer of the set may be asked for any key
   abbrev pub may_be_asked : Known P → P → Bool
-  may_be_asked known p = not (is_local known.local p) && not (is_one_of by_peer known.blocked p)
+  may_be_asked known p = not (is_local known.local p) && not (is_one_of by_peer known.blocked p) && not (is_full known.load p)
 
   -- whether a peer of the set may be asked for a key with these targets
   abbrev pub is_eligible : Known P → Option (List P) → P → Bool

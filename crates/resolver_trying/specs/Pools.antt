@@ -1,33 +1,44 @@
 -- Peers with what they weigh, as a scan draws from them.
-use Rattle.std.specs.Prelude.{◌≡◌, ℕ, ◌<◌, Bool, true, false, zero, suc, nat_lt, List, [], ◌∷◌, length, map, All, Option, None, Some, option_map, IfSome, if◌then◌else◌}
+use Rattle.std.specs.Prelude.{◌≡◌, ℕ, ◌+◌, ◌-◌, ◌<◌, Bool, true, false, zero, suc, nat_lt, List, [], ◌∷◌, length, map, filter, All, Option, None, Some, IfSome, if◌then◌else◌}
 use Rattle.std.specs.BTreeMap.{is_at}
 use Rattle.std.specs.List.{list_any}
 use Rattle.std.specs.List.Sorted.{IsStrictlySortedBy}
-use Rattle.std.specs.Map.{lookup, set_value}
+use Rattle.std.specs.Map.{set_value}
 use Rattle.std.specs.Ordering.{is_eq}
 use Rattle.std.specs.declared.cmp.Ordering.{Ordering}
-use Rattle.resolver_request.specs.declared.score.Averages.{Averages}
-use Rattle.resolver_request.specs.Scores.{Observation, averaged, weight_of}
 use Rattle.resolver_trees.specs.SumTrees.{mark}
-use Rattle.resolver_trying.specs.Known.{Known, eligible}
-use Rattle.resolver_trying.specs.Trying.{weighed}
+use Rattle.resolver_trying.specs.Known.{Known, weight_in}
+use Rattle.resolver_trying.specs.Trying.{sampled}
 
--- peers in their order with what they weigh: all of them, and those that are left to draw
+-- peers in their order with what they weigh: all of them, of which some may weigh nothing, and those that are left to draw
 pub record Pool (P : Type 0) : Type 0 where
   pub all : List (P × ℕ)
   pub left : List (P × ℕ)
 
 module _ {P : Type 0} where
-  -- all are left
-  abbrev pub whole : List (P × ℕ) → Pool P
-  whole ps = record { all = ps; left = ps }
+  -- those that weigh something
+  abbrev pub weighing : List (P × ℕ) → List (P × ℕ)
+  weighing ps = filter (λ p. nat_lt 0 p.1) ps
 
-  -- the names that weigh something, with what they weigh
-  abbrev pub weighing : List P → (weights : List ℕ) → List (P × ℕ)
-  weighing [] weights = []
-  weighing (name ∷ names) [] = []
-  weighing (name ∷ names) (weight ∷ weights) =
-      if nat_lt 0 weight then (name, weight) ∷ weighing names weights else weighing names weights
+  -- all that weigh something are left
+  abbrev pub whole : List (P × ℕ) → Pool P
+  whole ps = record { all = ps; left = weighing ps }
+
+  -- names, with what they weigh
+  abbrev pub weighted : List P → (weights : List ℕ) → List (P × ℕ)
+  weighted [] weights = []
+  weighted (name ∷ names) [] = []
+  weighted (name ∷ names) (weight ∷ weights) = (name, weight) ∷ weighted names weights
+
+-- whether what weighs this is drawn
+abbrev pub weighs : (weight : Option ℕ) → Bool
+weighs None = false
+weighs (Some weight) = nat_lt 0 weight
+
+-- how many are drawn, where one weighs this that weighed that before
+abbrev pub recounted : (before now : Option ℕ) → (count : ℕ) → ℕ
+recounted before now count =
+    if weighs now then (if weighs before then count else count + 1) else (if weighs before then count - 1 else count)
 
 module _ {P : Type 0} (by_peer : P → P → Ordering) where
   -- whether a peer is one of some names
@@ -50,14 +61,14 @@ module _ {P : Type 0} (by_peer : P → P → Ordering) where
   reweighed peer None pool = pool
   reweighed peer (Some weight) pool = whole (set_value (is_at (by_peer peer)) pool.all weight)
 
-  -- what a peer of the set weighs once this was observed
-  abbrev pub weight_then : List (P × Averages) → P → Observation → Option ℕ
-  weight_then set peer observation =
-      option_map (λ averages. weight_of (averaged averages observation)) (lookup (is_at (by_peer peer)) set)
+  -- peers, of which this one has what it weighs now, if it is in the set
+  abbrev pub resampled : Known P → Option P → List (P × ℕ) → List (P × ℕ)
+  resampled known None ps = ps
+  resampled known (Some peer) ps = (reweighed peer (weight_in by_peer known peer) (whole ps)).all
 
-  -- a pool that is at hand has all that a key without targets may be asked of
+  -- a pool that is at hand has all of the set
   abbrev pub IsWhole : Known P → Option (Pool P) → Type 0
-  IsWhole known at_hand = IfSome at_hand (λ pool. pool ≡ whole (weighed (eligible by_peer known None)))
+  IsWhole known at_hand = IfSome at_hand (λ pool. pool ≡ whole (sampled by_peer known))
 
 -- names in their order, each with what it weighs, and a mark where that is something
 pub record IsPool {P : Type 0} (by_peer : P → P → Ordering) (names : List P) (weights counts : List ℕ) (taken : List (ℕ × ℕ)) : Type 0 where

@@ -1,8 +1,10 @@
 -- What a scan reads, and which peers may be asked.
-use Rattle.std.specs.Prelude.{ℕ, List, Option}
+use Rattle.std.specs.Prelude.{ℕ, List, Option, option_map}
+use Rattle.std.specs.NonZero.{non_zero_u32_get}
 use Rattle.resolver_request.specs.declared.score.Averages.{Averages}
 use Rattle.resolver_trying.specs.declared.config.Config.{Config}
 use Rattle.resolver_asked.specs.declared.requests.request.Request.{Request}
+use Rattle.resolver_asked.specs.Loads.{load_of}
 use Rattle.resolver_trying.specs.Orders.{Orders}
 use Rattle.resolver_trying.specs.Known as peers
 use Rattle.resolver_trying.specs.Known.{Known}
@@ -21,11 +23,15 @@ pub record Snapshot (K P : Type 0) : Type 0 where
   -- none: no id was ever taken
   pub last_id : Option ℕ
 
-module _ {K P : Type 0} where
-  -- what is known of the peers
-  abbrev pub known : Snapshot K P → Known P
-  known s = record { local = s.configuration.me; set = s.peers; blocked = s.blocked }
+-- what is known of the peers
+abbrev pub known : {K P : Type 0} → Orders K P → Snapshot K P → Known P
+known o s = record {
+  local = s.configuration.me;
+  set = s.peers;
+  blocked = s.blocked;
+  load = load_of o.peer (option_map non_zero_u32_get s.configuration.peer_limit) s.asked;
+}
 
 -- the peers that may be asked for a key with these targets
 abbrev pub eligible : {K P : Type 0} → Orders K P → Snapshot K P → Option (List P) → List (P × Averages)
-eligible o s targets = peers.eligible o.peer (known s) targets
+eligible o s targets = peers.eligible o.peer (known o s) targets

@@ -1,5 +1,5 @@
 -- The key that a scan tries, and the peers that are left for it.
-use Rattle.std.specs.Prelude.{ℕ, not, nat_lt, List, map, sum, Option, None, option_map, filter, if◌then◌else◌}
+use Rattle.std.specs.Prelude.{ℕ, not, nat_lt, List, map, sum, Option, None, Some, option_map, filter, if◌then◌else◌}
 use Rattle.std.specs.List.{slice_get}
 use Rattle.std.specs.Ordering.{is_eq}
 use Rattle.std.specs.declared.cmp.Ordering.{Ordering}
@@ -10,16 +10,17 @@ use Rattle.resolver_trees.specs.Choice.{chosen}
 use Rattle.resolver_trying.specs.Orders.{Orders}
 use Rattle.resolver_request.specs.Scores.{weight_of}
 use Rattle.resolver_trying.specs.Waiting.{Waiting}
-use Rattle.resolver_trying.specs.Snapshot.{Snapshot, eligible}
+use Rattle.resolver_trying.specs.Known.{Known, eligible, sampling_weight}
+use Rattle.resolver_trying.specs.Snapshot.{Snapshot, known}
 use Rattle.resolver_trying.specs.Scan.{Scan, left, next}
 
 pub record Trying (K P : Type 0) : Type 0 where
   pub place : Place
   pub key : K
   pub retries : ℕ
-  -- the peers that may be asked for it, in their order, with what they weigh
+  -- the peers that it is drawn from, in their order, with what they weigh; some may weigh nothing
   pub all : List (P × ℕ)
-  -- those of them that were not tried for it
+  -- those that may be asked for it and were not tried for it
   pub left : List (P × ℕ)
 
 module _ {P : Type 0} where
@@ -42,13 +43,23 @@ module _ {P : Type 0} where
   abbrev pub apart_from : (P → P → Ordering) → P → List (P × ℕ) → List (P × ℕ)
   apart_from by_peer peer ps = filter (λ p. not (is_eq (by_peer p.0 peer))) ps
 
+module _ {P : Type 0} (by_peer : P → P → Ordering) where
+  -- the peers of the set, with what they weigh for a key without targets
+  abbrev pub sampled : Known P → List (P × ℕ)
+  sampled known = map (λ p. (p.0, sampling_weight by_peer known p)) known.set
+
+  -- the peers that are drawn from for a key with these targets; some may weigh nothing
+  abbrev pub drawn_from : Known P → Option (List P) → List (P × ℕ)
+  drawn_from known None = sampled known
+  drawn_from known (Some targets) = weighed (eligible by_peer known (Some targets))
+
 module _ {K P : Type 0} (o : Orders K P) where
   abbrev pub trying_for : Snapshot K P → List (Try K P) → K × Waiting P → Trying K P
   trying_for s trail w = record {
     place = w.1.place;
     key = w.0;
     retries = w.1.retries;
-    all = weighed (eligible o s w.1.targets);
+    all = drawn_from o.peer (known o s) w.1.targets;
     left = weighed (left o s trail w);
   }
 

@@ -33,6 +33,11 @@ abbrev pub wake_up : {X : Type 0} → (X → ℕ) → List X → (waiter : Optio
 wake_up due_of [] waiter = None
 wake_up due_of (w ∷ ws) waiter = Some (max (due_of w) (unwrap_or waiter 0))
 
+-- Where requests are limited, a response clears the waiter: its peer may be asked again.
+abbrev pub waiter_freed : {N : Type 0} → (limit : Option N) → (waiter : Option ℕ) → Option ℕ
+waiter_freed None waiter = waiter
+waiter_freed (Some most) waiter = None
+
 module _ {K P : Type 0} (o : Orders K P) where
   -- fresh keys before retries, then the earlier due, then the smaller key
   abbrev pub waiting_order : K × Waiting P → K × Waiting P → Ordering

@@ -1,5 +1,7 @@
 //! How requests are made.
 
+use std::num::NonZeroU32;
+
 /// How requests are made. Durations are in nanoseconds.
 #[derive(Clone, Debug, Drop)]
 pub struct Config<P> {
@@ -9,6 +11,8 @@ pub struct Config<P> {
     pub fetch_timeout: u128,
     /// How long a key waits before it is tried again.
     pub retry_delay: u128,
+    /// How many requests without an answer one peer may have, if that is limited.
+    pub peer_limit: Option<NonZeroU32>,
     /// Whether requests are sent before other messages.
     pub priority_requests: bool,
 }

@@ -8,7 +8,7 @@ ghost use Rattle.std.specs.Option.{option_copied};
 ghost use Rattle.resolver_base.specs.declared.base.fault.Fault.TheVariants.{OutOfMemory};
 ghost use Rattle.resolver_request.specs.Left.{restored};
 ghost use Rattle.resolver_trees.specs.SumTrees.{mark};
-ghost use Rattle.resolver_trying.specs.Pools.{IsFound, weighing, whole};
+ghost use Rattle.resolver_trying.specs.Pools.{IsFound, whole};
 ghost use Rattle.resolver_trying.specs.Trying.{apart_from, at_place, at_weight, weights_of};
 
 use resolver_base::base::Fault;
@@ -32,13 +32,13 @@ pub struct Pool<P: Ord> {
 
 impl<P: Ord> Model for Pool<P> {
     ghost use Rattle.resolver_request.specs.Left.{restored};
-    ghost use Rattle.resolver_trying.specs.Pools.{IsPool, Pool, weighing};
+    ghost use Rattle.resolver_trying.specs.Pools.{IsPool, Pool, weighing, weighted};
 
     ghost Value = { Pool P };
 
     ghost view = { λ a. record {
-      all = weighing a.names.items (restored a.weights a.taken.items);
-      left = weighing a.names.items a.weights;
+      all = weighted a.names.items (restored a.weights a.taken.items);
+      left = weighing (weighted a.names.items a.weights);
     } };
 
     ghost invariant = { λ a. IsPool P.cmp a.names.items a.weights a.counts a.taken.items };
@@ -56,12 +56,11 @@ impl<P: Ord + Drop> Drop for Pool<P> {
 }
 
 impl<P: Ord + Drop> Pool<P> {
-    /// These peers, which stand in their order, all left; one that weighs nothing is none of them.
-    /// It takes linear time.
+    /// These peers, which stand in their order; those are left that weigh something. It takes linear
+    /// time.
     pub fn new(alloc: Global, peers: Vec<(P, u64)>) -> Result<Self, Fault>
         requires ordered { IsStrictlySortedBy P.cmp (keys_of peers.items) }
-        ensures ok { IfOk result
-            (λ pool. pool ≡ whole (weighing (keys_of peers.items) (weights_of peers.items))) }
+        ensures ok { IfOk result (λ pool. pool ≡ whole peers.items) }
         ensures only { IfErr result (λ fault. fault ≡ OutOfMemory) }
     {
         let (names, weights) = apart(alloc, peers)?;
@@ -140,23 +139,21 @@ impl<P: Ord + Drop> Pool<P> {
         Ok(())
     }
 
-    /// All are left again. It takes time linear in those that were taken, times a logarithm.
+    /// All that weigh something are left again. It takes time linear in those that were taken, times a logarithm.
     pub fn restore(&mut self)
         ensures { self.new ≡ whole self.old.all }
     {
         restore(&mut self.weights, &mut self.counts, &mut self.taken);
     }
 
-    /// All are left again, and this peer weighs this, if it is one of them.
+    /// This peer weighs this, if it is one of them, and all that weigh something are left again.
     pub fn set(&mut self, peer: &P, weight: u64)
-        requires positive { 0 < weight }
         ensures { self.new ≡ whole (set_value (is_at (P.cmp peer.now)) self.old.all weight) }
     {
         restore(&mut self.weights, &mut self.counts, &mut self.taken);
         if let Some(place) = place_of(&self.names, peer) {
-            if self.counts.weight(place) > 0 {
-                self.weights.set(place, weight);
-            }
+            self.weights.set(place, weight);
+            self.counts.set(place, mark(weight));
         }
     }
 }

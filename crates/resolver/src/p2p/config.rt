@@ -1,6 +1,6 @@
 //! What an engine is made of.
 
-use std::num::NonZeroUsize;
+use std::num::{NonZeroU32, NonZeroUsize};
 
 /// What an engine is made of, and how it asks. Durations are in nanoseconds, below 2^94.
 #[derive(Drop)]
@@ -21,6 +21,10 @@ pub struct Config<P, D, B, C, O> {
     pub fetch_timeout: u128,
     /// How long a key waits before it is tried again.
     pub fetch_retry_delay: u128,
+    /// How many requests without an answer one peer may have at once; with none it may have any number.
+    /// A peer that has as many is full: it is asked for no key until one of them is answered, runs out
+    /// of time, or ends with its key.
+    pub peer_limit: Option<NonZeroU32>,
     /// Whether requests are sent before other messages.
     pub priority_requests: bool,
     /// Whether replies are sent before other messages.

@@ -7,6 +7,7 @@ use bytes::Bytes;
 use resolver_base::base::{Check, Draws, Fault, Feedback, Sender, Unreliable};
 use resolver_fetch::fetcher::{Config, Fetcher};
 use std::alloc::Global;
+use std::num::NonZeroU32;
 
 /// Draws nothing but zeros.
 #[derive(Drop)]
@@ -40,6 +41,8 @@ pub enum Call {
     Reconcile(&'static [Peer]),
     Block(&'static [Peer]),
     Fetch(u32),
+    /// The time of a request may be over.
+    Expire(u32),
 }
 
 /// The worked row of the wake-up.
@@ -59,11 +62,25 @@ pub const FIRST_REQUEST: &[Call] = &[
     Call::Fetch(40),
 ];
 
+/// Two peers have as many requests as they may have, and a key waits until the time of one is over.
+pub const FULL: &[Call] = &[
+    Call::Reconcile(&[Peer(3), Peer(4)]),
+    Call::Ready(1, 30),
+    Call::Ready(2, 40),
+    Call::Ready(3, 40),
+    Call::Fetch(40),
+    Call::Fetch(40),
+    Call::Fetch(40),
+    Call::Expire(90),
+    Call::Fetch(90),
+];
+
 /// What the fetcher of a row is made with.
 const CONFIG: Config<Peer> = Config {
     me: None,
     fetch_timeout: 50,
     retry_delay: 10,
+    peer_limit: None,
     priority_requests: false,
 };
 
@@ -73,6 +90,39 @@ pub type Asker = Fetcher<Name, Peer>;
 impl Fresh for Asker {
     fn fresh(alloc: Global) -> Self {
         Fetcher::new(alloc, CONFIG)
+    }
+}
+
+/// A fetcher that asks a peer for one key at once.
+pub struct Sparing {
+    asker: Asker,
+}
+
+impl Drop for Sparing {
+    fn drop(self) {
+        let Self { asker: _ } = self;
+    }
+}
+
+impl Fresh for Sparing {
+    fn fresh(alloc: Global) -> Self {
+        let config = Config {
+            peer_limit: Some(NonZeroU32::MIN),
+            ..CONFIG
+        };
+        Sparing {
+            asker: Fetcher::new(alloc, config),
+        }
+    }
+}
+
+impl Part<Call> for Sparing {
+    fn take(&mut self, alloc: Global, call: &Call) -> Result<(), Fault> {
+        Part::<Call>::take(&mut self.asker, alloc, call)
+    }
+
+    fn show(&mut self, alloc: Global, way: Way, notes: &mut Notes) {
+        Part::<Call>::show(&mut self.asker, alloc, way, notes);
     }
 }
 
@@ -86,6 +136,10 @@ impl Part<Call> for Asker {
             Call::Reconcile(peers) => self.reconcile(peers.to_vec(alloc)?),
             Call::Block(peers) => self.set_blocked(peers.to_vec(alloc)?),
             Call::Fetch(now) => self.fetch(&mut Willing, &mut Zeros, u128::from(*now)),
+            Call::Expire(now) => {
+                drop(self.pop_active(u128::from(*now)));
+                Ok(())
+            }
         }
     }
 

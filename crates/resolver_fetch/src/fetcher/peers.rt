@@ -1,17 +1,20 @@
 //! The peers that may be asked.
 
-ghost use Rattle.std.specs.Prelude.{◌≡◌, ◌↔◌, ◌<◌, None, Some, [], option_map, option_to_list, IsTrue, IfOk, IfErr, IfSome, OnErr, OnOk};
+ghost use Rattle.std.specs.Prelude.{◌≡◌, ◌↔◌, ◌+◌, ◌<◌, ◌^◌, is_some, None, Some, [], option_map, option_to_list, length, IsTrue, IfOk, IfErr, IfSome, OnErr, OnOk};
 ghost use Rattle.std.specs.List.{IsDistinct};
 ghost use Rattle.std.specs.List.Sorted.{IsStrictlySortedBy};
 ghost use Rattle.std.specs.Map.{keys_of};
 ghost use Rattle.std.specs.Option.{option_copied};
 ghost use Rattle.std.specs.Ordering.{eq_by_cmp};
 ghost use Rattle.resolver_base.specs.declared.base.fault.Fault.TheVariants.{OutOfMemory};
-ghost use Rattle.resolver_trying.specs.Known.{askable, askable_at, eligible, is_eligible, is_local, is_target, may_be_asked, weight_in};
+ghost use Rattle.resolver_trying.specs.Known.{known_by, with_load, askable, askable_at, eligible, is_eligible, is_local, is_target, may_be_asked, weight_in};
 ghost use Rattle.resolver_trying.specs.Peers.{observed, replaced, set_of};
-ghost use Rattle.resolver_trying.specs.Pools.{IsWhole, reweighed, weight_then, whole};
-ghost use Rattle.resolver_trying.specs.Trying.{weighed};
+ghost use Rattle.resolver_asked.specs.Loads.{counted, is_full, loaded, one_fewer, one_more};
+ghost use Rattle.std.specs.NonZero.{non_zero_u32_get};
+ghost use Rattle.resolver_trying.specs.Pools.{IsWhole, recounted, reweighed, weighs, whole};
+ghost use Rattle.resolver_trying.specs.Trying.{drawn_from, sampled, weighed};
 
+use resolver_asked::load::Load;
 use resolver_base::base::Fault;
 use resolver_request::score::Score;
 use resolver_trying::pool::Pool;
@@ -20,34 +23,43 @@ use std::alloc::{AllocError, Global};
 use std::collections::{BTreeMap, BTreeSet};
 use std::marker::Model;
 use std::mem;
+use std::num::NonZeroU32;
 
-/// The latest set of peers with their scores, the local name, and the peers that are blocked.
+/// The latest set of peers with their scores, the local name, the peers that are blocked, and how
+/// many requests each peer has, where they are limited.
 ///
 /// A call on one peer takes time logarithmic in their number.
 pub(super) struct Peers<P: Ord> {
     local: Option<P>,
     set: BTreeMap<P, Score>,
     blocked: BTreeSet<P>,
+    load: Option<Load<P>>,
     /// How many peers may be asked at all.
     allowed: usize,
-    /// Those peers with what they weigh, unless a scan has them or they are to be made anew.
+    /// The set with what each peer weighs, unless a scan has it or it is to be made anew.
     pool: Option<Pool<P>>,
     alloc: Global,
 }
 
 impl<P: Ord> Model for Peers<P> {
     ghost use Rattle.std.specs.Prelude.{◌≡◌};
-    ghost use Rattle.resolver_trying.specs.Known.{Known, askable};
+    ghost use Rattle.resolver_trying.specs.Known.{Company, askable, known_by};
     ghost use Rattle.resolver_trying.specs.Pools.{IsWhole};
 
-    ghost Value = { Known P };
+    ghost Value = { Company P };
 
-    ghost view = { λ a. record { local = a.local; set = a.set.entries; blocked = a.blocked.keys } };
+    ghost view = { λ a. record {
+      local = a.local;
+      set = a.set.entries;
+      blocked = a.blocked.keys;
+      counts = a.load;
+    } };
 
-    ghost invariant = { λ a. (a.allowed ≡ askable P.cmp
-        (record { local = a.local; set = a.set.entries; blocked = a.blocked.keys }))
-        × IsWhole P.cmp
-        (record { local = a.local; set = a.set.entries; blocked = a.blocked.keys }) a.pool };
+    ghost invariant = { λ a. (a.allowed ≡ askable P.cmp (known_by P.cmp
+        (record { local = a.local; set = a.set.entries; blocked = a.blocked.keys; counts = a.load })))
+        × IsWhole P.cmp (known_by P.cmp
+        (record { local = a.local; set = a.set.entries; blocked = a.blocked.keys; counts = a.load }))
+        a.pool };
 }
 
 impl<P: Ord + Drop> Drop for Peers<P> {
@@ -56,6 +68,7 @@ impl<P: Ord + Drop> Drop for Peers<P> {
             local: _,
             set: _,
             blocked: _,
+            load: _,
             allowed: _,
             pool: _,
             alloc: _,
@@ -64,14 +77,24 @@ impl<P: Ord + Drop> Drop for Peers<P> {
 }
 
 impl<P: Ord + Drop> Peers<P> {
-    /// No peers, of which this one would be the local one.
-    pub(super) fn new(alloc: Global, local: Option<P>) -> Self
-        ensures { result ≡ record { local = local; set = []; blocked = [] } }
+    /// No peers, of which this one would be the local one, and each may have so many requests.
+    pub(super) fn new(alloc: Global, local: Option<P>, limit: Option<NonZeroU32>) -> Self
+        ensures value { result ≡ record {
+          local = local;
+          set = [];
+          blocked = [];
+          counts = option_map (λ most. record { limit = non_zero_u32_get most; counts = [] }) limit;
+        } }
     {
+        let load = match limit {
+            Some(limit) => Some(Load::new(alloc, limit)),
+            None => None,
+        };
         Peers {
             local,
             set: BTreeMap::new(alloc),
             blocked: BTreeSet::new(alloc),
+            load,
             allowed: 0,
             pool: None,
             alloc,
@@ -85,31 +108,73 @@ impl<P: Ord + Drop> Peers<P> {
         let _count = self.set.len();
     }
 
-    /// The set is in the order of the peers. This does nothing.
+    /// The set is in the order of the peers, and they can be counted. This does nothing.
     pub(super) fn order(&self)
-        ensures { IsStrictlySortedBy P.cmp (keys_of self.now.set) }
+        ensures ordered { IsStrictlySortedBy P.cmp (keys_of self.now.set) }
+        ensures few { length self.now.set < 2 ^ 63 }
     {
         let _count = self.set.len();
     }
 
     /// Whether no peer may be asked for any key, in constant time.
     pub(super) fn none_askable(&self) -> bool
-        ensures { IsTrue result ↔ (askable P.cmp self.now ≡ 0) }
+        ensures { IsTrue result ↔ (askable P.cmp (known_by P.cmp self.now) ≡ 0) }
     {
         self.allowed == 0
     }
 
-    /// The weight with which a peer of the set is drawn: 0 where it is the local one or blocked,
-    /// else that of its score. There is none for other peers.
-    pub(super) fn weight(&self, peer: &P) -> Option<u64>
-        ensures { result ≡ weight_in P.cmp self.now peer.now }
+    /// Whether the requests of one peer are limited.
+    pub(super) fn is_limited(&self) -> bool
+        ensures { result ≡ is_some self.now.counts }
     {
-        let score = self.set.get(peer)?;
-        if self.may_be_asked(peer) {
-            Some(score.weight())
-        } else {
-            Some(0)
+        self.load.is_some()
+    }
+
+    /// A peer has one request more. Where memory is wanting, nothing changes.
+    ///
+    /// The name is cloned; clones are to equal their sources.
+    pub(super) fn sent(&mut self, peer: &P) -> Result<(), Fault>
+    where
+        P: Clone,
+        requires peers_clone { (x y : P) → P.is_clone x y → y ≡ x }
+        requires room { IfSome self.old.counts
+            (λ c. counted P.cmp c.counts peer.now + 1 < 2 ^ 64) }
+        ensures ok { OnOk result (known_by P.cmp self.new
+            ≡ with_load (option_map (one_more P.cmp peer.now)) (known_by P.cmp self.old)) }
+        ensures err { OnErr result (self.new ≡ self.old) }
+        ensures only { IfErr result (λ fault. fault ≡ OutOfMemory) }
+    {
+        self.order();
+        let before = self.weight(peer);
+        add_to(&mut self.load, peer)?;
+        let now = weight(&self.local, &self.set, &self.blocked, &self.load, peer);
+        self.allowed = recounted(self.allowed, before, now);
+        reweigh(&mut self.pool, peer, now);
+        Ok(())
+    }
+
+    /// A peer has one request fewer.
+    pub(super) fn freed(&mut self, peer: &P)
+        ensures { known_by P.cmp self.new
+            ≡ with_load (option_map (one_fewer P.cmp peer.now)) (known_by P.cmp self.old) }
+    {
+        self.order();
+        if !self.is_limited() {
+            return;
         }
+        let before = self.weight(peer);
+        remove_from(&mut self.load, peer);
+        let now = weight(&self.local, &self.set, &self.blocked, &self.load, peer);
+        self.allowed = recounted(self.allowed, before, now);
+        reweigh(&mut self.pool, peer, now);
+    }
+
+    /// The weight with which a peer of the set is drawn: 0 where it is the local one, blocked or
+    /// full, else that of its score. There is none for other peers.
+    pub(super) fn weight(&self, peer: &P) -> Option<u64>
+        ensures { result ≡ weight_in P.cmp (known_by P.cmp self.now) peer.now }
+    {
+        weight(&self.local, &self.set, &self.blocked, &self.load, peer)
     }
 
     /// The peers that may be asked for a key with these targets, in their order, with what they
@@ -122,7 +187,7 @@ impl<P: Ord + Drop> Peers<P> {
         P: Clone,
         requires peers_clone { (x y : P) → P.is_clone x y → y ≡ x }
         ensures ok { IfOk result
-            (λ peers. peers.items ≡ weighed (eligible P.cmp self.now (option_copied targets.entry))) }
+            (λ peers. peers.items ≡ weighed (eligible P.cmp (known_by P.cmp self.now) (option_copied targets.entry))) }
         ensures only { IfErr result (λ fault. fault ≡ OutOfMemory) }
     {
         match targets {
@@ -137,7 +202,7 @@ impl<P: Ord + Drop> Peers<P> {
         P: Clone,
         requires peers_clone { (x y : P) → P.is_clone x y → y ≡ x }
         ensures ok { IfOk result
-            (λ peers. peers.items ≡ weighed (eligible P.cmp self.now (option_copied targets.entry))) }
+            (λ peers. peers.items ≡ weighed (eligible P.cmp (known_by P.cmp self.now) (option_copied targets.entry))) }
         ensures only { IfErr result (λ fault. fault ≡ OutOfMemory) }
     {
         let mut peers = Vec::new(self.alloc);
@@ -156,7 +221,7 @@ impl<P: Ord + Drop> Peers<P> {
         requires peers_clone { (x y : P) → P.is_clone x y → y ≡ x }
         requires ordered { IsStrictlySortedBy P.cmp (keys_of self.now.set) }
         ensures ok { IfOk result
-            (λ peers. peers.items ≡ weighed (eligible P.cmp self.now (Some targets.now))) }
+            (λ peers. peers.items ≡ weighed (eligible P.cmp (known_by P.cmp self.now) (Some targets.now))) }
         ensures only { IfErr result (λ fault. fault ≡ OutOfMemory) }
     {
         let mut peers = Vec::new(self.alloc);
@@ -172,7 +237,7 @@ impl<P: Ord + Drop> Peers<P> {
     fn askable_at(&self, name: &P) -> Option<(&P, u64)>
         requires ordered { IsStrictlySortedBy P.cmp (keys_of self.now.set) }
         ensures { option_to_list (option_map (λ p. (p.0.now, p.1)) result)
-            ≡ weighed (askable_at P.cmp self.now name.now) }
+            ≡ weighed (askable_at P.cmp (known_by P.cmp self.now) name.now) }
     {
         let (peer, score) = self.set.get_key_value(name)?;
         if self.may_be_asked(peer) {
@@ -184,35 +249,35 @@ impl<P: Ord + Drop> Peers<P> {
 
     /// Whether a peer of the set may be asked for a key with these targets.
     fn is_eligible(&self, targets: Option<&Targets<P>>, peer: &P) -> bool
-        ensures { result ≡ is_eligible P.cmp self.now (option_copied targets.entry) peer.now }
+        ensures { result ≡ is_eligible P.cmp (known_by P.cmp self.now) (option_copied targets.entry) peer.now }
     {
         self.may_be_asked(peer) && is_target(targets, peer)
     }
 
     /// Whether a peer of the set may be asked for any key.
     fn may_be_asked(&self, peer: &P) -> bool
-        ensures { result ≡ may_be_asked P.cmp self.now peer.now }
+        ensures { result ≡ may_be_asked P.cmp (known_by P.cmp self.now) peer.now }
     {
-        may_be_asked(&self.local, &self.blocked, peer)
+        may_be_asked(&self.local, &self.blocked, &self.load, peer)
     }
 
-    /// Hands out all that may be asked, where they are at hand.
+    /// Hands out the set, where it is at hand.
     pub(super) fn take_pool(&mut self) -> Option<Pool<P>>
-        ensures whole { IsWhole P.cmp self.old result }
+        ensures whole { IsWhole P.cmp (known_by P.cmp self.old) result }
         ensures same { self.new ≡ self.old }
     {
         self.pool.take()
     }
 
-    /// Takes back all that may be asked.
+    /// Takes the set back.
     pub(super) fn put_pool(&mut self, pool: Option<Pool<P>>)
-        requires whole { IsWhole P.cmp self.old pool }
+        requires whole { IsWhole P.cmp (known_by P.cmp self.old) pool }
         ensures same { self.new ≡ self.old }
     {
         drop(mem::replace(&mut self.pool, pool));
     }
 
-    /// Those that may be asked for a key with these targets: where it has none those at hand, if
+    /// Those that are drawn from for a key with these targets: where it has none those at hand, if
     /// they are, else a pool that is made anew.
     ///
     /// The names are cloned; clones are to equal their sources.
@@ -224,10 +289,10 @@ impl<P: Ord + Drop> Peers<P> {
     where
         P: Clone,
         requires peers_clone { (x y : P) → P.is_clone x y → y ≡ x }
-        requires whole { IsWhole P.cmp self.now at_hand.old }
+        requires whole { IsWhole P.cmp (known_by P.cmp self.now) at_hand.old }
         ensures ok { IfOk result (λ pool. pool
-            ≡ whole (weighed (eligible P.cmp self.now (option_copied targets.entry)))) }
-        ensures whole { IsWhole P.cmp self.now at_hand.new }
+            ≡ whole (drawn_from P.cmp (known_by P.cmp self.now) (option_copied targets.entry))) }
+        ensures whole { IsWhole P.cmp (known_by P.cmp self.now) at_hand.new }
         ensures only { IfErr result (λ fault. fault ≡ OutOfMemory) }
     {
         match targets {
@@ -245,12 +310,35 @@ impl<P: Ord + Drop> Peers<P> {
         P: Clone,
         requires peers_clone { (x y : P) → P.is_clone x y → y ≡ x }
         ensures ok { IfOk result (λ pool. pool
-            ≡ whole (weighed (eligible P.cmp self.now (option_copied targets.entry)))) }
+            ≡ whole (drawn_from P.cmp (known_by P.cmp self.now) (option_copied targets.entry))) }
         ensures only { IfErr result (λ fault. fault ≡ OutOfMemory) }
     {
         self.order();
-        let peers = self.eligible(targets)?;
+        let peers = match targets {
+            Some(_) => self.eligible(targets)?,
+            None => self.sampled()?,
+        };
         Pool::new(self.alloc, peers)
+    }
+
+    /// The peers of the set, with what they weigh for a key without targets.
+    fn sampled(&self) -> Result<Vec<(P, u64)>, Fault>
+    where
+        P: Clone,
+        requires peers_clone { (x y : P) → P.is_clone x y → y ≡ x }
+        ensures ok { IfOk result (λ peers. peers.items ≡ sampled P.cmp (known_by P.cmp self.now)) }
+        ensures only { IfErr result (λ fault. fault ≡ OutOfMemory) }
+    {
+        let mut peers = Vec::with_capacity(self.alloc, self.set.len())?;
+        for (peer, score) in self.set.iter() {
+            let weight = if self.may_be_asked(peer) {
+                score.weight()
+            } else {
+                0
+            };
+            peers.push((peer.clone()?, weight))?;
+        }
+        Ok(peers)
     }
 
     /// Takes these peers in place of the last ones. Those that stay keep their scores. Where
@@ -262,7 +350,7 @@ impl<P: Ord + Drop> Peers<P> {
         ensures only { IfErr result (λ fault. fault ≡ OutOfMemory) }
     {
         let set = rated(self.alloc, &self.set, peers)?;
-        self.allowed = count_askable(&self.local, &set, &self.blocked);
+        self.allowed = count_askable(&self.local, &set, &self.blocked, &self.load);
         drop(mem::replace(&mut self.set, set));
         drop(self.pool.take());
         Ok(())
@@ -276,7 +364,7 @@ impl<P: Ord + Drop> Peers<P> {
         ensures only { IfErr result (λ fault. fault ≡ OutOfMemory) }
     {
         let blocked = distinct(self.alloc, peers)?;
-        self.allowed = count_askable(&self.local, &self.set, &blocked);
+        self.allowed = count_askable(&self.local, &self.set, &blocked, &self.load);
         drop(mem::replace(&mut self.blocked, blocked));
         drop(self.pool.take());
         Ok(())
@@ -291,58 +379,145 @@ impl<P: Ord + Drop> Peers<P> {
         } }
     {
         self.order();
-        let weight = observe(&mut self.set, peer, elapsed, bytes);
-        reweigh(&mut self.pool, peer, weight);
+        observe(&mut self.set, peer, elapsed, bytes);
+        let now = weight(&self.local, &self.set, &self.blocked, &self.load, peer);
+        reweigh(&mut self.pool, peer, now);
     }
 }
 
-/// How many peers of a set may be asked, with this local name and these blocked peers.
+/// How many peers of a set may be asked, with this local name, these blocked peers and this load.
 fn count_askable<P: Ord + Drop>(
     local: &Option<P>,
     set: &BTreeMap<P, Score>,
     blocked: &BTreeSet<P>,
+    load: &Option<Load<P>>,
 ) -> usize
-    ensures { result ≡ askable P.cmp
-        (record { local = local.now; set = set.now.entries; blocked = blocked.now.keys }) }
+    ensures { result ≡ askable P.cmp (known_by P.cmp (record {
+      local = local.now;
+      set = set.now.entries;
+      blocked = blocked.now.keys;
+      counts = load.now;
+    })) }
 {
     let mut count = 0;
     for (peer, _) in set.iter() {
-        if may_be_asked(local, blocked, peer) {
+        if may_be_asked(local, blocked, load, peer) {
             count += 1;
         }
     }
     count
 }
 
-/// Whether a peer of a set may be asked, with this local name and these blocked peers.
-fn may_be_asked<P: Ord + Drop>(local: &Option<P>, blocked: &BTreeSet<P>, peer: &P) -> bool
+/// Whether a peer of a set may be asked, with this local name, these blocked peers and this load.
+fn may_be_asked<P: Ord + Drop>(
+    local: &Option<P>,
+    blocked: &BTreeSet<P>,
+    load: &Option<Load<P>>,
+    peer: &P,
+) -> bool
     ensures { result ≡ may_be_asked P.cmp
-        (record { local = local.now; set = []; blocked = blocked.now.keys }) peer.now }
+        (known_by P.cmp
+        (record { local = local.now; set = []; blocked = blocked.now.keys; counts = load.now }))
+        peer.now }
 {
-    !is_local(local, peer) && !blocked.contains(peer)
+    !is_local(local, peer) && !blocked.contains(peer) && !is_full(load, peer)
 }
 
-/// Takes in what a request to a peer took and gave, and says what the peer weighs then, if it is
-/// in the set.
-fn observe<P: Ord>(set: &mut BTreeMap<P, Score>, peer: &P, elapsed: u128, bytes: u64) -> Option<u64>
-    ensures observed { set.new.entries ≡ observed P.cmp set.old.entries peer.now
-        (record { elapsed = elapsed; bytes = bytes }) }
-    ensures weight { result ≡ weight_then P.cmp set.old.entries peer.now
-        (record { elapsed = elapsed; bytes = bytes }) }
-    ensures positive { IfSome result (λ weight. 0 < weight) }
+/// Whether a peer has as many requests as it may have.
+fn is_full<P: Ord + Drop>(load: &Option<Load<P>>, peer: &P) -> bool
+    ensures { result ≡ is_full (option_map (loaded P.cmp) load.now) peer.now }
 {
-    match set.get_mut(peer) {
-        Some(score) => {
-            score.record(elapsed, bytes);
-            Some(score.weight())
-        }
-        None => None,
+    match load {
+        Some(load) => load.is_full(peer),
+        None => false,
+    }
+}
+
+/// What a peer of a set weighs, with this local name, these blocked peers and this load.
+fn weight<P: Ord + Drop>(
+    local: &Option<P>,
+    set: &BTreeMap<P, Score>,
+    blocked: &BTreeSet<P>,
+    load: &Option<Load<P>>,
+    peer: &P,
+) -> Option<u64>
+    ensures { result ≡ weight_in P.cmp (known_by P.cmp (record {
+      local = local.now;
+      set = set.now.entries;
+      blocked = blocked.now.keys;
+      counts = load.now;
+    })) peer.now }
+{
+    let score = set.get(peer)?;
+    if may_be_asked(local, blocked, load, peer) {
+        Some(score.weight())
+    } else {
+        Some(0)
+    }
+}
+
+/// A peer has one request more, where they are limited. Where memory is wanting, nothing changes.
+///
+/// The name is cloned; clones are to equal their sources.
+fn add_to<P: Ord + Clone + Drop>(load: &mut Option<Load<P>>, peer: &P) -> Result<(), Fault>
+    requires peers_clone { (x y : P) → P.is_clone x y → y ≡ x }
+    requires room { IfSome load.old (λ c. counted P.cmp c.counts peer.now + 1 < 2 ^ 64) }
+    ensures ok { OnOk result (option_map (loaded P.cmp) load.new
+        ≡ option_map (one_more P.cmp peer.now) (option_map (loaded P.cmp) load.old)) }
+    ensures err { OnErr result (load.new ≡ load.old) }
+    ensures only { IfErr result (λ fault. fault ≡ OutOfMemory) }
+{
+    match load {
+        Some(load) => load.add(peer.clone()?),
+        None => Ok(()),
+    }
+}
+
+/// A peer has one request fewer, where they are limited.
+fn remove_from<P: Ord + Drop>(load: &mut Option<Load<P>>, peer: &P)
+    ensures { option_map (loaded P.cmp) load.new
+        ≡ option_map (one_fewer P.cmp peer.now) (option_map (loaded P.cmp) load.old) }
+{
+    if let Some(load) = load {
+        load.remove(peer);
+    }
+}
+
+/// How many peers may be asked, where one weighs this that weighed that before.
+fn recounted(allowed: usize, before: Option<u64>, now: Option<u64>) -> usize
+    requires room { allowed + 1 < 2 ^ 64 }
+    requires some { IsTrue (weighs before) → 0 < allowed }
+    ensures { result ≡ recounted before now allowed }
+{
+    match (weighs(before), weighs(now)) {
+        (true, false) => allowed - 1,
+        (false, true) => allowed + 1,
+        _ => allowed,
+    }
+}
+
+/// Whether what weighs this is drawn.
+fn weighs(weight: Option<u64>) -> bool
+    ensures { result ≡ weighs weight }
+{
+    match weight {
+        Some(weight) => weight > 0,
+        None => false,
+    }
+}
+
+/// Takes in what a request to a peer took and gave, if the peer is in the set.
+fn observe<P: Ord>(set: &mut BTreeMap<P, Score>, peer: &P, elapsed: u128, bytes: u64)
+    ensures { set.new.entries ≡ observed P.cmp set.old.entries peer.now
+        (record { elapsed = elapsed; bytes = bytes }) }
+{
+    if let Some(score) = set.get_mut(peer) {
+        score.record(elapsed, bytes);
     }
 }
 
 /// The peer weighs this, if it is one of those at hand.
 fn reweigh<P: Ord + Drop>(pool: &mut Option<Pool<P>>, peer: &P, weight: Option<u64>)
-    requires positive { IfSome weight (λ weight. 0 < weight) }
     ensures { pool.new ≡ option_map (reweighed P.cmp peer.now weight) pool.old }
 {
     if let Some(weight) = weight {

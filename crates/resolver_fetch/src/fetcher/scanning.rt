@@ -1,12 +1,16 @@
 //! The scans of a fetcher.
 
-ghost use Rattle.std.specs.Prelude.{◌≡◌, ◌≢◌, ◌+◌, ◌<◌, ◌^◌, ℕ, true, false, Ok, Err, Some, None, [], is_some, length, IfErr, IfOk, OnErr, OnOk};
+ghost use Rattle.std.specs.Prelude.{◌≡◌, ◌≢◌, ◌+◌, ◌<◌, ◌^◌, ℕ, true, false, Ok, Err, Some, None, [], if◌then◌else◌, is_some, length, option_map, IsTrue, IfErr, IfOk, OnErr, OnOk};
 ghost use Rattle.std.specs.BTreeMap.{is_at};
 ghost use Rattle.std.specs.List.Sorted.{IsStrictlySortedBy};
 ghost use Rattle.std.specs.Map.{lookup};
 ghost use Rattle.std.specs.Map.Iter.{ShowsInOrder, deref};
-ghost use Rattle.resolver_trying.specs.Known.{eligible};
-ghost use Rattle.resolver_trying.specs.Trying.{apart_from, weighed};
+ghost use Rattle.resolver_trying.specs.Trying.{apart_from, sampled};
+ghost use Rattle.resolver_trying.specs.Known.{known_by, with_load};
+ghost use Rattle.resolver_trying.specs.Pools.{resampled, reweighed, whole};
+ghost use Rattle.resolver_asked.specs.Loads.{IsLoadedBy, one_more};
+ghost use Rattle.resolver_asked.specs.Requests.{is_asked};
+ghost use Rattle.std.specs.BTreeMap.{insert_entry};
 ghost use Rattle.resolver_priorities.specs.Priorities.{pair_order};
 ghost use Rattle.resolver_base.specs.declared.base.fault.Fault.TheVariants.{OutOfMemory};
 ghost use Rattle.resolver_trying.specs.declared.step.Step.TheVariants.{Accept, Clear, Fail};
@@ -25,6 +29,7 @@ ghost use Rattle.resolver_trying.specs.Steps.{ask_for};
 
 use crate::fetcher::peers::Peers;
 use crate::fetcher::{Answer, Ask, Fetcher, ID};
+use resolver_asked::requests::Requests;
 use resolver_base::base::Fault;
 use resolver_trying::cursor::{Cursor, keep, put_request};
 use resolver_trying::pool::Pool;
@@ -303,6 +308,7 @@ impl<K: Ord + Clone + Drop, P: Ord + Clone + Drop> Fetcher<K, P> {
     fn accept(&mut self, cursor: Cursor<K, P>, peer: P, id: ID) -> Result<Option<Ask<K, P>>, Fault>
     where
         requires keys_clone { (x y : K) → K.is_clone x y → y ≡ x }
+        requires peers_clone { (x y : P) → P.is_clone x y → y ≡ x }
         requires closed { is_some self.old.scan ≡ false }
         requires right { IsRight (orders K.cmp P.cmp) self.old self.old.asked self.old.last_id
             cursor }
@@ -314,11 +320,13 @@ impl<K: Ord + Clone + Drop, P: Ord + Clone + Drop> Fetcher<K, P> {
         ensures err { OnErr result (self.new ≡ opened cursor self.old) }
         ensures only { IfErr result (λ fault. fault ≡ OutOfMemory) }
     {
-        match put_request(&mut self.requests, &cursor, peer, id, self.fetch_timeout) {
-            Ok(()) => {
+        self.peers.order();
+        let time = self.fetch_timeout;
+        match send(&mut self.requests, &mut self.peers, &cursor, peer, id, time) {
+            Ok(name) => {
                 let trying = cursor.into_trying();
                 self.pending.remove(&trying.pair.1, trying.is_retry);
-                keep_pool(&self.targets, &mut self.peers, trying);
+                keep_pool(&self.targets, &mut self.peers, trying, name);
                 Ok(None)
             }
             Err(fault) => {
@@ -419,7 +427,7 @@ impl<K: Ord + Clone + Drop, P: Ord + Clone + Drop> Fetcher<K, P> {
         ensures at_hand { IsAtHand (orders K.cmp P.cmp) self.now at_hand.new }
         ensures only { IfErr result (λ fault. fault ≡ OutOfMemory) }
     {
-        if self.peers.none_askable() {
+        if self.peers().none_askable() {
             return Ok(None);
         }
         let queue = self.pending.keys().fresh().range_from(0)?;
@@ -577,26 +585,102 @@ impl<K: Ord + Clone + Drop, P: Ord + Clone + Drop> Fetcher<K, P> {
         ensures at_hand { IsAtHand (orders K.cmp P.cmp) self.now at_hand.new }
         ensures only { IfErr result (λ fault. fault ≡ OutOfMemory) }
     {
-        self.peers.pool_for(self.targets.get(key), at_hand)
+        self.peers().pool_for(self.targets.get(key), at_hand)
     }
 }
 
-/// Keeps the peers that a key was tried with which any key without targets may be asked of.
+/// Puts the request that a scan sent, and counts it for its peer where that is limited, whose name it
+/// answers then. Where memory is wanting, nothing changes.
+///
+/// The name is cloned; clones are to equal their sources.
+fn send<K: Ord + Clone + Drop, P: Ord + Clone + Drop>(
+    requests: &mut Requests<K, P>,
+    peers: &mut Peers<P>,
+    cursor: &Cursor<K, P>,
+    peer: P,
+    id: ID,
+    timeout: u128,
+) -> Result<Option<P>, Fault>
+    requires moment { cursor.now.moment < 2 ^ 94 }
+    requires timeout { timeout < 2 ^ 94 }
+    requires keys_clone { (x y : K) → K.is_clone x y → y ≡ x }
+    requires peers_clone { (x y : P) → P.is_clone x y → y ≡ x }
+    requires new_id { is_held requests.old id ≡ false }
+    requires new_key { is_asked K.cmp requests.old cursor.now.trying.key ≡ false }
+    requires loaded { IsLoadedBy P.cmp requests.old (known_by P.cmp peers.old).load }
+    ensures ok { OnOk result (requests.new ≡ insert_entry nat_cmp requests.old id (record {
+      key = cursor.now.trying.key;
+      peer = peer;
+      start = cursor.now.moment;
+      deadline = cursor.now.moment + timeout;
+    })) }
+    ensures counted { OnOk result (known_by P.cmp peers.new
+        ≡ with_load (option_map (one_more P.cmp peer)) (known_by P.cmp peers.old)) }
+    ensures name { IfOk result
+        (λ name. name ≡ (if is_some peers.old.counts then Some peer else None)) }
+    ensures err { OnErr result (requests.new ≡ requests.old) }
+    ensures err_peers { OnErr result (known_by P.cmp peers.new ≡ known_by P.cmp peers.old) }
+    ensures only { IfErr result (λ fault. fault ≡ OutOfMemory) }
+{
+    let _count = requests.len();
+    if !peers.is_limited() {
+        put_request(requests, cursor, peer, id, timeout)?;
+        return Ok(None);
+    }
+    let name = peer.clone()?;
+    if let Err(fault) = peers.sent(&name) {
+        drop((name, peer));
+        return Err(fault);
+    }
+    match put_request(requests, cursor, peer, id, timeout) {
+        Ok(()) => Ok(Some(name)),
+        Err(fault) => {
+            peers.freed(&name);
+            drop(name);
+            Err(fault)
+        }
+    }
+}
+
+/// Keeps the peers that a key was tried with which any key without targets is drawn from. This one
+/// was sent a request meanwhile, if there is one.
 fn keep_pool<K: Ord + Drop, P: Ord + Drop>(
     targets: &BTreeMap<K, Targets<P>>,
     peers: &mut Peers<P>,
     trying: Trying<K, P>,
+    sent: Option<P>,
 )
     requires all { lookup (is_at (K.cmp trying.key)) targets.now.entries ≡ None
-        → trying.all ≡ weighed (eligible P.cmp peers.old None) }
+        → sampled P.cmp (known_by P.cmp peers.old)
+        ≡ resampled P.cmp (known_by P.cmp peers.old) sent trying.all }
     ensures { peers.new ≡ peers.old }
 {
     if targets.contains_key(&trying.pair.1) {
-        drop(trying);
+        drop((trying, sent));
         return;
     }
     let Trying { pair, mut pool, .. } = trying;
     drop(pair);
-    pool.restore();
+    resample(&mut pool, peers, sent);
     peers.put_pool(Some(pool));
+}
+
+/// All peers of a pool are left again. This one weighs what it weighs now, if there is one.
+fn resample<P: Ord + Drop>(pool: &mut Pool<P>, peers: &Peers<P>, sent: Option<P>)
+    ensures { pool.new ≡ whole (resampled P.cmp (known_by P.cmp peers.now) sent pool.old.all) }
+{
+    pool.restore();
+    if let Some(peer) = sent {
+        set_weight(pool, &peer, peers.weight(&peer));
+        drop(peer);
+    }
+}
+
+/// The peer weighs this, if it is in the set.
+fn set_weight<P: Ord + Drop>(pool: &mut Pool<P>, peer: &P, weight: Option<u64>)
+    ensures { pool.new ≡ reweighed P.cmp peer.now weight pool.old }
+{
+    if let Some(weight) = weight {
+        pool.set(peer, weight);
+    }
 }

@@ -1,6 +1,7 @@
 //! The fields of a line, and what each says. A field that is not there can't be read.
 
 ghost use Rattle.std.specs.Prelude.{◌≡◌, ◌≤◌, ◌<◌, ◌^◌, ◌⊎◌, ◌-◌, [], map, Ok, Err, IsTrue, IfOk, IfErr};
+ghost use Rattle.std.specs.NonZero.{non_zero_u32_get};
 ghost use Rattle.std.specs.Option.{option_copied};
 ghost use Rattle.std.specs.Char.{is_ascii_digit};
 ghost use Rattle.std.specs.List.{list_all};
@@ -14,6 +15,7 @@ use memchr::memchr;
 use resolver_moment::Moment;
 use resolver_root::NonEmptyVec;
 use std::alloc::{AllocError, Global};
+use std::num::NonZeroU32;
 
 /// The fields of a line, between single spaces, and how many were asked for.
 #[derive(Drop)]
@@ -114,6 +116,18 @@ pub fn timeout(field: Option<&str>) -> Result<u128, Unread>
         return Err(Unread::Unreadable(Why::Zero));
     }
     Ok(nanoseconds)
+}
+
+/// How many requests one peer may have: from 1 to 2^32 - 1.
+pub fn limit(field: Option<&str>) -> Result<NonZeroU32, Unread>
+    ensures is { IfOk result (λ most.
+        number_of (option_copied field.entry) (2 ^ 32 - 1) ≡ Ok (non_zero_u32_get most)) }
+    ensures err { IfErr result (λ unread.
+        (number_of (option_copied field.entry) (2 ^ 32 - 1) ≡ Err unread)
+        ⊎ ((unread ≡ Unreadable Zero) × (number_of (option_copied field.entry) (2 ^ 32 - 1) ≡ Ok 0))) }
+{
+    let most = number(field, u128::from(u32::MAX))? as u32;
+    NonZeroU32::new(most).ok_or(Unread::Unreadable(Why::Zero))
 }
 
 /// A decimal number up to `most`, without sign or leading zeros.

@@ -20,8 +20,20 @@ opaque 340282366920938463463374607431768211456 => field 2: a number above 198070
 p2p => field 2: missing
 p2p 9 => field 3: missing
 p2p 9 50 => field 4: missing
-p2p 9 50 10 1 => field 5: one field too many
-p2p 9 50 10 - => field 5: one field too many
+p2p 9 50 10 - => field 5: not a number
+p2p 9 50 10 0 => field 5: a number below 1
+p2p 9 50 10 00 => field 5: not a number
+p2p 9 50 10 01 => field 5: not a number
+p2p 9 50 10 +1 => field 5: not a number
+p2p 9 50 10 all => field 5: not a number
+p2p 9 50 10 4294967296 => field 5: a number above 4294967295
+p2p 9 50 10 18446744073709551616 => field 5: a number above 4294967295
+p2p 9 50 10 340282366920938463463374607431768211456 => field 5: a number above 4294967295
+p2p 9 50 10 1 1 => field 6: one field too many
+p2p 9 50 10 0 1 => field 5: a number below 1
+p2p 9 50 10 1  => two spaces, or one at an end
+p2p 9 50 10  1 => two spaces, or one at an end
+p2p 9 50 10 1\r => a carriage return
 p2p 9 50 10  => two spaces, or one at an end
 p2p 9 0 10 => field 3: a number below 1
 p2p 256 50 10 => field 2: a number above 255
@@ -45,6 +57,7 @@ drawn 0 => no machine is open";
 
 /// Lines that an engine can't be told.
 const OF_NO_ENGINE: &str = "p2p 9 50 10 => a machine is open
+p2p 9 50 10 1 => a machine is open
 opaque 1 => a machine is open
 fetched 0 none => said to the other machine
 fetched 0 x => said to the other machine

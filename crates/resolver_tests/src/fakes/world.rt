@@ -17,7 +17,7 @@ use resolver_mailbox::mailbox::Unrecorded;
 use resolver_mailbox::mocks::Key;
 use resolver_root::{Outcome, Predicate};
 use std::alloc::{AllocGlobal, Global};
-use std::num::NonZeroUsize;
+use std::num::{NonZeroU32, NonZeroUsize};
 use std::random::RandomSource;
 use std::sync::{Arc, Wait};
 use std::thread::Threads;
@@ -30,15 +30,18 @@ pub struct Setting {
     pub wrong: Wrong,
     /// What its draws follow from: all are 0 where there is none.
     pub seed: Option<u64>,
+    /// How many requests one peer may have, if that is limited.
+    pub limit: Option<NonZeroU32>,
 }
 
 impl Setting {
-    /// An engine that is called 9, and draws 0.
+    /// An engine that is called 9, draws 0, and asks a peer for any number of keys at once.
     pub fn with(wrong: Wrong) -> Setting {
         Setting {
             me: 9,
             wrong,
             seed: None,
+            limit: None,
         }
     }
 
@@ -328,6 +331,7 @@ pub fn make_world<Q: Predicate<Key, u16> + Faithful + Drop, R: Copy>(
                 me: Some(Peer(setting.me)),
                 fetch_timeout: 50,
                 fetch_retry_delay: 10,
+                peer_limit: setting.limit,
                 priority_requests: false,
                 priority_responses: false,
             };

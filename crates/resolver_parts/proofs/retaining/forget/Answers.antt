@@ -8,3 +8,7 @@ returns-clause-entries g c = c.retain.ensures.after (is_asked (names g.K.Ord.cmp
 
 pub returns-clause-fetcher : goal.returns-clause-fetcher
 returns-clause-fetcher g c = c.retain-2.ensures (is_asked (names g.K.Ord.cmp g.S.Ord.cmp) c.args.demand.now) (record { by = λ item b is. search rules })
+
+-- what the tracker answers is what it holds
+pub retain-requires-2-clause-pure : goal.retain-requires-2-clause-pure
+retain-requires-2-clause-pure g c = (is_asked (names g.K.Ord.cmp g.S.Ord.cmp) c.args.demand.now , record { by = λ item b is. search rules })

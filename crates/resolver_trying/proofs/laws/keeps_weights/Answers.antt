@@ -1,5 +1,5 @@
 use Rattle.resolver_trying.specs.Orders.{orders}
-use Rattle.resolver_trying.proofs.WakesLater.{keeps_weights}
+use Rattle.resolver_trying.proofs.Weights.{keeps_weights}
 use Rattle.resolver_trying.proofs.laws.keeps_weights.Goals as goal
 
 pub returns : goal.returns

@@ -11,5 +11,5 @@ invariant_of-self g c =
     let shut = ap is_some (ap (λ (f : Fetcher g.row.K.Denot g.row.P.Denot). f.scan) c.self.view_is) ∙ c.requires.closed in
     let idle = ap (λ (f : Fetcher g.row.K.Denot g.row.P.Denot). is_asked g.K.Ord.cmp f.asked c.args.key) c.self.view_is ∙ c.requires.not_asked in
     either_way c.count_retry.result _ _ _ c.count_retry.ensures.ok c.count_retry.ensures.err
-    (λ is. rw is (kept-put g.met.K.Ord.total a.fetch_timeout a.retry_delay a.last_id a.pending.keys a.requests c.self.invariant.0 (_, c.args.key) idle, closed-any a.cursor shut _))
-    (λ is. rw is (c.self.invariant.0, closed-any a.cursor shut _))
+    (λ is. rw is (kept-put g.met.K.Ord.total a.fetch_timeout a.retry_delay a.last_id a.pending.keys a.requests c.self.invariant.0 (_, c.args.key) idle, c.self.invariant.1, closed-any a.cursor shut _))
+    (λ is. rw is (c.self.invariant.0, c.self.invariant.1, closed-any a.cursor shut _))

@@ -21,6 +21,7 @@ invariant_of-self g c =
         once = kept.once;
         none_yet = rw (← c.self.view_is) at c.requires.none_yet;
       },
+      c.self.invariant.1,
       record {
         moment_fits = c.requires.right.moment_fits;
         tries = rw (← c.self.view_is) at c.requires.right.tries;
@@ -32,6 +33,7 @@ pub invariant_of-self-in-Err : goal.invariant_of-self-in-Err
 invariant_of-self-in-Err g c =
     rw c.keep-in-Err.ensures (
       c.self.invariant.0,
+      c.self.invariant.1,
       record {
         moment_fits = c.requires.right.moment_fits;
         tries = rw (← c.self.view_is) at c.requires.right.tries;

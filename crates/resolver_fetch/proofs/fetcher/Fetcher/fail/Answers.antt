@@ -29,6 +29,7 @@ pub invariant_of-self : goal.invariant_of-self
 invariant_of-self g c =
     rw (c.keep.ensures, c.in-Err.ensures.err) (
       c.self.invariant.0,
+      c.self.invariant.1,
       record {
         moment_fits = c.requires.right.moment_fits;
         tries = rw (← c.self.view_is) at c.requires.right.tries;

@@ -26,6 +26,7 @@ invariant_of-self g c =
     let is : next_of o c.args.self.now c.args.moment c.args.trail ≡ Tries c.in-Try.trying = sym c.requires.next ∙ c.in-Try.is in
     rw (c.keep.ensures, c.wake.ensures) (
       c.self.invariant.0,
+      c.self.invariant.1,
       record {
         moment_fits = c.requires.moment;
         tries = rw (← c.self.view_is) at (next-tries o c.args.self.now c.args.moment c.args.trail c.in-Try.trying is);
@@ -45,7 +46,7 @@ returns-in-Try-clause-asked g c =
 pub invariant_of-self-in-Wait : goal.invariant_of-self-in-Wait
 invariant_of-self-in-Wait g c =
     let shut = ap is_some (ap (λ (f : Fetcher g.row.K.Denot g.row.P.Denot). f.scan) c.self.view_is) ∙ c.requires.closed in
-    rw c.sleep.ensures (c.self.invariant.0, closed-any c.self.inside.cursor shut _)
+    rw c.sleep.ensures (c.self.invariant.0, c.self.invariant.1, closed-any c.self.inside.cursor shut _)
 
 pub returns-in-Try-clause-after : goal.returns-in-Try-clause-after
 returns-in-Try-clause-after g c =

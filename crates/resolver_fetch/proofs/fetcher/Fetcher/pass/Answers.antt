@@ -25,6 +25,7 @@ invariant_of-self-in-Err-find_behind g c =
     let back = c.pop.ensures t.trail (record { key = t.trying.key; peer = c.args.peer; reason = c.args.reason }) (ap (λ (n : Cursor g.row.K.Denot g.row.P.Denot). n.trail) noted) in
     rw (c.keep-in-Err-find_behind.ensures, back, noted) (
       c.self-in-Err-find_behind.invariant.0,
+      c.self-in-Err-find_behind.invariant.1,
       record {
         moment_fits = c.requires.right.moment_fits;
         tries = rw (← c.find_behind.ensures.same, ← c.self-in-Err-find_behind.view_is) at c.requires.right.tries;
@@ -41,6 +42,7 @@ pub invariant_of-self : goal.invariant_of-self
 invariant_of-self g c =
     rw (c.keep.ensures, c.in-Err.ensures.err) (
       c.self.invariant.0,
+      c.self.invariant.1,
       record {
         moment_fits = c.requires.right.moment_fits;
         tries = rw (← c.self.view_is) at c.requires.right.tries;

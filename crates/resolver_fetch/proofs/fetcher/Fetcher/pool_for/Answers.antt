@@ -3,7 +3,9 @@ use Rattle.resolver_fetch.specs.Left.{pool_for, whole_for}
 use Rattle.resolver_trying.specs.Orders.{orders}
 use Rattle.resolver_trying.specs.Pools.{Pool}
 use Rattle.resolver_trying.specs.Fetcher.{snapshot, targets_of}
-use Rattle.resolver_trying.specs.Snapshot.{eligible}
+use Rattle.resolver_trying.specs.Snapshot.{eligible, known}
+use Rattle.resolver_trying.specs.Tried.{peers_tried}
+use Rattle.resolver_fetch.proofs.Refitting.{drawn-left}
 use Rattle.resolver_trying.proofs.Outcomes.{refused, refused-as}
 use Rattle.resolver_fetch.proofs.Weighing.{drop-all, drop-first, untried, untried-left, untried-more, untried-none}
 use Rattle.resolver_fetch.proofs.fetcher.Fetcher.pool_for.Goals as goal
@@ -15,7 +17,11 @@ loop-peer-init g c =
     let start : c.in_ok-pool.pool ≡ whole_for o f c.args.key.now = c.in_ok-pool.ensures.ok in
     record {
       all = ap (λ (p : Pool g.row.P.Denot). p.all) start;
-      left = rw (c.tried-peer-items.ensures, start) (untried-left o c.args.trail.now c.args.key.now (eligible o (snapshot o f) (targets_of o f c.args.key.now)));
+      left =
+          rw c.tried-peer-items.ensures
+          (ap (λ (ps : List (g.row.P.Denot × ℕ)). untried g.P.Ord.cmp (peers_tried g.K.Ord.cmp c.args.trail.now c.args.key.now) ps)
+          (ap (λ (p : Pool g.row.P.Denot). p.left) start ∙ drawn-left g.P.Ord.cmp (known o (snapshot o f)) (targets_of o f c.args.key.now))
+          ∙ untried-left o c.args.trail.now c.args.key.now (eligible o (snapshot o f) (targets_of o f c.args.key.now)));
       at_hand = c.peers_for.ensures.at_hand;
     }
 

@@ -17,7 +17,7 @@ returns-in-Ok-clause-ok g c =
     let cursor = c.in-Some.cursor in
     let held : c.self.inside.cursor ≡ Some cursor = sym c.take.ensures.value ∙ c.in-Some.is in
     let scan = sym (ap (λ (f : Fetcher g.row.K.Denot g.row.P.Denot). f.scan) c.self.view_is) ∙ ap (option_map scan_of) held in
-    let right = rw held at c.self.invariant.1 in
+    let right = rw held at c.self.invariant.2 in
     let tries : tried_next o f cursor.moment cursor.trail ≡ Some cursor.trying = rw (← c.self.view_is) right.tries in
     let took = answer-taken o f cursor c.args.answer c.in-Ok.step scan tries c.in-Ok.ensures.ok in
     let closed = rw c.take.ensures.after at c.go.ensures.ok in
@@ -31,7 +31,7 @@ returns-in-Err-clause-refused g c = λ other.
     let cursor = c.in-Some.cursor in
     let held : c.self.inside.cursor ≡ Some cursor = sym c.take.ensures.value ∙ c.in-Some.is in
     let scan = sym (ap (λ (f : Fetcher g.row.K.Denot g.row.P.Denot). f.scan) c.self.view_is) ∙ ap (option_map scan_of) held in
-    let right = rw held at c.self.invariant.1 in
+    let right = rw held at c.self.invariant.2 in
     let tries : tried_next o c.args.self.now cursor.moment cursor.trail ≡ Some cursor.trying = rw (← c.self.view_is) right.tries in
     answer-refused o c.args.self.now cursor c.args.answer c.in-Err.fault scan tries (c.in-Err.ensures.refused other)
 
@@ -41,7 +41,7 @@ returns-in-Ok-clause-takes g c =
     let cursor = c.in-Some.cursor in
     let held : c.self.inside.cursor ≡ Some cursor = sym c.take.ensures.value ∙ c.in-Some.is in
     let scan = sym (ap (λ (f : Fetcher g.row.K.Denot g.row.P.Denot). f.scan) c.self.view_is) ∙ ap (option_map scan_of) held in
-    let right = rw held at c.self.invariant.1 in
+    let right = rw held at c.self.invariant.2 in
     let tries : tried_next o c.args.self.now cursor.moment cursor.trail ≡ Some cursor.trying = rw (← c.self.view_is) right.tries in
     if-memory c.go.result _ (ap (λ r. r.0) (answer-taken o c.args.self.now cursor c.args.answer c.in-Ok.step scan tries c.in-Ok.ensures.ok))
 
@@ -51,7 +51,7 @@ returns-in-Err-clause-takes g c = λ wanting.
     let cursor = c.in-Some.cursor in
     let held : c.self.inside.cursor ≡ Some cursor = sym c.take.ensures.value ∙ c.in-Some.is in
     let scan = sym (ap (λ (f : Fetcher g.row.K.Denot g.row.P.Denot). f.scan) c.self.view_is) ∙ ap (option_map scan_of) held in
-    let right = rw held at c.self.invariant.1 in
+    let right = rw held at c.self.invariant.2 in
     let tries : tried_next o c.args.self.now cursor.moment cursor.trail ≡ Some cursor.trying = rw (← c.self.view_is) right.tries in
     answer-wanted o c.args.self.now cursor c.args.answer scan tries (c.in-Err.ensures.takes wanting)
 
@@ -60,7 +60,7 @@ go-requires g c =
     let o = orders g.K.Ord.cmp g.P.Ord.cmp in
     let cursor = c.in-Some.cursor in
     let held : c.self.inside.cursor ≡ Some cursor = sym c.take.ensures.value ∙ c.in-Some.is in
-    let right = rw held at c.self.invariant.1 in
+    let right = rw held at c.self.invariant.2 in
     record {
       keys_clone = c.requires.keys_clone;
       peers_clone = c.requires.peers_clone;
@@ -70,15 +70,15 @@ go-requires g c =
     }
 
 pub invariant_of-self : goal.invariant_of-self
-invariant_of-self g c = rw c.take.ensures.after (c.self.invariant.0, tt)
+invariant_of-self g c = rw c.take.ensures.after (c.self.invariant.0, c.self.invariant.1, tt)
 
 pub invariant_of-self-in-Ok : goal.invariant_of-self-in-Ok
-invariant_of-self-in-Ok g c = rw c.take.ensures.after (c.self.invariant.0, tt)
+invariant_of-self-in-Ok g c = rw c.take.ensures.after (c.self.invariant.0, c.self.invariant.1, tt)
 
 pub invariant_of-self-in-Err : goal.invariant_of-self-in-Err
 invariant_of-self-in-Err g c =
     let held : c.self.inside.cursor ≡ Some c.in-Some.cursor = sym c.take.ensures.value ∙ c.in-Some.is in
-    rw c.keep.ensures (c.self.invariant.0, rw held at c.self.invariant.1)
+    rw c.keep.ensures (c.self.invariant.0, c.self.invariant.1, rw held at c.self.invariant.2)
 
 pub returns-in_default-clause-refused : goal.returns-in_default-clause-refused
 returns-in_default-clause-refused g c = λ other.

@@ -1,6 +1,7 @@
-use Rattle.std.proofs.Common.{◌≡◌, refl, ap, sym, ◌∙◌, false, None, rules}
+use Rattle.std.proofs.Common.{◌≡◌, refl, ap, sym, subst, ◌∙◌, false, None, rules}
 use Rattle.std.proofs.lemmas.Result.{IfOk-weaker}
 use Rattle.resolver_trying.specs.Fetcher.{Fetcher}
+use Rattle.resolver_trying.specs.Known.{Known, askable}
 use Rattle.resolver_trying.specs.Orders.{orders}
 use Rattle.resolver_waiting.specs.Queues.{IsQueued, fresh_queue, placed}
 use Rattle.resolver_fetch.specs.Seeking.{first_until}
@@ -12,7 +13,7 @@ use Rattle.resolver_fetch.proofs.fetcher.Fetcher.seek.Goals as goal
 
 pub returns-then-none_askable-clause-ok : goal.returns-then-none_askable-clause-ok
 returns-then-none_askable-clause-ok g c =
-    sym (tries-none (orders g.K.Ord.cmp g.P.Ord.cmp) c.args.self.now (rw (← c.self.view_is) (c.if-none_askable.ensures.0 refl)) c.args.moment c.args.trail.now)
+    sym (tries-none (orders g.K.Ord.cmp g.P.Ord.cmp) c.args.self.now (subst (λ (k : Known g.row.P.Denot). askable g.P.Ord.cmp k ≡ 0) c.peers.ensures (c.if-none_askable.ensures.0 refl)) c.args.moment c.args.trail.now)
 
 pub returns-in-Some-clause-ok : goal.returns-in-Some-clause-ok
 returns-in-Some-clause-ok g c =

@@ -20,3 +20,7 @@ returns g c = λ m agrees.
           agrees-ended a by_key e m agrees (over-closed e.fetcher.scan m.scan c.requires.closed (ap (λ f. f.scan) agrees.fetcher)) c.clear.new.self c.clear-2.new.self c.retain.new.self c.clear-3.new.self
           c.clear.ensures c.clear-2.ensures (c.retain.ensures (λ key. false) (record { by = λ item b is. search rules })) c.clear-3.ensures.empty;
     }
+
+-- nothing is kept
+pub retain-requires-clause-pure : goal.retain-requires-clause-pure
+retain-requires-clause-pure g c = ((λ key. false) , record { by = λ item b is. search rules })

@@ -1,8 +1,8 @@
-use Rattle.std.proofs.Common.{◌≡◌, ◌<◌, ◌∙◌, ap, sym, length, List, ℕ, false}
+use Rattle.std.proofs.Common.{◌≡◌, ap, sym, List, ℕ, false}
 use Rattle.resolver_request.specs.Left.{restored}
-use Rattle.resolver_trying.specs.Pools.{IsFound, IsNamed, Pool, is_named, weighing}
+use Rattle.resolver_trying.specs.Pools.{IsNamed, Pool, is_named, weighted}
 use Rattle.resolver_trying.specs.Trying.{apart_from}
-use Rattle.resolver_trying.proofs.Pools.{all-others, marks-within, others-left, restored-more, takes-one, weighs-within}
+use Rattle.resolver_trying.proofs.Pools.{all-others, marks-within, others-left, restored-more, takes-one, weighing_of, weighs-within}
 use Rattle.resolver_trying.proofs.pool.Pool.forget.Goals as goal
 
 pub weight-weight-requires : goal.weight-weight-requires
@@ -42,5 +42,5 @@ pub returns-in_default-clause-ok : goal.returns-in_default-clause-ok
 returns-in_default-clause-ok g c =
     let pool = c.self.inside in
     let none : is_named g.P.Ord.cmp pool.names.items c.args.peer.now ≡ false = rw (← c.deref.ensures.value) c.in_default.ensures in
-    let seen : Pool g.row.P.Denot = record { all = weighing pool.names.items (restored pool.weights pool.taken.items); left = weighing pool.names.items pool.weights } in
+    let seen : Pool g.row.P.Denot = record { all = weighted pool.names.items (restored pool.weights pool.taken.items); left = weighing_of pool.names.items pool.weights } in
     rw (← c.self.view_is) (ap (λ (ps : List (g.row.P.Denot × ℕ)). record seen { left = ps }) (sym (all-others g.met.P.Ord.total c.args.peer.now pool.names.items pool.weights none)))

@@ -3,6 +3,8 @@ use Rattle.std.proofs.lemmas.List.{length-map}
 use Rattle.std.proofs.lemmas.List.Elements.{All-nil}
 use Rattle.resolver_trees.specs.SumTrees.{mark}
 use Rattle.resolver_trying.specs.Trying.{weights_of}
+use Rattle.resolver_trying.specs.Pools.{whole}
+use Rattle.resolver_trying.proofs.Pools.{weighted-apart}
 use Rattle.resolver_trying.proofs.pool.Pool.new.Goals as goal
 
 pub invariant_of-result : goal.invariant_of-result
@@ -18,4 +20,4 @@ invariant_of-result g c =
 pub returns-in-Ok-clause-ok : goal.returns-in-Ok-clause-ok
 returns-in-Ok-clause-ok g c =
     let weights = c.deref.ensures.value ∙ c.in_ok-names.ensures.weights in
-    rw (c.in_ok-names.ensures.names, c.in-Ok.ensures.weights ∙ weights, c.new.ensures.items) refl
+    rw (c.in_ok-names.ensures.names, c.in-Ok.ensures.weights ∙ weights, c.new.ensures.items) (ap whole (weighted-apart c.args.peers.items))

@@ -1,12 +1,13 @@
 use Rattle.std.proofs.Common.{◌≡◌, refl, ap, sym, ◌∙◌, [], ◌∷◌, ◌++◌, append-nil, rules}
 use Rattle.resolver_trying.specs.Trying.{weighed}
+use Rattle.resolver_trying.specs.Known.{known_by}
 use Rattle.resolver_fetch.proofs.Among.{among, among-targets}
 use Rattle.resolver_fetch.proofs.Passing.{found-here}
 use Rattle.resolver_fetch.proofs.fetcher.peers.Peers.eligible_among.Goals as goal
 
 pub loop-name-init : goal.loop-name-init
 loop-name-init g c =
-    let known = c.args.self.now in
+    let known = known_by g.P.Ord.cmp c.args.self.now in
     let names : c.into_iter-name-iterator.result ≡ c.names-name-items.result = search rules in
     rw c.new-peers.ensures.items
     (ap weighed (ap (among g.P.Ord.cmp known) names
@@ -14,7 +15,7 @@ loop-name-init g c =
 
 pub loop-name-preserved : goal.loop-name-preserved
 loop-name-preserved g c =
-    let known = c.args.self.now in
+    let known = known_by g.P.Ord.cmp c.args.self.now in
     let before = c.loop-name.peers.items in
     let name = c.in-Some.name.now in
     let list : c.loop-name.name-iterator ≡ name ∷ c.next.new.self = c.in-Some.ensures.steps in
@@ -26,7 +27,7 @@ loop-name-preserved g c =
 
 pub loop-name-preserved-in_ok-push : goal.loop-name-preserved-in_ok-push
 loop-name-preserved-in_ok-push g c =
-    let known = c.args.self.now in
+    let known = known_by g.P.Ord.cmp c.args.self.now in
     let before = c.loop-name.peers.items in
     let name = c.in-Some.name.now in
     let peer = c.in-Some-askable_at.peer.now in
@@ -43,4 +44,4 @@ pub returns-clause-ok : goal.returns-clause-ok
 returns-clause-ok g c =
     let before = c.loop-name.peers.items in
     let all : before ≡ before ++ [] = rw append-nil refl in
-    all ∙ ap (λ ns. before ++ weighed (among g.P.Ord.cmp c.args.self.now ns)) (sym c.in-None.ensures.steps.0) ∙ c.loop-name.invariant
+    all ∙ ap (λ ns. before ++ weighed (among g.P.Ord.cmp (known_by g.P.Ord.cmp c.args.self.now) ns)) (sym c.in-None.ensures.steps.0) ∙ c.loop-name.invariant

@@ -1,5 +1,5 @@
 use Rattle.std.proofs.Common.{◌≡◌, ◌++◌, Some}
-use Rattle.resolver_trying.specs.Known.{eligible}
+use Rattle.resolver_trying.specs.Known.{eligible, known_by}
 use Rattle.resolver_trying.specs.Trying.{weighed}
 use Rattle.resolver_fetch.proofs.Among.{among}
 use Rattle.resolver_fetch.proofs.fetcher.peers.Peers.eligible_among.Given as goal
@@ -7,5 +7,5 @@ use Rattle.resolver_fetch.proofs.fetcher.peers.Peers.eligible_among.Given as goa
 -- The peers so far, with those of the names that are left, are those of all.
 abbrev pub invariant-loop-name : goal.invariant-loop-name
 invariant-loop-name g l =
-    l.peers.items ++ weighed (among g.P.Ord.cmp l.fn.self l.name-iterator)
-    ≡ weighed (eligible g.P.Ord.cmp l.fn.self (Some l.fn.targets))
+    l.peers.items ++ weighed (among g.P.Ord.cmp (known_by g.P.Ord.cmp l.fn.self) l.name-iterator)
+    ≡ weighed (eligible g.P.Ord.cmp (known_by g.P.Ord.cmp l.fn.self) (Some l.fn.targets))

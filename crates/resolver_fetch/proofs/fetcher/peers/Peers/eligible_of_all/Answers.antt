@@ -1,7 +1,7 @@
 use Rattle.std.proofs.Common.{◌≡◌, refl, ap, sym, ◌∙◌, [], ◌∷◌, ◌++◌, append-nil, rules}
 use Rattle.std.specs.Option.{option_copied}
 use Rattle.resolver_request.specs.Scores.{weight_of}
-use Rattle.resolver_trying.specs.Known.{is_eligible}
+use Rattle.resolver_trying.specs.Known.{is_eligible, known_by}
 use Rattle.resolver_fetch.proofs.Passing.{kept, kept-here, kept-past}
 use Rattle.resolver_fetch.proofs.fetcher.peers.Peers.eligible_of_all.Goals as goal
 
@@ -12,7 +12,7 @@ loop-peer-init g c =
 
 pub loop-peer-preserved : goal.loop-peer-preserved
 loop-peer-preserved g c =
-    let keep = is_eligible g.P.Ord.cmp c.args.self.now (option_copied c.args.targets) in
+    let keep = is_eligible g.P.Ord.cmp (known_by g.P.Ord.cmp c.args.self.now) (option_copied c.args.targets) in
     let before = c.loop-peer.peers.items in
     let list : c.loop-peer.peer-iterator ≡ (c.in-Some.peer.now, c.in-Some.score.now) ∷ c.next.new.self = c.in-Some.ensures.steps in
     kept-past keep before (c.in-Some.peer.now, c.in-Some.score.now) c.next.new.self (sym c.if-is_eligible.ensures)
@@ -21,7 +21,7 @@ loop-peer-preserved g c =
 
 pub loop-peer-preserved-in_ok-push : goal.loop-peer-preserved-in_ok-push
 loop-peer-preserved-in_ok-push g c =
-    let keep = is_eligible g.P.Ord.cmp c.args.self.now (option_copied c.args.targets) in
+    let keep = is_eligible g.P.Ord.cmp (known_by g.P.Ord.cmp c.args.self.now) (option_copied c.args.targets) in
     let before = c.loop-peer.peers.items in
     let peer = c.in-Some.peer.now in
     let list : c.loop-peer.peer-iterator ≡ (peer, c.in-Some.score.now) ∷ c.next.new.self = c.in-Some.ensures.steps in
@@ -35,7 +35,7 @@ loop-peer-preserved-in_ok-push g c =
 
 pub returns-clause-ok : goal.returns-clause-ok
 returns-clause-ok g c =
-    let keep = is_eligible g.P.Ord.cmp c.args.self.now (option_copied c.args.targets) in
+    let keep = is_eligible g.P.Ord.cmp (known_by g.P.Ord.cmp c.args.self.now) (option_copied c.args.targets) in
     let before = c.loop-peer.peers.items in
     let all : before ≡ before ++ [] = rw append-nil refl in
     all ∙ ap (λ es. before ++ kept keep es) (sym c.in-None.ensures.steps.0) ∙ c.loop-peer.invariant

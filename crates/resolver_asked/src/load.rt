@@ -1,0 +1,98 @@
+//! How many requests without an answer each peer has, where that is limited.
+
+ghost use Rattle.std.specs.Prelude.{◌≡◌, ◌+◌, ◌<◌, ◌^◌, [], Some, IfErr, OnErr, OnOk};
+ghost use Rattle.std.specs.NonZero.{non_zero_u32_get};
+ghost use Rattle.resolver_base.specs.declared.base.fault.Fault.TheVariants.{OutOfMemory};
+ghost use Rattle.resolver_asked.specs.Loads.{counted, is_full, loaded, one_fewer, one_more};
+
+use resolver_base::base::Fault;
+use std::alloc::Global;
+use std::collections::BTreeMap;
+use std::marker::Model;
+use std::num::NonZeroU32;
+
+/// How many requests one peer may have, and how many each has.
+///
+/// A call takes time logarithmic in the number of peers that have one.
+pub struct Load<P: Ord> {
+    limit: NonZeroU32,
+    /// Of the peers that have one.
+    counts: BTreeMap<P, u64>,
+}
+
+impl<P: Ord> Model for Load<P> {
+    ghost use Rattle.std.specs.NonZero.{non_zero_u32_get};
+    ghost use Rattle.resolver_asked.specs.Loads.{Counts};
+
+    ghost Value = { Counts P };
+
+    ghost view = { λ a. record {
+      limit = non_zero_u32_get a.limit;
+      counts = a.counts.entries;
+    } };
+}
+
+impl<P: Ord + Drop> Drop for Load<P> {
+    fn drop(self) {
+        let Self {
+            limit: _,
+            counts: _,
+        } = self;
+    }
+}
+
+impl<P: Ord + Drop> Load<P> {
+    /// No peer has a request.
+    pub fn new(alloc: Global, limit: NonZeroU32) -> Self
+        ensures { result ≡ record { limit = non_zero_u32_get limit; counts = [] } }
+    {
+        Load {
+            limit,
+            counts: BTreeMap::new(alloc),
+        }
+    }
+
+    /// Whether a peer has as many requests as it may have.
+    pub fn is_full(&self, peer: &P) -> bool
+        ensures { result ≡ is_full (Some (loaded P.cmp self.now)) peer.now }
+    {
+        self.count(peer) >= u64::from(self.limit.get())
+    }
+
+    /// A peer has one more. Where memory is wanting, nothing changes.
+    pub fn add(&mut self, peer: P) -> Result<(), Fault>
+        requires room { counted P.cmp self.old.counts peer + 1 < 2 ^ 64 }
+        ensures ok { OnOk result
+            (loaded P.cmp self.new ≡ one_more P.cmp peer (loaded P.cmp self.old)) }
+        ensures err { OnErr result (self.new ≡ self.old) }
+        ensures only { IfErr result (λ fault. fault ≡ OutOfMemory) }
+    {
+        let count = self.count(&peer);
+        self.counts.insert(peer, count + 1)?;
+        Ok(())
+    }
+
+    /// A peer has one fewer, if it has one.
+    pub fn remove(&mut self, peer: &P)
+        ensures { loaded P.cmp self.new ≡ one_fewer P.cmp peer.now (loaded P.cmp self.old) }
+    {
+        let count = self.count(peer);
+        if count > 1 {
+            if let Some(place) = self.counts.get_mut(peer) {
+                *place = count - 1;
+            }
+        } else {
+            self.counts.remove(peer);
+        }
+    }
+
+    /// How many a peer has.
+    fn count(&self, peer: &P) -> u64
+        ensures { result ≡ counted P.cmp self.now.counts peer.now }
+    {
+        match self.counts.get(peer) {
+            Some(count) => *count,
+            None => 0,
+        }
+    }
+}
