@@ -1,4 +1,4 @@
-//! `examples`: five first programs over the library, each a module. They run one after another, and a line
+//! `examples`: six first programs over the library, each a module. They run one after another, and a line
 //! with its name stands before what each prints. In a program of its own a module's `run` would be `main`,
 //! which takes the `HostRuntime`.
 #![tactic(auto)]
@@ -8,6 +8,7 @@ mod mailbox;
 mod opaque;
 mod peers;
 mod store;
+mod synchroniser;
 
 use anyhow::Result;
 
@@ -21,5 +22,7 @@ fn main(rt: HostRuntime) -> Result<()> {
     println!(rt; "opaque:")?;
     opaque::run(rt)?;
     println!(rt; "peers:")?;
-    peers::run(rt)
+    peers::run(rt)?;
+    println!(rt; "synchroniser:")?;
+    synchroniser::run(rt)
 }

@@ -1,8 +1,8 @@
 //! Three engines in one process, over a network in memory. Engine 0 wants a key that the others have: 1
 //! sends wrong bytes, which the consumer refuses, and 2 the right ones. It prints what engine 0 did.
 
-mod lent;
-mod network;
+pub mod lent;
+pub mod network;
 
 use anyhow::Result;
 use bytes::Bytes;

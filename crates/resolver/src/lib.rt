@@ -12,6 +12,7 @@ pub use resolver_loop::{Consumer, Ending, Handle, Resolver, TargetedResolver};
 pub use resolver_mailbox::mailbox;
 pub use resolver_root::{Delivery, Fetch, Outcome, Resolution};
 
+pub mod backfill;
 pub mod base;
 pub mod delivery;
 pub mod ingress;

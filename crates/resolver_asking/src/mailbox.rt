@@ -140,6 +140,11 @@ where
 
     type Predicate = Q;
 
+    ghost asks = { λ was fetches answer now. PutsOne N.is_recorded
+        (Fetches (map (λ fetch. asked fetch None) fetches)) was answer now };
+
+    ghost retains = { λ was keep answer now. PutsOne N.is_recorded (Retains keep) was answer now };
+
     /// Any peer may be asked.
     fn fetch(&mut self, fetch: Fetch<K, S>) -> Result<Feedback, Fault>
         ensures puts { PutsOne N.is_recorded (Fetches (asked fetch None ∷ []))
@@ -173,6 +178,9 @@ where
     R: Wait + Copy + Send + 'static,
 {
     type PublicKey = P;
+
+    ghost asks_of = { λ was targeted answer now. PutsOne N.is_recorded
+        (Fetches (map (λ one. asked one.0 (Some one.1)) targeted)) was answer now };
 
     fn fetch_targeted(
         &mut self,

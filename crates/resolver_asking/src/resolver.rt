@@ -120,6 +120,11 @@ where
 
     type Predicate = Q;
 
+    ghost asks = { λ was fetches answer now. PutsOne N.is_recorded
+        (Fetches (map (λ fetch. asked fetch tt) fetches)) was answer now };
+
+    ghost retains = { λ was keep answer now. PutsOne N.is_recorded (Retains keep) was answer now };
+
     fn fetch(&mut self, fetch: Fetch<K, S>) -> Result<Feedback, Fault>
         ensures puts { PutsOne N.is_recorded (Fetches (asked fetch tt ∷ []))
             self.old result self.new }
@@ -151,6 +156,9 @@ where
     R: Wait + Copy + Send + 'static,
 {
     type PublicKey = P;
+
+    ghost asks_of = { λ was targeted answer now. PutsOne N.is_recorded
+        (Fetches (map (λ one. asked one.0 tt) targeted)) was answer now };
 
     /// The targets are left out.
     fn fetch_targeted(

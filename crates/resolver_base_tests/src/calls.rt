@@ -17,6 +17,7 @@ use resolver_request::score::DURATION_MAX;
 use resolver_root::NonEmptyVec;
 use std::alloc::Global;
 use std::fmt::Debug;
+use std::num::NonZeroU32;
 use std::panic::Expect;
 use std::process::Abort;
 
@@ -29,6 +30,19 @@ pub fn delayed(delay: u32) -> Config<Letter>
         fetch_timeout: 50,
         retry_delay: u128::from(delay),
         peer_limit: None,
+        priority_requests: false,
+    }
+}
+
+/// The same, where one peer may have one request.
+pub fn sparing() -> Config<Letter>
+    ensures timely { IsTimely result.fetch_timeout result.retry_delay }
+{
+    Config {
+        me: None,
+        fetch_timeout: 50,
+        retry_delay: 10,
+        peer_limit: NonZeroU32::new(1),
         priority_requests: false,
     }
 }

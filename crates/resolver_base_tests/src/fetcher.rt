@@ -1,7 +1,7 @@
 //! Keys that wait, scans, and what becomes of requests.
 
 use crate::asserts::{equal, equal_at, holds};
-use crate::calls::{calls, delayed, goes_by, letters, set_peers, wait};
+use crate::calls::{calls, delayed, goes_by, letters, set_peers, sparing, wait};
 use crate::names::Letter;
 use resolver_base::base::Check;
 use resolver_fetch::fetcher::Answer::{self, Checked, Drawn};
@@ -81,6 +81,57 @@ fn fetcher_retry(rt: HostRuntime) {
         begin 60 = Ok(Some(Draw(5)))
         counts 1 = ((true, 1), 0, true)";
     goes_by(&rt, rt.alloc(), delayed(10), &[ASKS, CALLS]);
+}
+
+#[test]
+fn a_full_peer_answers(rt: HostRuntime) {
+    const CALLS: &str = "
+        weight 4 = Some(0)
+        ready 2 30
+        begin 30 = Ok(None)
+        wakes = Some(340282366920938463463374607431768211455)
+        record 4 1 1000000000 1
+        weight 4 = Some(0)
+        response 3 40 = None
+        wakes = Some(340282366920938463463374607431768211455)
+        response 4 40 = Some((Letter(1), 10))
+        weight 4 = Some(2)
+        wakes = Some(30)
+        begin 40 = Ok(Some(Draw(4)))
+        drawn 0 = Ok(Some(Draw(2)))";
+    goes_by(&rt, rt.alloc(), sparing(), &[ASKS, CALLS]);
+}
+
+#[test]
+fn a_full_peer_fails(rt: HostRuntime) {
+    const MISSING: &str = "
+        missing 4 50 = Some(Letter(1))
+        weight 4 = Some(1)";
+    const OVERDUE: &str = "
+        overdue 79 = None
+        weight 4 = Some(0)
+        overdue 80 = Some(Letter(1))
+        weight 4 = Some(1)";
+    goes_by(&rt, rt.alloc(), sparing(), &[ASKS, MISSING]);
+    goes_by(&rt, rt.alloc(), sparing(), &[ASKS, OVERDUE]);
+}
+
+#[test]
+fn a_full_peer_is_away(rt: HostRuntime) {
+    const LEAVES: &str = "
+        peers 3
+        weight 4 = None
+        peers 3 4
+        weight 3 = Some(1)
+        weight 4 = Some(0)";
+    const IS_BLOCKED: &str = "
+        blocked 4
+        response 4 40 = Some((Letter(1), 10))
+        weight 4 = Some(0)
+        blocked
+        weight 4 = Some(1)";
+    goes_by(&rt, rt.alloc(), sparing(), &[ASKS, LEAVES]);
+    goes_by(&rt, rt.alloc(), sparing(), &[ASKS, IS_BLOCKED]);
 }
 
 #[test]

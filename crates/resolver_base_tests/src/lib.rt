@@ -49,6 +49,8 @@ mod opaque;
 #[cfg(test)]
 mod pending;
 #[cfg(test)]
+mod plans;
+#[cfg(test)]
 mod predicate;
 #[cfg(test)]
 mod priority_set;

@@ -3,17 +3,20 @@
 ghost use Rattle.std.proofs.Common.{rules};
 ghost use Rattle.resolver_script.specs.Kept.{is_kept};
 
+use resolver_backfill::Without;
 use resolver_base::base::Faithful;
 use resolver_mailbox::mocks::Key;
 use resolver_root::Predicate;
 
 /// What a line keeps.
-#[derive(Clone, Copy)]
+#[derive(Clone, Drop)]
 pub enum Kept {
     /// This subscriber, of every key.
     Subscriber(u16),
     /// The subscribers of every key but this one.
     AllBut(u8),
+    /// All but the plan's subscriber, of the keys that it wants no more.
+    Without(Without<Key, u16>),
 }
 
 impl Predicate<Key, u16> for Kept {
@@ -23,6 +26,7 @@ impl Predicate<Key, u16> for Kept {
         match self {
             Kept::Subscriber(kept) => *subscriber == *kept,
             Kept::AllBut(dropped) => key.0 != *dropped,
+            Kept::Without(without) => without.keep(key, subscriber),
         }
     }
 

@@ -4,9 +4,11 @@
 
 pub mod endings;
 pub mod kept;
+mod machine;
 mod opaque;
 pub mod peer;
 mod peers;
+mod planning;
 mod print;
 pub mod replay;
 mod script;

@@ -2,6 +2,8 @@
 
 use crate::endings::Fault;
 use crate::kept::Kept;
+use crate::machine::Fed;
+use crate::planning::items_of;
 use crate::print;
 use crate::script::{Said, Wish};
 use bytes::Bytes;
@@ -37,20 +39,19 @@ impl Opaque {
         }
     }
 
-    /// Feeds what happened, and prints the effects or the refusal. False where it doesn't happen to
-    /// this machine.
+    /// Feeds what happened, and prints the effects or the refusal.
     pub fn happens<W: Write>(
         &mut self,
         now: Moment,
         said: Said,
         output: &mut W,
-    ) -> Result<bool, Fault> {
+    ) -> Result<Fed, Fault> {
         match event_of(self.alloc, said) {
             Ok(Some(event)) => {
                 let now = now.nanoseconds;
                 print::answer(output, self.actor.step(Input { now, event }))
             }
-            Ok(None) => Ok(false),
+            Ok(None) => Ok(Fed::Elsewhere),
             Err(fault) => Err(fault),
         }
     }
@@ -68,6 +69,7 @@ impl Opaque {
 fn event_of(alloc: Global, said: Said) -> Result<Option<Told>, Fault> {
     Ok(Some(match said {
         Said::Fetch(wish) => return fetch(alloc, &wish),
+        Said::FetchAll(fetches) => Event::Fetch(items_of(alloc, fetches)?),
         Said::Retain(kept) => Event::Retain(kept),
         Said::Verdict { number, outcome } => Event::Verdict { number, outcome },
         Said::Wake => Event::RetriesDue,

@@ -2,7 +2,9 @@
 
 use crate::endings::Fault;
 use crate::kept::Kept;
+use crate::machine::Fed;
 use crate::peer::Peer;
+use crate::planning::items_of;
 use crate::print;
 use crate::script::{Said, Timing, Wish};
 use resolver::p2p::Core;
@@ -53,30 +55,29 @@ impl Peers {
         }
     }
 
-    /// Feeds what happened, and prints the effects or the refusal. False where it doesn't happen to
-    /// this machine.
+    /// Feeds what happened, and prints the effects or the refusal.
     pub fn happens<W: Write>(
         &mut self,
         now: Moment,
         said: Said,
         output: &mut W,
-    ) -> Result<bool, Fault> {
+    ) -> Result<Fed, Fault> {
         match event_of(self.alloc, said) {
             Ok(Some(event)) => {
                 let now = now.nanoseconds;
                 self.step(Input::Happens(Happening { now, event }), output)
             }
-            Ok(None) => Ok(false),
+            Ok(None) => Ok(Fed::Elsewhere),
             Err(fault) => Err(fault),
         }
     }
 
     /// Feeds what the open scan is answered, and prints the effects or the refusal.
-    pub fn answers<W: Write>(&mut self, answer: Answer, output: &mut W) -> Result<bool, Fault> {
+    pub fn answers<W: Write>(&mut self, answer: Answer, output: &mut W) -> Result<Fed, Fault> {
         self.step(Input::Answers(answer), output)
     }
 
-    fn step<W: Write>(&mut self, input: Taken, output: &mut W) -> Result<bool, Fault> {
+    fn step<W: Write>(&mut self, input: Taken, output: &mut W) -> Result<Fed, Fault> {
         print::answer(output, self.core.step(input))
     }
 
@@ -94,6 +95,7 @@ impl Peers {
 fn event_of(alloc: Global, said: Said) -> Result<Option<Told>, Fault> {
     Ok(Some(match said {
         Said::Fetch(wish) => Event::Fetch(items(alloc, wish)?),
+        Said::FetchAll(fetches) => Event::Fetch(items_of(alloc, fetches)?),
         Said::Retain(kept) => Event::Retain(kept),
         Said::Verdict { number, outcome } => Event::Verdict { number, outcome },
         Said::Wake => Event::PendingDue,

@@ -4,6 +4,7 @@ pub mod opaque;
 pub mod peers;
 
 use crate::endings::{Fault, written};
+use crate::machine::Fed;
 use bytes::Bytes;
 use itoa::Buffer;
 use resolver_base::base;
@@ -32,18 +33,18 @@ fn each<T: Lined, W: Write>(output: &mut W, lines: &[T]) -> Result<(), Fault> {
     Ok(())
 }
 
-/// Prints the effects of a step, or its refusal. True, since the step was taken.
+/// Prints the effects of a step, or its refusal.
 pub fn answer<T: Lined + Drop, W: Write>(
     output: &mut W,
     answered: Result<Vec<T>, base::Fault>,
-) -> Result<bool, Fault> {
-    let printed = match &answered {
-        Ok(effects) => each(output, effects.as_slice()),
-        Err(fault) => refusal(output, *fault),
+) -> Result<Fed, Fault> {
+    let (fed, printed) = match &answered {
+        Ok(effects) => (Fed::Taken, each(output, effects.as_slice())),
+        Err(fault) => (Fed::Refused, refusal(output, *fault)),
     };
     drop(answered);
     match printed {
-        Ok(()) => Ok(true),
+        Ok(()) => Ok(fed),
         Err(fault) => Err(fault),
     }
 }

@@ -1,33 +1,32 @@
 //! A script from its first line to its last.
 
 use crate::endings::{Ending, Fault, Place, written};
+use crate::machine::{Fed, Machine};
 use crate::opaque::Opaque;
 use crate::peers::Peers;
-use crate::script::{Command, Rejected, Said, Why, Wrong, is_skipped, parse};
+use crate::planning::Planning;
+use crate::script::{Command, Rejected, Why, Wrong, is_skipped, parse};
 use log::{Log, trace};
 use memchr::memchr;
-use resolver_fetch::fetcher::Answer;
 use resolver_moment::Moment;
 use std::alloc::Global;
 use std::io::{BufRead, BufReader, ErrorKind, Read, Write};
 use std::mem;
 
-/// The machine that a script feeds.
-#[derive(Drop)]
-enum Machine {
-    Opaque(Opaque),
-    Peers(Peers),
-}
-
-/// The machine that a script opened, and the moment of its next input.
+/// The machine that a script opened, the moment of its next input, and the plan.
 struct Session {
     machine: Machine,
     now: Moment,
+    planning: Planning,
 }
 
 impl Drop for Session {
     fn drop(self) {
-        let Self { machine: _, now: _ } = self;
+        let Self {
+            machine: _,
+            now: _,
+            planning: _,
+        } = self;
     }
 }
 
@@ -187,61 +186,40 @@ fn start(alloc: Global, session: &mut Option<Session>, command: Command) -> Opti
         Command::Peers(timing) => Machine::Peers(Peers::new(alloc, timing)),
         _ => return Some(Why::Unopened),
     };
-    let now = Moment { nanoseconds: 0 };
-    drop(mem::replace(session, Some(Session { machine, now })));
+    let opened = Session {
+        machine,
+        now: Moment { nanoseconds: 0 },
+        planning: Planning::new(alloc),
+    };
+    drop(mem::replace(session, Some(opened)));
     None
 }
 
 impl Session {
     /// Does what a command says, or says why it may not stand here.
     fn take<W: Write>(&mut self, command: Command, output: &mut W) -> Result<Option<Why>, Fault> {
-        let told = match command {
+        let fed = match command {
             Command::Opaque { .. } | Command::Peers(_) => return Ok(Some(Why::Opened)),
             Command::At(moment) => {
                 self.now = moment;
                 return Ok(None);
             }
             Command::Show => return self.machine.show(output),
+            Command::Plans(planned) => {
+                let Self {
+                    machine,
+                    now,
+                    planning,
+                } = self;
+                return planning.take(machine, *now, planned, output);
+            }
             Command::Happens(said) => self.machine.happens(self.now, said, output),
             Command::Answers(answer) => self.machine.answers(answer, output),
         };
-        match told {
-            Ok(true) => Ok(None),
-            Ok(false) => Ok(Some(Why::OtherMachine)),
+        match fed {
+            Ok(Fed::Taken | Fed::Refused) => Ok(None),
+            Ok(Fed::Elsewhere) => Ok(Some(Why::OtherMachine)),
             Err(fault) => Err(fault),
-        }
-    }
-}
-
-impl Machine {
-    /// Prints its rows and its wake-up.
-    fn show<W: Write>(&self, output: &mut W) -> Result<Option<Why>, Fault> {
-        let shown = match self {
-            Machine::Opaque(actor) => actor.show(output),
-            Machine::Peers(engine) => engine.show(output),
-        };
-        match shown {
-            Ok(()) => Ok(None),
-            Err(fault) => Err(fault),
-        }
-    }
-
-    fn happens<W: Write>(
-        &mut self,
-        now: Moment,
-        said: Said,
-        output: &mut W,
-    ) -> Result<bool, Fault> {
-        match self {
-            Machine::Opaque(actor) => actor.happens(now, said, output),
-            Machine::Peers(engine) => engine.happens(now, said, output),
-        }
-    }
-
-    fn answers<W: Write>(&mut self, answer: Answer, output: &mut W) -> Result<bool, Fault> {
-        match self {
-            Machine::Opaque(_) => Ok(false),
-            Machine::Peers(engine) => engine.answers(answer, output),
         }
     }
 }

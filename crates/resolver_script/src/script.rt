@@ -8,12 +8,14 @@ mod inputs;
 mod wrong;
 
 use crate::kept::Kept;
+use crate::planning::Planned;
 use bytes::Bytes;
 use fields::{Fields, limit, moment, peer, timeout};
-use inputs::{of_both_machines, of_peers, of_scans, of_sources};
+use inputs::{of_both_machines, of_peers, of_plans, of_scans, of_sources};
 use resolver_fetch::fetcher::Answer;
+use resolver_mailbox::mocks::Key;
 use resolver_moment::Moment;
-use resolver_root::{NonEmptyVec, Outcome};
+use resolver_root::{Fetch, NonEmptyVec, Outcome};
 use std::alloc::{AllocError, AllocFailed, Global};
 use std::num::NonZeroU32;
 use std::str;
@@ -51,6 +53,8 @@ pub enum Command {
     /// `drawn N`, `checked clear`, `checked T`, `sent accepted` and `sent refused`: what the open
     /// scan asked is answered.
     Answers(Answer),
+    /// `backfill S M`, `want LIST` and `done LIST`: what is planned.
+    Plans(Planned),
 }
 
 /// What a line says that happened.
@@ -58,7 +62,9 @@ pub enum Command {
 pub enum Said {
     /// `fetch K S M` and `fetch K S M LIST`: a subscriber wants a key.
     Fetch(Wish),
-    /// `keep-sub S` and `drop-key K`: subscribers want their keys no more.
+    /// `want LIST`: the plan's subscriber wants keys.
+    FetchAll(Vec<Fetch<Key, u16>>),
+    /// `keep-sub S`, `drop-key K` and `done LIST`: subscribers want their keys no more.
     Retain(Kept),
     /// `verdict N W`: what the consumer said, or nothing where it dropped the delivery.
     Verdict {
@@ -183,8 +189,11 @@ fn read_command(alloc: Global, word: &str, fields: &mut Fields<'_>) -> Result<Co
     if let Some(answer) = of_scans(word, fields)? {
         return Ok(Command::Answers(answer));
     }
-    match of_peers(alloc, word, fields)? {
-        Some(said) => Ok(Command::Happens(said)),
+    if let Some(said) = of_peers(alloc, word, fields)? {
+        return Ok(Command::Happens(said));
+    }
+    match of_plans(alloc, word, fields)? {
+        Some(planned) => Ok(Command::Plans(planned)),
         None => Err(Unread::Unreadable(Why::NoWord)),
     }
 }

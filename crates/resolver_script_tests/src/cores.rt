@@ -34,7 +34,10 @@ pub enum Given {
     Peers(&'static [u8]),
     /// The subscriber wants the key, with the trace mark 7.
     Fetch(u8, u16),
-    Retain(Kept),
+    /// This subscriber alone is kept, of every key.
+    KeepSubscriber(u16),
+    /// All are kept but those of this key.
+    DropKey(u8),
     Wake,
     TimeOut,
     Verdict(u64, Option<Outcome>),
@@ -95,7 +98,8 @@ fn event_of(rt: &impl Abort, alloc: Global, given: Given) -> Result<PlainEvent, 
             peers: peers(rt, alloc, names),
         }),
         Given::Fetch(key, subscriber) => Ok(fetch(rt, alloc, key, subscriber)),
-        Given::Retain(kept) => Ok(Event::Retain(kept)),
+        Given::KeepSubscriber(kept) => Ok(Event::Retain(Kept::Subscriber(kept))),
+        Given::DropKey(dropped) => Ok(Event::Retain(Kept::AllBut(dropped))),
         Given::Wake => Ok(Event::PendingDue),
         Given::TimeOut => Ok(Event::ActiveDue),
         Given::Verdict(number, outcome) => Ok(Event::Verdict { number, outcome }),

@@ -4,7 +4,6 @@ use crate::asserting::assert_same;
 use crate::cores::{Given, Plain, make_core, take};
 use resolver::p2p::{Durations, Metrics, Tally};
 use resolver::{Outcome, Resolution};
-use resolver_script::kept::Kept;
 use resolver_script::peer::Peer;
 use std::alloc::Global;
 use std::fmt::Write;
@@ -12,10 +11,10 @@ use std::panic::Expect;
 use std::process::Abort;
 
 /// Keeps none of the subscribers of these tests.
-const NOBODY: Kept = Kept::Subscriber(0);
+const KEEP_NOBODY: Given = Given::KeepSubscriber(0);
 
 /// Keeps the subscribers of all keys of these tests.
-const EVERYBODY: Kept = Kept::AllBut(0);
+const KEEP_EVERYBODY: Given = Given::DropKey(0);
 
 const COMPLETE: Option<Outcome> = Some(Outcome::Resolved(Resolution::Complete));
 
@@ -165,10 +164,7 @@ fn assert_judged(rt: &impl Abort, alloc: Global, outcome: Option<Outcome>, expec
 
 /// The same, where the key was called off before.
 fn assert_called_off(rt: &impl Abort, alloc: Global, outcome: Option<Outcome>, expected: &Metrics) {
-    let rest = [
-        (20, Given::Retain(NOBODY)),
-        (20, Given::Verdict(0, outcome)),
-    ];
+    let rest = [(20, KEEP_NOBODY), (20, Given::Verdict(0, outcome))];
     assert_counts(rt, alloc, &[ASKED, JUDGED, &rest], expected);
 }
 
@@ -400,14 +396,14 @@ fn retains(rt: HostRuntime) {
     const KEYS: &[(u64, Given)] = &[
         (0, Given::Fetch(1, 10)),
         (0, Given::Fetch(2, 10)),
-        (0, Given::Retain(EVERYBODY)),
+        (0, KEEP_EVERYBODY),
     ];
     const KEPT: Metrics = Metrics {
         fetch_pending: 2,
         cancel: DROPPED,
         ..UNCOUNTED
     };
-    const CALLED_OFF: &[(u64, Given)] = &[(0, Given::Retain(NOBODY))];
+    const CALLED_OFF: &[(u64, Given)] = &[(0, KEEP_NOBODY)];
     const BOTH: Metrics = Metrics {
         cancel: Tally {
             success: 2,

@@ -13,6 +13,7 @@ use std::process::Abort;
 mod actors;
 mod limits;
 mod peers;
+mod plans;
 mod scans;
 mod unreadable;
 mod worked;

@@ -22,6 +22,8 @@ mod mocks;
 #[cfg(test)]
 mod pair;
 #[cfg(test)]
+mod plans;
+#[cfg(test)]
 mod playing;
 #[cfg(test)]
 mod running;

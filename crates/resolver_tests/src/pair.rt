@@ -5,6 +5,7 @@ use crate::fakes::world::{Setting, World, make_loop};
 use crate::scan::Shown;
 use crate::twin::{Deadlines, Hands, Steps, Twin, make_core, spell_turn};
 use futures::test::MockTask;
+use resolver_fakes::names::Below;
 use resolver_fakes::polling::{Polled, settle};
 use std::alloc::{AllocGlobal, Global};
 use std::io::Print;
@@ -141,7 +142,7 @@ where
     let alloc = rt.alloc();
     let mut pairs = Vec::new(alloc);
     for setting in settings {
-        let made = make_loop(rt, alloc, *setting).expect(&rt, "a loop");
+        let made = make_loop::<Below, _>(rt, alloc, *setting).expect(&rt, "a loop");
         let side = Looping::new(&rt, alloc, made);
         let core = make_core(alloc, *setting);
         let pair = Pair::new(&rt, alloc, side, core, *setting, eligible);

@@ -4,6 +4,7 @@ use crate::asserting::assert_same;
 use crate::fakes::acts::{Act, Asks};
 use crate::fakes::world::{Setting, World, make_loop};
 use futures::test::MockTask;
+use resolver_fakes::names::Below;
 use resolver_fakes::polling::{Polled, turn};
 use resolver_fakes::seen::{Wrong, spell_feedback, spell_said};
 use std::alloc::{AllocGlobal, Global};
@@ -73,7 +74,7 @@ pub fn sees<R>(rt: R, wrong: Wrong, acts: &[Act<'_>], seen: &str)
 where
     R: Abort + Wait + RandomSource + AllocGlobal + Copy + Drop + Send + 'static,
 {
-    let made = make_loop(rt, rt.alloc(), Setting::with(wrong));
+    let made = make_loop::<Below, _>(rt, rt.alloc(), Setting::with(wrong));
     let (mut world, mut looped) = made.expect(&rt, "a loop");
     let text = written(&rt, &mut looped, &mut world, acts);
     drop(looped);

@@ -5,6 +5,7 @@ use bytes::Bytes;
 use futures::channel::{mpsc, oneshot};
 use resolver::base::Fault;
 use resolver::{Outcome, Resolution};
+use resolver_fakes::names::Below;
 use resolver_fakes::seen::{Seen, Wrong, spell_said};
 use resolver_fakes::waiting::next;
 use std::alloc::AllocGlobal;
@@ -202,7 +203,7 @@ fn play<R>(rt: R, steps: &[Step]) -> (String, Result<(), Fault>)
 where
     R: Abort + Clock + Threads + Wait + RandomSource + AllocGlobal + Copy + Drop + Send + 'static,
 {
-    let made = make_world(rt, rt.alloc(), Setting::with(Wrong::Nothing));
+    let made = make_world::<Below, _>(rt, rt.alloc(), Setting::with(Wrong::Nothing));
     let (mut world, engine, lent) = made.expect(&rt, "a world");
     let handle = start(engine, lent).expect(&rt, "a thread");
     let text = go(&rt, &mut world, steps);

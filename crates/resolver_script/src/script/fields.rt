@@ -201,6 +201,15 @@ pub fn peers(alloc: Global, field: Option<&str>) -> Result<Vec<u8>, Unread>
     }
 }
 
+/// Keys, joined by commas; `-` is the empty list.
+pub fn keys(alloc: Global, field: Option<&str>) -> Result<Vec<u8>, Unread>
+    ensures is { IfOk result (λ keys. list_of (option_copied field.entry) 255 ≡ Ok keys.items) }
+    ensures err { IfErr result
+        (λ unread. (unread ≡ OutOfMemory) ⊎ (list_of (option_copied field.entry) 255 ≡ Err unread)) }
+{
+    peers(alloc, field)
+}
+
 /// Peers, joined by commas: one at least.
 pub fn targets(alloc: Global, field: Option<&str>) -> Result<NonEmptyVec<u8>, Unread>
     ensures is { IfOk result (λ peers. list_of (option_copied field.entry) 255 ≡ Ok peers) }

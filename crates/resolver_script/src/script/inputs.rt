@@ -1,8 +1,11 @@
-//! What lines say to a machine. Each call reads the lines that begin with one of its words, and
+//! What lines say to a machine or a plan. Each call reads the lines that begin with one of its words, and
 //! answers none for another word.
 
 use crate::kept::Kept;
-use crate::script::fields::{Fields, bytes, count, key, peer, peers, subscriber, targets, wide};
+use crate::planning::Planned;
+use crate::script::fields::{
+    Fields, bytes, count, key, keys, peer, peers, subscriber, targets, wide,
+};
 use crate::script::{Said, Unread, Why, Wish};
 use bytes::Bytes;
 use resolver_base::base::Check;
@@ -67,6 +70,26 @@ pub fn of_scans(word: &str, fields: &mut Fields<'_>) -> Result<Option<Answer>, U
         "sent" => Answer::Sent(is_accepted(fields.next())?),
         _ => return Ok(None),
     }))
+}
+
+/// What is planned.
+pub fn of_plans(
+    alloc: Global,
+    word: &str,
+    fields: &mut Fields<'_>,
+) -> Result<Option<Planned>, Unread> {
+    Ok(Some(match word {
+        "backfill" => opened(fields)?,
+        "want" => Planned::Want(keys(alloc, fields.next())?),
+        "done" => Planned::Done(keys(alloc, fields.next())?),
+        _ => return Ok(None),
+    }))
+}
+
+fn opened(fields: &mut Fields<'_>) -> Result<Planned, Unread> {
+    let subscriber = subscriber(fields.next())?;
+    let mark = count(fields.next())?;
+    Ok(Planned::Open { subscriber, mark })
 }
 
 fn wish(alloc: Global, fields: &mut Fields<'_>) -> Result<Wish, Unread> {

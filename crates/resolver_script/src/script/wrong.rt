@@ -37,6 +37,8 @@ pub enum Why {
     Opened,
     /// The line says something to the other machine.
     OtherMachine,
+    /// The line says something to a plan, and none is open.
+    Unplanned,
 }
 
 impl fmt::Display for Why {
@@ -68,6 +70,7 @@ impl Why {
             Why::Unopened => "no machine is open",
             Why::Opened => "a machine is open",
             Why::OtherMachine => "said to the other machine",
+            Why::Unplanned => "no plan is open",
         }
     }
 }

@@ -50,6 +50,9 @@ P2p 9 50 10 => field 1: not a word that may stand there
 p2p 9,8 50 10 => field 2: not a number
 p2p 9 50 10\r => a carriage return
 peers 1 4 => no machine is open
+backfill 10 7 => no machine is open
+want 1 => no machine is open
+done 1 => no machine is open
 drawn 0 => no machine is open";
 
 /// Lines that an engine can't be told.
@@ -129,8 +132,25 @@ drop-key 256 => field 2: a number above 255
 at 19807040628566084398385987584 => field 2: a number above 19807040628566084398385987583
 show all => field 2: one field too many
 stop now => field 2: one field too many
-want 1 => field 1: not a word that may stand there
-done 1 => field 1: not a word that may stand there";
+want 1 => no plan is open
+want - => no plan is open
+want => field 2: missing
+want 1  => two spaces, or one at an end
+want 1, => field 2: not a list of numbers up to 255
+want 1,256 => field 2: not a list of numbers up to 255
+want 1 2 => field 3: one field too many
+done 1 => no plan is open
+done - => no plan is open
+done => field 2: missing
+done 01 => field 2: not a list of numbers up to 255
+done 1 - => field 3: one field too many
+backfill => field 2: missing
+backfill 10 => field 3: missing
+backfill - 7 => field 2: not a number
+backfill 65536 7 => field 2: a number above 65535
+backfill 10 18446744073709551616 => field 3: a number above 18446744073709551615
+backfill 10 7 1 => field 4: one field too many
+Want 1 => field 1: not a word that may stand there";
 
 /// Lines that an actor can't be told.
 const OF_NO_ACTOR: &str = "opaque 1 => a machine is open
@@ -170,7 +190,16 @@ wake 5 => field 2: one field too many
 stop now => field 2: one field too many
 keep-sub => field 2: missing
 keep-sub 65536 => field 2: a number above 65535
-drop-key 256 => field 2: a number above 255";
+drop-key 256 => field 2: a number above 255
+want 1 => no plan is open
+want - => no plan is open
+want 256 => field 2: not a list of numbers up to 255
+done 1 => no plan is open
+done - => no plan is open
+done => field 2: missing
+backfill 10 => field 3: missing
+backfill 65536 7 => field 2: a number above 65535
+backfill 10 7 1 => field 4: one field too many";
 
 #[test]
 fn lines(rt: HostRuntime) {

@@ -81,7 +81,7 @@ pub trait Asks {
     fn close(&mut self);
 }
 
-impl<R: Wait + Copy + Send + 'static> Asks for Asked<R> {
+impl<R: Wait + Copy + Send + 'static> Asks for Asked<Below, R> {
     fn fetch(&mut self, alloc: Global, wants: &[(u8, u16)]) -> Result<Feedback, Fault> {
         match wants {
             [(key, subscriber)] => Resolver::fetch(self, wanted(*key, *subscriber)),
@@ -131,7 +131,7 @@ impl<M: Asks> World<M> {
 
 impl Held {
     /// Does this, of what needs no handle.
-    fn act(&mut self, act: Act<'_>) -> Result<(), Fault> {
+    pub fn act(&mut self, act: Act<'_>) -> Result<(), Fault> {
         match act {
             Act::Peers(index, numbers) => return self.set_peers(index, numbers),
             Act::Block(numbers) => return self.block(numbers),

@@ -1,21 +1,21 @@
-//! An engine's loop in memory, and what its test holds of it.
+//! An engine's loop in memory, and what its test holds of it. `Q` is the predicate by which subscribers are let go.
 
 use bytes::Bytes;
 use futures::channel::{mpsc, oneshot};
 use futures::task::Poll;
 use futures::test::MockTask;
 use resolver::p2p::{Config, Engine, Loop, Mailbox};
-use resolver_base::base::{Fault, Seeded};
+use resolver_base::base::{Faithful, Fault, Seeded};
 use resolver_fakes::both::both;
 use resolver_fakes::lent::{Dice, Given, Judge, Store, Wire, make_judge};
-use resolver_fakes::names::{Below, Peer};
+use resolver_fakes::names::Peer;
 use resolver_fakes::polling::Polled;
 use resolver_fakes::seen::{Seen, Told, Wrong};
 use resolver_fakes::watch::{Standing, Watch};
 use resolver_loop::{Ending, Handle};
 use resolver_mailbox::mailbox::Unrecorded;
 use resolver_mailbox::mocks::Key;
-use resolver_root::Outcome;
+use resolver_root::{Outcome, Predicate};
 use std::alloc::{AllocGlobal, Global};
 use std::num::{NonZeroU32, NonZeroUsize};
 use std::random::RandomSource;
@@ -56,7 +56,7 @@ impl Setting {
 }
 
 /// The engine of a world, with a timeout of 50 and a delay of 10.
-pub type Made<R> = Engine<
+pub type Made<Q, R> = Engine<
     Peer,
     Given<(u64, Vec<Peer>)>,
     Given<Vec<Peer>>,
@@ -64,12 +64,12 @@ pub type Made<R> = Engine<
     u16,
     Judge,
     Store,
-    Below,
+    Q,
     R,
 >;
 
 /// Its loop.
-pub type Looping<R> = Loop<
+pub type Looping<Q, R> = Loop<
     Peer,
     Given<(u64, Vec<Peer>)>,
     Given<Vec<Peer>>,
@@ -77,7 +77,7 @@ pub type Looping<R> = Loop<
     u16,
     Judge,
     Store,
-    Below,
+    Q,
     R,
     Wire,
     Given<(Peer, Bytes)>,
@@ -86,7 +86,7 @@ pub type Looping<R> = Loop<
 >;
 
 /// A handle of its mailbox.
-pub type Asked<R> = Mailbox<Key, Peer, u16, Below, Unrecorded, R>;
+pub type Asked<Q, R> = Mailbox<Key, Peer, u16, Q, Unrecorded, R>;
 
 /// The loop, as a test knows it, which polls it by hand.
 #[derive(Drop)]
@@ -94,7 +94,11 @@ pub struct Looped<L> {
     looped: L,
 }
 
-impl<R: Wait + Copy + Drop> Polled for Looped<Looping<R>> {
+impl<Q, R> Polled for Looped<Looping<Q, R>>
+where
+    Q: Predicate<Key, u16> + Faithful + Drop,
+    R: Wait + Copy + Drop,
+{
     fn poll_once(&mut self, task: &MockTask) -> Poll<Ending> {
         task.poll(&mut self.looped)
     }
@@ -311,11 +315,11 @@ fn tie(
 }
 
 /// A world with its engine, which has a timeout of 50 and a delay of 10.
-pub fn make_world<R: Copy>(
+pub fn make_world<Q: Predicate<Key, u16> + Faithful + Drop, R: Copy>(
     rt: R,
     alloc: Global,
     setting: Setting,
-) -> Result<(World<Asked<R>>, Made<R>, Lent), Fault> {
+) -> Result<(World<Asked<Q, R>>, Made<Q, R>, Lent), Fault> {
     match make_parts(alloc, setting) {
         Ok((held, lent, parts)) => {
             let cfg = Config {
@@ -371,11 +375,11 @@ fn parts_of(lent: Lent) -> Result<((Wire, Given<(Peer, Bytes)>), Standing, Dice)
 }
 
 /// A world, and the loop of its engine.
-pub fn make_loop<R: Copy>(
+pub fn make_loop<Q: Predicate<Key, u16> + Faithful + Drop, R: Copy>(
     rt: R,
     alloc: Global,
     setting: Setting,
-) -> Result<(World<Asked<R>>, Looped<Looping<R>>), Fault> {
+) -> Result<(World<Asked<Q, R>>, Looped<Looping<Q, R>>), Fault> {
     match make_world(rt, alloc, setting) {
         Ok((world, engine, lent)) => {
             let looped = match parts_of(lent) {
@@ -398,8 +402,9 @@ pub fn make_loop<R: Copy>(
 }
 
 /// A world's engine in a thread.
-pub fn start<R>(engine: Made<R>, lent: Lent) -> Result<Handle, Fault>
+pub fn start<Q, R>(engine: Made<Q, R>, lent: Lent) -> Result<Handle, Fault>
 where
+    Q: Predicate<Key, u16> + Faithful + Drop + Send + 'static,
     R: Threads + Wait + RandomSource + AllocGlobal + Copy + Drop + Send + 'static,
 {
     match parts_of(lent) {

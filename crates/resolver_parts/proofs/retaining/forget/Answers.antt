@@ -11,4 +11,4 @@ returns-clause-fetcher g c = c.retain-2.ensures (is_asked (names g.K.Ord.cmp g.S
 
 -- what the tracker answers is what it holds
 pub retain-requires-2-clause-pure : goal.retain-requires-2-clause-pure
-retain-requires-2-clause-pure g c = (is_asked (names g.K.Ord.cmp g.S.Ord.cmp) c.args.demand.now , record { by = λ item b is. search rules })
+retain-requires-2-clause-pure g c = (is_asked (names g.K.Ord.cmp g.S.Ord.cmp) c.args.demand.now, record { by = λ item b is. search rules })

@@ -23,4 +23,4 @@ returns g c = λ m agrees.
 
 -- nothing is kept
 pub retain-requires-clause-pure : goal.retain-requires-clause-pure
-retain-requires-clause-pure g c = ((λ key. false) , record { by = λ item b is. search rules })
+retain-requires-clause-pure g c = ((λ key. false), record { by = λ item b is. search rules })

@@ -1,0 +1,7 @@
+use Rattle.std.proofs.Common.{◌≡◌, ◌++◌}
+use Rattle.resolver_backfill.specs.Plans.{fetches_of}
+use Rattle.resolver_backfill.proofs.plan.Plan.again.Given as goal
+
+-- what was made, and then what is left, is all
+abbrev pub invariant-loop-key : goal.invariant-loop-key
+invariant-loop-key g l = l.fetches.items ++ fetches_of l.self l.key-iterator ≡ fetches_of l.self l.self.wanted

@@ -1,0 +1,5 @@
+pub mod Plans
+pub mod Alike
+pub mod Given
+pub mod Telling
+pub mod WorkedPlan
