@@ -1,5 +1,5 @@
 -- What single inputs of a peer machine do, and what they don't.
-use Rattle.std.proofs.Common.{◌≡◌, refl, ap, sym, subst, ◌∙◌, ℕ, ◌≤◌, ◌<◌, ◌^◌, Bool, true, false, ◌&&◌, ◌==◌, cond, List, [], ◌∷◌, ◌++◌, length, Option, None, Some, Result, Ok, Err, filter, if◌then◌else◌, append-nil, arith}
+use Rattle.std.proofs.Common.{◌≡◌, refl, ap, sym, subst, ◌∙◌, ℕ, ◌≤◌, ◌^◌, Bool, true, false, ◌&&◌, ◌==◌, List, [], ◌∷◌, ◌++◌, length, Option, None, Some, Result, Ok, Err, filter, if◌then◌else◌, append-nil, arith}
 use Rattle.std.specs.Prelude.{option_map, option_and_then, option_to_list, nat_lt, is_none, ⊤, map, not}
 use Rattle.std.specs.List.{cons_option}
 use Rattle.std.specs.Map.{lookup}
@@ -11,7 +11,6 @@ use Rattle.resolver_root.specs.declared.root.Outcome.TheVariants.{Invalid, Resol
 use Rattle.resolver_root.specs.Subscribers.{without}
 use Rattle.resolver_asked.specs.declared.requests.request.Request.{Request}
 use Rattle.resolver_asked.specs.Requests.{overdue}
-use Rattle.resolver_request.specs.declared.wire.Message.{Message}
 use Rattle.resolver_request.specs.declared.wire.Payload.{Payload}
 use Rattle.resolver_request.specs.declared.wire.Payload.TheVariants as payloads
 use Rattle.resolver_trying.specs.declared.scan.Ask.{Ask as Question}
@@ -26,9 +25,9 @@ use Rattle.resolver_peer.specs.declared.named.Serve.{Serve}
 use Rattle.resolver_peer.specs.Parties.{Parties, orders_of}
 use Rattle.resolver_peer.specs.PeerRows.{Row, Phase, Waits, Asked, Judged, Judging}
 use Rattle.resolver_peer.specs.PeerRun.{effects_of}
-use Rattle.resolver_peer.specs.Peer.{Machine, Open, Done, Effect, Ask, Cancel, Deliver, Produce, Status, Running, Ended, Failed, Event, Fetch, Retain, PeerSet, Blocked, ActiveDue, PendingDue, Verdict, Served, Net, End, Input, Happens, Answers, account_for, and_then, answer_of, answered, asking, cancel_in, cancels, closed, does, freed, hand_out, has_subscribers, is_due, is_key, is_newer, misses, produce, pruned, question, quiet, receive, responds, row_of, ruled, ruled_at, ruled_in, scanned, scanned_if, served_by, serves_rest, snapshot, step, step_in, step_of, step_running, times_out, turned, verdict_on, wake_up}
+use Rattle.resolver_peer.specs.Peer.{Machine, Open, Done, Effect, Ask, Cancel, Deliver, Produce, Status, Running, Ended, Failed, Event, Fetch, Retain, PeerSet, Blocked, ActiveDue, PendingDue, Verdict, Served, Net, End, Input, Happens, Answers, account_for, and_then, answer_of, answered, cancel_in, cancels, closed, does, freed, hand_out, has_subscribers, is_due, is_key, is_newer, misses, produce, pruned, question, quiet, receive, responds, row_of, ruled, ruled_at, ruled_in, scanned, scanned_if, served_by, serves_rest, snapshot, step_in, step_of, step_running, times_out, turned, verdict_on, wake_up}
 use Rattle.resolver_peer.specs.PeerSteps.{is_passed_over, is_unasked_as}
-use Rattle.resolver_peer.specs.PeerPoints.{DeadVerdictsPass, RepliesOnce, ResponsesAreDelivered, PassedOverPass, is_delivery, is_judged_as, is_live, is_live_as, is_payment, is_reply, is_running, replies_as, replies_if, row_judged_as, takes_events}
+use Rattle.resolver_peer.specs.PeerPoints.{DeadVerdictsPass, RepliesOnce, ResponsesAreDelivered, PassedOverPass, is_delivery, is_judged_as, is_live_as, is_payment, is_reply, is_running, replies_as, replies_if, row_judged_as}
 
 module _ {K S P : Type 0} where
   -- the effects of what is done, if it is

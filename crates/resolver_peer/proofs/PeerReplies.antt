@@ -25,11 +25,11 @@ use Rattle.resolver_machine.specs.declared.ruling.Ruling.TheVariants as rulings
 use Rattle.resolver_machine.specs.Verdicts.{ruling}
 use Rattle.resolver_peer.specs.declared.named.Serve.{Serve}
 use Rattle.resolver_peer.specs.Parties.{Parties, orders_of}
-use Rattle.resolver_peer.specs.PeerRows.{Row, Phase, Waits, Asked, Judged, Judging}
+use Rattle.resolver_peer.specs.PeerRows.{Row, Phase, Waits, Asked, Judged}
 use Rattle.resolver_peer.specs.PeerRun.{Fed, effects_of}
 use Rattle.resolver_peer.specs.PeerSteps.{Runs}
-use Rattle.resolver_peer.specs.Peer.{Machine, Open, Done, Effect, Produce, Status, Running, Ended, Failed, Item, Event, Fetch, Retain, PeerSet, Blocked, ActiveDue, PendingDue, Verdict, Served, Net, End, Input, Happens, Answers, account_for, and_then, answer_of, answered, closed, does, fetch, fetch_one, freed, hand_out, is_due, is_newer, misses, opening, peer_set, produce, receive, responds, row_of, ruled, ruled_at, ruled_in, scanned, scanned_if, served_by, serves_rest, snapshot, step, step_in, step_of, step_running, times_out, verdict_on, wake_up, with_sent}
-use Rattle.resolver_peer.specs.PeerPoints.{NoSecondReply, all_served, is_reply, is_running, replies_as, replies_if, served_at}
+use Rattle.resolver_peer.specs.Peer.{Machine, Open, Done, Effect, Produce, Status, Running, Ended, Failed, Item, Event, Fetch, Retain, PeerSet, Blocked, ActiveDue, PendingDue, Verdict, Served, Net, End, Input, Happens, Answers, account_for, and_then, answer_of, answered, closed, does, fetch, fetch_one, is_due, is_newer, misses, opening, peer_set, produce, receive, responds, row_of, ruled, ruled_at, ruled_in, scanned, scanned_if, served_by, serves_rest, snapshot, step, step_in, step_of, step_running, times_out, verdict_on, wake_up, with_sent}
+use Rattle.resolver_peer.specs.PeerPoints.{NoSecondReply, all_served, is_running, replies_as, replies_if, served_at}
 use Rattle.resolver_peer.proofs.EarnsOnce.{mark}
 use Rattle.resolver_peer.proofs.PeerPoints.{replies_once}
 

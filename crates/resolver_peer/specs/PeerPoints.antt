@@ -1,11 +1,9 @@
 -- What single inputs of a peer machine do, and what they don't.
-use Rattle.std.specs.Prelude.{◌≡◌, ◌≤◌, ◌<◌, ◌^◌, ℕ, Bool, true, false, ◌&&◌, ◌==◌, is_none, List, [], ◌∷◌, ◌++◌, Option, None, Some, Result, filter, length, map, if◌then◌else◌}
+use Rattle.std.specs.Prelude.{◌≡◌, ◌≤◌, ◌<◌, ◌^◌, ℕ, Bool, true, false, ◌&&◌, ◌==◌, List, [], ◌∷◌, ◌++◌, Option, None, Some, Result, filter, length, map}
 use Rattle.std.specs.Map.{lookup}
 use Rattle.resolver_base.specs.declared.base.fault.Fault.{Fault}
 use Rattle.resolver_root.specs.declared.root.Outcome.{Outcome}
 use Rattle.resolver_asked.specs.declared.requests.request.Request.{Request}
-use Rattle.resolver_request.specs.declared.wire.Message.{Message}
-use Rattle.resolver_request.specs.declared.wire.Payload.{Payload}
 use Rattle.resolver_request.specs.declared.wire.Payload.TheVariants as payloads
 use Rattle.resolver_trying.specs.declared.config.Config.{Config}
 use Rattle.resolver_trying.specs.Scan.{is_over}
