@@ -26,7 +26,7 @@ use Rattle.resolver_peer.specs.declared.inputs.Event.{Event as CodeEvent}
 use Rattle.resolver_peer.specs.declared.inputs.Event.TheVariants as events
 use Rattle.resolver_peer.specs.declared.inputs.Input.{Input as CodeInput}
 use Rattle.resolver_peer.specs.declared.inputs.Input.TheVariants as inputs
-use Rattle.resolver.specs.EngineLaws.{RunsWell}
+use Rattle.resolver.specs.EngineLaws.{AreSaid, RunsWell}
 use Rattle.resolver_parts.specs.EngineSteps.{Runs, Takes, all_fed, step_written, written_of}
 use Rattle.resolver.specs.Matching.{Engine, Matches}
 use Rattle.resolver_parts.specs.Said.{Codec, event_of, item_of}
@@ -128,12 +128,7 @@ module _ {K S P : Type 0} (a : Parties K S P) (c : Codec K) where
     takes-said (Err faults.Uneven) takes = going-said (Err faults.Uneven) refl takes
 
   -- answers that were written are a machine's
-  record AreSaid (old : Machine K S P) (feds : List (Fed K S P)) (answers : List (Answer (Told K P S))) (new : Machine K S P) : Type 0 where
-    pub said : List (Answer (Effect K S P))
-    pub written : answers ≡ map (written_of a c) said
-    pub runs : machines.Runs a old feds said new
-
-  runs-said : (feds : List (Fed K S P)) (old : Machine K S P) (answers : List (Answer (Told K P S))) (new : Machine K S P) → Runs a c old feds answers new → AreSaid old feds answers new
+  pub runs-said : (feds : List (Fed K S P)) (old : Machine K S P) (answers : List (Answer (Told K P S))) (new : Machine K S P) → Runs a c old feds answers new → AreSaid a c old feds answers new
   runs-said [] old [] new runs = record { said = []; written = refl; runs = runs }
   runs-said [] old (answer ∷ answers) new runs = absurd runs
   runs-said (fed ∷ feds) old [] new runs = absurd runs
@@ -145,8 +140,8 @@ module _ {K S P : Type 0} (a : Parties K S P) (c : Codec K) where
       none : List (Answer (Effect K S P))
       none = []
 
-      at : (b : Bool) → stops answer ≡ b → MatchBool b ((answers ≡ []) × (new ≡ runs.0)) (Runs a c runs.0 feds answers new) → (Runs a c runs.0 feds answers new → AreSaid runs.0 feds answers new)
-          → AreSaid old (fed ∷ feds) (answer ∷ answers) new
+      at : (b : Bool) → stops answer ≡ b → MatchBool b ((answers ≡ []) × (new ≡ runs.0)) (Runs a c runs.0 feds answers new) → (Runs a c runs.0 feds answers new → AreSaid a c runs.0 feds answers new)
+          → AreSaid a c old (fed ∷ feds) (answer ∷ answers) new
       at true ends last next = record {
         said = s.said ∷ none;
         written = ap (λ answer. answer ∷ answers) s.written ∙ ap (λ answers. written_of a c s.said ∷ answers) last.0;

@@ -64,6 +64,27 @@ module _ {K S P : Type 0} (a : Parties K S P) where
       at Ended = is-of e m is
       at Failed = tt
 
+  -- the status is the core's own
+  agrees-as : (e : Parts K P S) (m : Machine K S P) (status : Status) → Agrees a e m → Agrees a e (record m { status = status })
+  agrees-as e m status is = record {
+    sound = record { ordered = is.sound.ordered; ids = is.sound.ids; own = is.sound.own; below = is.sound.below; new_id = is.sound.new_id };
+    demand = is.demand;
+    entries = is.entries;
+    deliveries = is.deliveries;
+    next_delivery = is.next_delivery;
+    fetcher = is.fetcher;
+    serves = is.serves;
+    next_serve = is.next_serve;
+    last_index = is.last_index;
+    priority = is.priority;
+  }
+
+  -- a core that hasn't failed matches some machine
+  pub some-machine : (e : Parts K P S) (status : Status) → UnlessFailed status (IsTied a e) → UnlessFailed status ((m : Machine K S P) × Matches a (core e status) m)
+  some-machine e Running tied = (record tied.0 { status = Running }, matches e Running (record tied.0 { status = Running }) refl (agrees-as e tied.0 Running tied.1))
+  some-machine e Ended tied = (record tied.0 { status = Ended }, matches e Ended (record tied.0 { status = Ended }) refl (agrees-as e tied.0 Ended tied.1))
+  some-machine e Failed tied = tt
+
   module _ (c : Codec K) where
     -- what a step of the core is, to a machine that it matched
     abbrev pub Becomes : Machine K S P → Fed K S P → Result (List (Told K P S)) Fault → Engine K S P → Type 0

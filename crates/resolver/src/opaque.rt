@@ -4,5 +4,6 @@
 //! a handle of the mailbox of its loop, which `init` runs over a `Fetcher` in a thread; `open` gives the loop
 //! itself.
 
+pub use resolver_actor::laws;
 pub use resolver_actor::opaque::{Actor, Effect, Event, Input, Phase, Row};
 pub use resolver_opaque::{Fetcher, Loop, Resolver, init, open};

@@ -10,6 +10,7 @@ mod config;
 mod counting;
 mod engine;
 mod hands;
+pub mod laws;
 mod looping;
 mod mail;
 pub mod mocks;

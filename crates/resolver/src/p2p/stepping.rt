@@ -14,7 +14,7 @@ ghost use Rattle.resolver.specs.Ending.{is_end, is_end_event};
 ghost use Rattle.resolver.specs.EngineLaws.{RunsWell};
 ghost use Rattle.resolver_parts.specs.EngineSteps.{Takes, all_fed};
 ghost use Rattle.resolver.specs.Listed.{listed};
-ghost use Rattle.resolver.specs.Matching.{Matches, is_final};
+ghost use Rattle.resolver.specs.Matching.{Matches, UnlessFailed, is_final};
 ghost use Rattle.resolver_parts.specs.Said.{answer_of, codec, fed_of};
 ghost use Rattle.resolver_parts.specs.Tied.{fetcher_of};
 
@@ -90,6 +90,14 @@ impl<K: Span + Drop, P: Ord + Clone + Drop, S: Ord + Clone + Drop, Q: Predicate<
             counted: Metrics::init(),
             predicate: PhantomData,
         }
+    }
+
+    /// Some machine is matched, unless the engine has failed. This does nothing.
+    pub fn law(&self)
+        ensures { UnlessFailed self.now.status ((m : Machine K S P)
+            × Matches (parties K.cmp S.cmp P.cmp) self.now m) }
+    {
+        let _status = &self.status;
     }
 
     /// Takes one input and answers with its effects, in order.

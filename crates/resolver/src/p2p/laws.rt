@@ -1,0 +1,25 @@
+//! What is true of every step and run of a peer machine, and so of whoever steps a core. Each function
+//! says one of these, and does nothing.
+//!
+//! A core that matches a machine does what it does: `Core::step` and `Core::run` say so of each machine
+//! that the core matches when they are called, `Core::new` has it match the opening machine, and
+//! `Core::law` says that there is one. Whoever steps a core has a run of that machine, however many
+//! calls it came about by (`engine_runs_join`), with these answers, bytes included (`runs_are_said`), and
+//! what is true of every run is true of it.
+
+ghost use Rattle.resolver_peer.specs.Parties.{parties};
+ghost use Rattle.resolver_parts.specs.Said.{codec};
+ghost use Rattle.resolver.specs.EngineLaws.{EngineRunsJoin, RunsAreSaid};
+
+use resolver_base::base::Span;
+pub use resolver_peer::laws::*;
+
+/// A step of an engine is a run of one input, and a run that goes on is one run.
+pub fn engine_runs_join<K: Span, S: Ord, P: Ord>()
+    ensures { EngineRunsJoin (parties K.cmp S.cmp P.cmp) (codec K.SIZE K.bytes_of K.read_from) }
+{}
+
+/// The answers of a run of an engine are its machine's own, with the bytes of their messages.
+pub fn runs_are_said<K: Span, S: Ord, P: Ord>()
+    ensures { RunsAreSaid (parties K.cmp S.cmp P.cmp) (codec K.SIZE K.bytes_of K.read_from) }
+{}
