@@ -1,5 +1,5 @@
 -- How many requests without an answer each peer has, and how many it may have.
-use Rattle.std.specs.Prelude.{◌≡◌, IfSome, ℕ, ◌+◌, ◌-◌, Bool, false, nat_le, List, Option, None, Some, option_map, unwrap_or, if◌then◌else◌}
+use Rattle.std.specs.Prelude.{◌≡◌, IfSome, ℕ, ◌+◌, ◌-◌, Bool, false, not, ◌&&◌, nat_le, List, Option, None, Some, option_map, unwrap_or, if◌then◌else◌}
 use Rattle.std.specs.BTreeMap.{is_at}
 use Rattle.std.specs.Map.{lookup}
 use Rattle.std.specs.declared.cmp.Ordering.{Ordering}
@@ -44,3 +44,13 @@ module _ {P : Type 0} (by_peer : P → P → Ordering) where
   -- a peer has one fewer
   abbrev pub one_fewer : P → Load P → Load P
   one_fewer peer load = record load { requests = λ p. if is_at (by_peer peer) p then load.requests p - 1 else load.requests p }
+
+  -- whether one request more makes a peer full, that is not so far
+  abbrev pub fills : P → Option (Counts P) → Bool
+  fills peer None = false
+  fills peer (Some c) = nat_le c.limit (counted c.counts peer + 1) && not (nat_le c.limit (counted c.counts peer))
+
+  -- whether one request fewer leaves a peer with less than it may have, that is full so far
+  abbrev pub frees : P → Option (Counts P) → Bool
+  frees peer None = false
+  frees peer (Some c) = nat_le c.limit (counted c.counts peer) && not (nat_le c.limit (counted c.counts peer - 1))

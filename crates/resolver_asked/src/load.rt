@@ -1,9 +1,9 @@
 //! How many requests without an answer each peer has, where that is limited.
 
-ghost use Rattle.std.specs.Prelude.{◌≡◌, ◌+◌, ◌<◌, ◌^◌, [], Some, IfErr, OnErr, OnOk};
+ghost use Rattle.std.specs.Prelude.{◌≡◌, ◌+◌, ◌<◌, ◌^◌, [], Some, IfErr, IfOk, OnErr, OnOk};
 ghost use Rattle.std.specs.NonZero.{non_zero_u32_get};
 ghost use Rattle.resolver_base.specs.declared.base.fault.Fault.TheVariants.{OutOfMemory};
-ghost use Rattle.resolver_asked.specs.Loads.{counted, is_full, loaded, one_fewer, one_more};
+ghost use Rattle.resolver_asked.specs.Loads.{counted, fills, frees, is_full, loaded, one_fewer, one_more};
 
 use resolver_base::base::Fault;
 use std::alloc::Global;
@@ -59,24 +59,37 @@ impl<P: Ord + Drop> Load<P> {
         self.count(peer) >= u64::from(self.limit.get())
     }
 
-    /// A peer has one more. Where memory is wanting, nothing changes.
-    pub fn add(&mut self, peer: P) -> Result<(), Fault>
+    /// A peer has one more. Says whether it is full now and was not before. Where memory is wanting,
+    /// nothing changes.
+    pub fn add(&mut self, peer: P) -> Result<bool, Fault>
         requires room { counted P.cmp self.old.counts peer + 1 < 2 ^ 64 }
         ensures ok { OnOk result
             (loaded P.cmp self.new ≡ one_more P.cmp peer (loaded P.cmp self.old)) }
+        ensures fills { IfOk result (λ is. is ≡ fills P.cmp peer (Some self.old)) }
         ensures err { OnErr result (self.new ≡ self.old) }
         ensures only { IfErr result (λ fault. fault ≡ OutOfMemory) }
     {
         let count = self.count(&peer);
         self.counts.insert(peer, count + 1)?;
-        Ok(())
+        Ok(count + 1 == u64::from(self.limit.get()))
     }
 
-    /// A peer has one fewer, if it has one.
-    pub fn remove(&mut self, peer: &P)
-        ensures { loaded P.cmp self.new ≡ one_fewer P.cmp peer.now (loaded P.cmp self.old) }
+    /// A peer has one fewer, if it has one. Says whether it was full before and is not now.
+    pub fn remove(&mut self, peer: &P) -> bool
+        ensures fewer { loaded P.cmp self.new ≡ one_fewer P.cmp peer.now (loaded P.cmp self.old) }
+        ensures frees { result ≡ frees P.cmp peer.now (Some self.old) }
     {
         let count = self.count(peer);
+        self.lower(peer, count);
+        count == u64::from(self.limit.get())
+    }
+
+    /// A peer that has this many has one fewer.
+    fn lower(&mut self, peer: &P, count: u64)
+        requires has { count ≡ counted P.cmp self.old.counts peer.now }
+        ensures fewer { loaded P.cmp self.new ≡ one_fewer P.cmp peer.now (loaded P.cmp self.old) }
+        ensures limit { self.new.limit ≡ self.old.limit }
+    {
         if count > 1 {
             if let Some(place) = self.counts.get_mut(peer) {
                 *place = count - 1;

@@ -16,3 +16,4 @@ pub mod Weighing
 pub mod Refitting
 pub mod Recounting
 pub mod Freeing
+pub mod Filling

@@ -11,12 +11,13 @@ use Rattle.std.specs.declared.cmp.Ordering.TheVariants.{Equal}
 use Rattle.std.proofs.lemmas.Bool.{lt-ltb}
 use Rattle.resolver_request.specs.declared.score.Averages.{Averages}
 use Rattle.resolver_request.specs.Scores.{weight_of}
-use Rattle.resolver_asked.specs.Loads.{Counts, Load, is_full, loaded, one_fewer, one_more}
+use Rattle.resolver_asked.specs.Loads.{Counts, Load, fills, is_full, loaded, one_fewer, one_more}
 use Rattle.resolver_trying.specs.Known.{Company, Known, askable, known_by, may_be_asked, weight_in, with_load}
 use Rattle.resolver_trying.specs.Pools.{Pool, recounted, resampled, weighs, whole}
 use Rattle.resolver_trying.specs.Trying.{sampled}
 use Rattle.resolver_trying.proofs.Tried.{equal-is}
-use Rattle.resolver_fetch.proofs.Refitting.{Counted, counts-then, equal-may, whole-refitted}
+use Rattle.resolver_fetch.proofs.Filling.{more-full}
+use Rattle.resolver_fetch.proofs.Refitting.{Counted, counts-then, equal-may, samples, whole-refitted}
 use Rattle.resolver_fetch.proofs.Weighing.{weight-some}
 
 -- a request more or fewer of one peer fills no other
@@ -109,15 +110,15 @@ module _ {P : Type 0} {R : P → P → Ordering} (total : IsTotalOrder R) (x : P
       ap (λ (k : Known P). may_be_asked R k p) is
       ∙ others-with R x old (option_map (one_more R x) (known_by R old).load) (λ q other. full-more R x (known_by R old).load q other) p apart
 
-  sent-with : (counts : Option (Counts P)) → old.counts ≡ counts
-      → sampled R (known_by R new) ≡ resampled R (known_by R new) (if is_some counts then Some x else None) (sampled R (known_by R old))
-  sent-with None none =
-      ap (sampled R) (is ∙ ap (λ (cs : Option (Counts P)). record (known_by R old) { load = option_map (one_more R x) (option_map (loaded R) cs) }) none
-      ∙ sym (ap (λ (cs : Option (Counts P)). record (known_by R old) { load = option_map (loaded R) cs }) none))
-  sent-with (Some c) some =
+  -- where it is not filled, all weigh what they weighed
+  sent-with : (b : Bool) → fills R x old.counts ≡ b → sampled R (known_by R new) ≡ resampled R (known_by R new) (if b then Some x else None) (sampled R (known_by R old))
+  sent-with false none =
+      let same : (p : P) → may_be_asked R (with_load (option_map (one_more R x)) (known_by R old)) p ≡ may_be_asked R (known_by R old) p = λ p. rw (more-full total x old.counts none p) refl in
+      ap (sampled R) is ∙ (λ i. samples (λ p. same p i) old.set)
+  sent-with true some =
       ap (λ (p : Pool P). p.all) (sym (whole-refitted total x old new (ap (λ (k : Known P). k.set) is) sorted others-sent (Some (whole (sampled R (known_by R old)))) refl))
 
-  pub sampled-sent : (name : Option P) → name ≡ (if is_some old.counts then Some x else None)
+  pub sampled-sent : (name : Option P) → name ≡ (if fills R x old.counts then Some x else None)
       → sampled R (known_by R new) ≡ resampled R (known_by R new) name (sampled R (known_by R old))
   sampled-sent name named =
-      subst (λ (n : Option P). sampled R (known_by R new) ≡ resampled R (known_by R new) n (sampled R (known_by R old))) (sym named) (sent-with old.counts refl)
+      subst (λ (n : Option P). sampled R (known_by R new) ≡ resampled R (known_by R new) n (sampled R (known_by R old))) (sym named) (sent-with (fills R x old.counts) refl)

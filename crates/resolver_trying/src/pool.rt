@@ -1,6 +1,6 @@
 //! Peers with what they weigh, as a scan draws from them.
 
-ghost use Rattle.std.specs.Prelude.{◌≡◌, ◌==◌, ◌<◌, [], length, map, sum, All, IfErr, IfOk, OnErr, OnOk};
+ghost use Rattle.std.specs.Prelude.{◌≡◌, ◌==◌, ◌<◌, [], length, map, slice_set, sum, All, IfErr, IfOk, OnErr, OnOk};
 ghost use Rattle.std.specs.BTreeMap.{is_at};
 ghost use Rattle.std.specs.List.Sorted.{IsStrictlySortedBy};
 ghost use Rattle.std.specs.Map.{keys_of, set_value};
@@ -153,8 +153,18 @@ impl<P: Ord + Drop> Pool<P> {
         restore(&mut self.weights, &mut self.counts, &mut self.taken);
         if let Some(place) = place_of(&self.names, peer) {
             self.weights.set(place, weight);
-            self.counts.set(place, mark(weight));
+            remark(&mut self.counts, place, mark(weight));
         }
+    }
+}
+
+/// A place has this mark. Where it has it already, the index is left alone, which costs less.
+fn remark(counts: &mut WeightedIndex, place: usize, mark: u64)
+    requires { place < length counts.old }
+    ensures { counts.new ≡ slice_set counts.old place mark }
+{
+    if counts.weight(place) != mark {
+        counts.set(place, mark);
     }
 }
 

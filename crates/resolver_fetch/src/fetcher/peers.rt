@@ -11,7 +11,7 @@ ghost use Rattle.resolver_base.specs.declared.base.fault.Fault.TheVariants.{OutO
 ghost use Rattle.resolver_trying.specs.Known.{known_by, with_load, askable, askable_at, eligible, is_eligible, is_local, is_target, may_be_asked, weight_in};
 ghost use Rattle.resolver_trying.specs.Peers.{observed, replaced, set_of};
 ghost use Rattle.resolver_request.specs.Scores.{averaged, weight_of};
-ghost use Rattle.resolver_asked.specs.Loads.{counted, is_full, loaded, one_fewer, one_more};
+ghost use Rattle.resolver_asked.specs.Loads.{counted, fills, frees, is_full, loaded, one_fewer, one_more};
 ghost use Rattle.std.specs.NonZero.{non_zero_u32_get};
 ghost use Rattle.resolver_trying.specs.Pools.{IsWhole, recounted, reweighed, weighs, whole};
 ghost use Rattle.resolver_trying.specs.Trying.{drawn_from, sampled, weighed};
@@ -132,10 +132,11 @@ impl<P: Ord + Drop> Peers<P> {
         self.load.is_some()
     }
 
-    /// A peer has one request more. Where memory is wanting, nothing changes.
+    /// A peer has one request more. Says whether that fills it. Where memory is wanting, nothing
+    /// changes.
     ///
     /// The name is cloned; clones are to equal their sources.
-    pub(super) fn sent(&mut self, peer: &P) -> Result<(), Fault>
+    pub(super) fn sent(&mut self, peer: &P) -> Result<bool, Fault>
     where
         P: Clone,
         requires peers_clone { (x y : P) → P.is_clone x y → y ≡ x }
@@ -143,16 +144,19 @@ impl<P: Ord + Drop> Peers<P> {
             (λ c. counted P.cmp c.counts peer.now + 1 < 2 ^ 64) }
         ensures ok { OnOk result (known_by P.cmp self.new
             ≡ with_load (option_map (one_more P.cmp peer.now)) (known_by P.cmp self.old)) }
+        ensures fills { IfOk result (λ is. is ≡ fills P.cmp peer.now self.old.counts) }
         ensures err { OnErr result (self.new ≡ self.old) }
         ensures only { IfErr result (λ fault. fault ≡ OutOfMemory) }
     {
         self.order();
-        let before = self.weight(peer);
-        add_to(&mut self.load, peer)?;
-        let now = weight(&self.local, &self.set, &self.blocked, &self.load, peer);
+        if !add_to(&mut self.load, peer)? {
+            return Ok(false);
+        }
+        let before = weight(&self.local, &self.set, &self.blocked, &None, peer);
+        let now = full_weight(before);
         self.allowed = recounted(self.allowed, before, now);
         reweigh(&mut self.pool, peer, now);
-        Ok(())
+        Ok(true)
     }
 
     /// A peer has one request fewer.
@@ -161,12 +165,11 @@ impl<P: Ord + Drop> Peers<P> {
             ≡ with_load (option_map (one_fewer P.cmp peer.now)) (known_by P.cmp self.old) }
     {
         self.order();
-        if !self.is_limited() {
+        if !remove_from(&mut self.load, peer) {
             return;
         }
-        let before = self.weight(peer);
-        remove_from(&mut self.load, peer);
         let now = weight(&self.local, &self.set, &self.blocked, &self.load, peer);
+        let before = full_weight(now);
         self.allowed = recounted(self.allowed, before, now);
         reweigh(&mut self.pool, peer, now);
     }
@@ -476,30 +479,44 @@ fn weight_if_asked<P: Ord + Drop>(
     }
 }
 
-/// A peer has one request more, where they are limited. Where memory is wanting, nothing changes.
+/// What a full peer weighs that would weigh this: nothing, if it is in the set.
+fn full_weight(weight: Option<u64>) -> Option<u64>
+    ensures { result ≡ option_map (λ _. 0) weight }
+{
+    match weight {
+        Some(_) => Some(0),
+        None => None,
+    }
+}
+
+/// A peer has one request more, where they are limited. Says whether that fills it. Where memory is
+/// wanting, nothing changes.
 ///
 /// The name is cloned; clones are to equal their sources.
-fn add_to<P: Ord + Clone + Drop>(load: &mut Option<Load<P>>, peer: &P) -> Result<(), Fault>
+fn add_to<P: Ord + Clone + Drop>(load: &mut Option<Load<P>>, peer: &P) -> Result<bool, Fault>
     requires peers_clone { (x y : P) → P.is_clone x y → y ≡ x }
     requires room { IfSome load.old (λ c. counted P.cmp c.counts peer.now + 1 < 2 ^ 64) }
     ensures ok { OnOk result (option_map (loaded P.cmp) load.new
         ≡ option_map (one_more P.cmp peer.now) (option_map (loaded P.cmp) load.old)) }
+    ensures fills { IfOk result (λ is. is ≡ fills P.cmp peer.now load.old) }
     ensures err { OnErr result (load.new ≡ load.old) }
     ensures only { IfErr result (λ fault. fault ≡ OutOfMemory) }
 {
     match load {
         Some(load) => load.add(peer.clone()?),
-        None => Ok(()),
+        None => Ok(false),
     }
 }
 
-/// A peer has one request fewer, where they are limited.
-fn remove_from<P: Ord + Drop>(load: &mut Option<Load<P>>, peer: &P)
-    ensures { option_map (loaded P.cmp) load.new
+/// A peer has one request fewer, where they are limited. Says whether that frees it.
+fn remove_from<P: Ord + Drop>(load: &mut Option<Load<P>>, peer: &P) -> bool
+    ensures fewer { option_map (loaded P.cmp) load.new
         ≡ option_map (one_fewer P.cmp peer.now) (option_map (loaded P.cmp) load.old) }
+    ensures frees { result ≡ frees P.cmp peer.now load.old }
 {
-    if let Some(load) = load {
-        load.remove(peer);
+    match load {
+        Some(load) => load.remove(peer),
+        None => false,
     }
 }
 

@@ -8,7 +8,7 @@ ghost use Rattle.std.specs.Map.Iter.{ShowsInOrder, deref};
 ghost use Rattle.resolver_trying.specs.Trying.{apart_from, sampled};
 ghost use Rattle.resolver_trying.specs.Known.{known_by, with_load};
 ghost use Rattle.resolver_trying.specs.Pools.{resampled, reweighed, whole};
-ghost use Rattle.resolver_asked.specs.Loads.{IsLoadedBy, one_more};
+ghost use Rattle.resolver_asked.specs.Loads.{IsLoadedBy, fills, one_more};
 ghost use Rattle.resolver_asked.specs.Requests.{is_asked};
 ghost use Rattle.std.specs.BTreeMap.{insert_entry};
 ghost use Rattle.resolver_priorities.specs.Priorities.{pair_order};
@@ -590,7 +590,7 @@ impl<K: Ord + Clone + Drop, P: Ord + Clone + Drop> Fetcher<K, P> {
 }
 
 /// Puts the request that a scan sent, and counts it for its peer where that is limited, whose name it
-/// answers then. Where memory is wanting, nothing changes.
+/// answers if the request fills it. Where memory is wanting, nothing changes.
 ///
 /// The name is cloned; clones are to equal their sources.
 fn send<K: Ord + Clone + Drop, P: Ord + Clone + Drop>(
@@ -617,7 +617,7 @@ fn send<K: Ord + Clone + Drop, P: Ord + Clone + Drop>(
     ensures counted { OnOk result (known_by P.cmp peers.new
         ≡ with_load (option_map (one_more P.cmp peer)) (known_by P.cmp peers.old)) }
     ensures name { IfOk result
-        (λ name. name ≡ (if is_some peers.old.counts then Some peer else None)) }
+        (λ name. name ≡ (if fills P.cmp peer peers.old.counts then Some peer else None)) }
     ensures err { OnErr result (requests.new ≡ requests.old) }
     ensures err_peers { OnErr result (known_by P.cmp peers.new ≡ known_by P.cmp peers.old) }
     ensures only { IfErr result (λ fault. fault ≡ OutOfMemory) }
@@ -628,12 +628,15 @@ fn send<K: Ord + Clone + Drop, P: Ord + Clone + Drop>(
         return Ok(None);
     }
     let name = peer.clone()?;
-    if let Err(fault) = peers.sent(&name) {
-        drop((name, peer));
-        return Err(fault);
-    }
+    let fills = match peers.sent(&name) {
+        Ok(fills) => fills,
+        Err(fault) => {
+            drop((name, peer));
+            return Err(fault);
+        }
+    };
     match put_request(requests, cursor, peer, id, timeout) {
-        Ok(()) => Ok(Some(name)),
+        Ok(()) => Ok(fills.then_some(name)),
         Err(fault) => {
             peers.freed(&name);
             drop(name);

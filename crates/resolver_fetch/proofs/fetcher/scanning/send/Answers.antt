@@ -14,4 +14,4 @@ returns-in-Err-put_request-clause-err_peers g c =
     let R = g.P.Ord.cmp in
     let name = c.in_ok-name.name in
     let old = known_by R c.args.peers.now in
-    c.freed.ensures ∙ ap (with_load (option_map (one_fewer R name))) c.in_default.ensures.ok ∙ (λ i. record old { load = undone R name old.load i })
+    c.freed.ensures ∙ ap (with_load (option_map (one_fewer R name))) c.in-Ok.ensures.ok ∙ (λ i. record old { load = undone R name old.load i })

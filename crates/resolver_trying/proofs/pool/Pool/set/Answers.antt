@@ -13,8 +13,8 @@ set-requires g c =
     let back = gives-back g.P.Ord.cmp pool.names.items pool.weights pool.counts pool.taken.items c.self.invariant in
     rw (c.restore.ensures.weights) (weighs-within g.P.Ord.cmp pool.names.items was (map mark was) [] back c.args.peer.now c.in-Some.place named)
 
-pub set-requires-in-Some : goal.set-requires-in-Some
-set-requires-in-Some g c =
+pub remark-requires : goal.remark-requires
+remark-requires g c =
     let pool = c.self.inside in
     let named : IsNamed g.P.Ord.cmp pool.names.items c.in-Some.place c.args.peer.now = rw (← c.deref.ensures.value) c.in-Some.ensures in
     let was = restored pool.weights pool.taken.items in
@@ -26,7 +26,7 @@ invariant_of-self g c =
     let pool = c.self.inside in
     let was = restored pool.weights pool.taken.items in
     let back = gives-back g.P.Ord.cmp pool.names.items pool.weights pool.counts pool.taken.items c.self.invariant in
-    rw (c.set.ensures, c.set-in-Some.ensures, c.mark.ensures, c.restore.ensures.counted, c.restore.ensures.weights, c.restore.ensures.none)
+    rw (c.set.ensures, c.remark.ensures, c.mark.ensures, c.restore.ensures.counted, c.restore.ensures.weights, c.restore.ensures.none)
     (weighs-else g.P.Ord.cmp pool.names.items was (map mark was) [] back c.in-Some.place c.args.weight)
 
 pub invariant_of-self-in_default : goal.invariant_of-self-in_default

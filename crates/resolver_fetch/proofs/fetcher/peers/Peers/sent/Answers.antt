@@ -1,10 +1,12 @@
-use Rattle.std.proofs.Common.{◌≡◌, refl, ap, sym, subst, ◌∙◌, ◌+◌, ◌<◌, ◌^◌, false, length, Option}
+use Rattle.std.proofs.Common.{◌≡◌, refl, ap, sym, ◌∙◌, ◌+◌, ◌<◌, ◌^◌, Bool, true, false, length, subst, None, Option, option_map}
 use Rattle.std.specs.List.Sorted.{IsStrictlySortedBy}
 use Rattle.std.specs.Map.{keys_of}
 use Rattle.std.specs.Ordering.{is_eq}
 use Rattle.std.specs.Prelude.{IsTrue, ℕ}
+use Rattle.resolver_asked.specs.Loads.{Load, fills, is_full, loaded}
 use Rattle.resolver_trying.specs.Known.{Company, askable, known_by, may_be_asked, weight_in}
 use Rattle.resolver_trying.specs.Pools.{recounted, weighs}
+use Rattle.resolver_fetch.proofs.Filling.{filled, may-same, more-full, refits-none, weighs-free, weighs-nothing}
 use Rattle.resolver_fetch.proofs.Recounting.{others-more, recounted-then, room-for, some-weighs}
 use Rattle.resolver_fetch.proofs.Refitting.{whole-refitted}
 use Rattle.resolver_fetch.proofs.fetcher.peers.Peers.sent.Goals as goal
@@ -19,11 +21,22 @@ recounted-self-inside-requires-clause-room g c =
 pub recounted-self-inside-requires-clause-some : goal.recounted-self-inside-requires-clause-some
 recounted-self-inside-requires-clause-some g c = λ weighed.
     let a = c.self.inside in
+    let R = g.P.Ord.cmp in
+    let x = c.args.peer.now in
     let company : Company g.row.P.Denot = record { local = a.local; set = a.set.entries; blocked = a.blocked.keys; counts = a.load } in
-    let before : c.weight-before.result ≡ weight_in g.P.Ord.cmp (known_by g.P.Ord.cmp company) c.args.peer.now =
-    c.weight-before.ensures ∙ ap (λ (k : Company g.row.P.Denot). weight_in g.P.Ord.cmp (known_by g.P.Ord.cmp k) c.args.peer.now) (sym c.self.view_is) in
-    subst (λ (n : ℕ). 0 < n) (sym c.self.invariant.0)
-    (some-weighs g.met.P.Ord.total company c.args.peer.now (subst (λ (w : Option ℕ). IsTrue (weighs w)) before weighed))
+    let is : fills R x a.load ≡ true = sym c.in_ok-add_to.ensures.fills ∙ c.if-not-branch.false in
+    let before : c.weight-before.result ≡ weight_in R (known_by R company) x = c.weight-before.ensures ∙ weighs-free R company x (filled g.met.P.Ord.total x a.load is).0 in
+    subst (λ (n : ℕ). 0 < n) (sym c.self.invariant.0) (some-weighs g.met.P.Ord.total company x (subst (λ (w : Option ℕ). IsTrue (weighs w)) before weighed))
+
+pub invariant_of-self-then-not-branch : goal.invariant_of-self-then-not-branch
+invariant_of-self-then-not-branch g c =
+    let a = c.self.inside in
+    let R = g.P.Ord.cmp in
+    let x = c.args.peer.now in
+    let company : Company g.row.P.Denot = record { local = a.local; set = a.set.entries; blocked = a.blocked.keys; counts = a.load } in
+    let is : fills R x a.load ≡ false = sym c.in_ok-add_to.ensures.fills ∙ c.if-not-branch.true in
+    refits-none R company c.add_to.new.load
+    (may-same R company c.add_to.new.load (λ p. ap (λ (l : Option (Load g.row.P.Denot)). is_full l p) c.in_ok-add_to.ensures.ok ∙ more-full g.met.P.Ord.total x a.load is p)) a.allowed a.pool c.self.invariant
 
 pub invariant_of-self-2 : goal.invariant_of-self-2
 invariant_of-self-2 g c =
@@ -31,14 +44,17 @@ invariant_of-self-2 g c =
     let R = g.P.Ord.cmp in
     let x = c.args.peer.now in
     let company : Company g.row.P.Denot = record { local = a.local; set = a.set.entries; blocked = a.blocked.keys; counts = a.load } in
-    let now : Company g.row.P.Denot = record { local = a.local; set = a.set.entries; blocked = a.blocked.keys; counts = c.add_to.new.load } in
-    let before : c.weight-before.result ≡ weight_in R (known_by R company) x =
-    c.weight-before.ensures ∙ ap (λ (k : Company g.row.P.Denot). weight_in R (known_by R k) x) (sym c.self.view_is) in
+    let then_company : Company g.row.P.Denot = record { local = a.local; set = a.set.entries; blocked = a.blocked.keys; counts = c.add_to.new.load } in
+    let is : fills R x a.load ≡ true = sym c.in_ok-add_to.ensures.fills ∙ c.if-not-branch.false in
+    let before : c.weight-before.result ≡ weight_in R (known_by R company) x = c.weight-before.ensures ∙ weighs-free R company x (filled g.met.P.Ord.total x a.load is).0 in
+    let full : is_full (option_map (loaded R) c.add_to.new.load) x ≡ true = ap (λ (l : Option (Load g.row.P.Denot)). is_full l x) c.in_ok-add_to.ensures.ok ∙ (filled g.met.P.Ord.total x a.load is).1 in
+    let now : c.full_weight-now.result ≡ weight_in R (known_by R then_company) x =
+    c.full_weight-now.ensures ∙ weighs-nothing R then_company x c.weight-before.result (record company { counts = None }) refl c.weight-before.ensures full in
     let sorted : IsStrictlySortedBy R (keys_of a.set.entries) = rw (← c.self.view_is) at c.order.ensures.ordered in
-    let others : (p : g.row.P.Denot) → is_eq (R x p) ≡ false → may_be_asked R (known_by R now) p ≡ may_be_asked R (known_by R company) p =
+    let others : (p : g.row.P.Denot) → is_eq (R x p) ≡ false → may_be_asked R (known_by R then_company) p ≡ may_be_asked R (known_by R company) p =
     others-more R x company c.add_to.new.load c.in_ok-add_to.ensures.ok in
-    let counts : recounted c.weight-before.result c.weight-now.result a.allowed ≡ recounted (weight_in R (known_by R company) x) (weight_in R (known_by R now) x) (askable R (known_by R company)) =
-    λ i. recounted (before i) (c.weight-now.ensures i) (c.self.invariant.0 i) in (
-      c.recounted-self-inside.ensures ∙ counts ∙ recounted-then g.met.P.Ord.total x company now refl sorted others,
-      rw (c.reweigh.ensures, c.weight-now.ensures) (whole-refitted g.met.P.Ord.total x company now refl sorted others a.pool c.self.invariant.1),
+    let counts : recounted c.weight-before.result c.full_weight-now.result a.allowed ≡ recounted (weight_in R (known_by R company) x) (weight_in R (known_by R then_company) x) (askable R (known_by R company)) =
+    λ i. recounted (before i) (now i) (c.self.invariant.0 i) in (
+      c.recounted-self-inside.ensures ∙ counts ∙ recounted-then g.met.P.Ord.total x company then_company refl sorted others,
+      rw (c.reweigh.ensures, now) (whole-refitted g.met.P.Ord.total x company then_company refl sorted others a.pool c.self.invariant.1),
     )
