@@ -11,7 +11,8 @@ use Rattle.std.specs.declared.cmp.Ordering.TheVariants.{Less, Equal}
 use Rattle.std.proofs.lemmas.Bool.{lt-ltb}
 use Rattle.std.proofs.lemmas.Map.Keys.{sorted_head, sorted_tail}
 use Rattle.resolver_request.specs.declared.score.Averages.{Averages}
-use Rattle.resolver_request.specs.Scores.{weight_of}
+use Rattle.resolver_request.specs.declared.score.Averages.TheVariants.{Unobserved}
+use Rattle.resolver_request.specs.Scores.{Observation, averaged, weight_of}
 use Rattle.std.specs.Prelude.{nat_le, unwrap_or}
 use Rattle.resolver_asked.specs.Loads.{Counts, is_full, loaded}
 use Rattle.resolver_asked.proofs.Names.{lookup-same}
@@ -169,6 +170,12 @@ module _ {P : Type 0} {R : P → P → Ordering} (total : IsTotalOrder R) (compa
   whole-observed (Some pool) so =
       subst (λ (o : Option Averages). reweighed R x (option_map (λ a. sampling_weight R (known_by R Then) (x, a)) o) pool ≡ whole (sampled R (known_by R Then)))
       (sym (found-set (is_at (R x)) company.set v)) (observed-with (lookup (is_at (R x)) company.set) refl pool so)
+
+  -- what it weighs then, by what its score weighs
+  pub weighs-observed : (seen : Observation) (found : Option Averages) → lookup (is_at (R x)) company.set ≡ found → v ≡ averaged (unwrap_or found Unobserved) seen
+      → option_map (λ w. if may_be_asked R (known_by R company) x then w else 0) (option_map (λ a. weight_of (averaged a seen)) found) ≡ weight_in R (known_by R Then) x
+  weighs-observed seen None none is = rw (found-set (is_at (R x)) company.set v, none) refl
+  weighs-observed seen (Some a) there is = rw (found-set (is_at (R x)) company.set v, there, is) refl
 
 -- what one peer weighs, and how many may be asked, where it has more or fewer requests
 module _ {P : Type 0} {R : P → P → Ordering} (total : IsTotalOrder R) (x : P) (old new : Company P) (set : new.set ≡ old.set) (sorted : IsStrictlySortedBy R (keys_of old.set))

@@ -1,14 +1,16 @@
 //! The peers that may be asked.
 
-ghost use Rattle.std.specs.Prelude.{◌≡◌, ◌↔◌, ◌+◌, ◌<◌, ◌^◌, is_some, None, Some, [], option_map, option_to_list, length, IsTrue, IfOk, IfErr, IfSome, OnErr, OnOk};
+ghost use Rattle.std.specs.Prelude.{◌≡◌, ◌↔◌, ◌+◌, ◌<◌, ◌^◌, is_some, None, Some, [], option_map, option_to_list, length, if◌then◌else◌, IsTrue, IfOk, IfErr, IfSome, OnErr, OnOk};
 ghost use Rattle.std.specs.List.{IsDistinct};
 ghost use Rattle.std.specs.List.Sorted.{IsStrictlySortedBy};
-ghost use Rattle.std.specs.Map.{keys_of};
+ghost use Rattle.std.specs.BTreeMap.{is_at};
+ghost use Rattle.std.specs.Map.{keys_of, lookup};
 ghost use Rattle.std.specs.Option.{option_copied};
 ghost use Rattle.std.specs.Ordering.{eq_by_cmp};
 ghost use Rattle.resolver_base.specs.declared.base.fault.Fault.TheVariants.{OutOfMemory};
 ghost use Rattle.resolver_trying.specs.Known.{known_by, with_load, askable, askable_at, eligible, is_eligible, is_local, is_target, may_be_asked, weight_in};
 ghost use Rattle.resolver_trying.specs.Peers.{observed, replaced, set_of};
+ghost use Rattle.resolver_request.specs.Scores.{averaged, weight_of};
 ghost use Rattle.resolver_asked.specs.Loads.{counted, is_full, loaded, one_fewer, one_more};
 ghost use Rattle.std.specs.NonZero.{non_zero_u32_get};
 ghost use Rattle.resolver_trying.specs.Pools.{IsWhole, recounted, reweighed, weighs, whole};
@@ -379,8 +381,8 @@ impl<P: Ord + Drop> Peers<P> {
         } }
     {
         self.order();
-        observe(&mut self.set, peer, elapsed, bytes);
-        let now = weight(&self.local, &self.set, &self.blocked, &self.load, peer);
+        let observed = observe(&mut self.set, peer, elapsed, bytes);
+        let now = weight_if_asked(&self.local, &self.blocked, &self.load, peer, observed);
         reweigh(&mut self.pool, peer, now);
     }
 }
@@ -449,8 +451,26 @@ fn weight<P: Ord + Drop>(
     })) peer.now }
 {
     let score = set.get(peer)?;
+    weight_if_asked(local, blocked, load, peer, Some(score.weight()))
+}
+
+/// What a peer weighs whose score has this weight, with this local name, these blocked peers and
+/// this load.
+fn weight_if_asked<P: Ord + Drop>(
+    local: &Option<P>,
+    blocked: &BTreeSet<P>,
+    load: &Option<Load<P>>,
+    peer: &P,
+    weight: Option<u64>,
+) -> Option<u64>
+    ensures { result ≡ option_map (λ weight. if may_be_asked P.cmp
+        (known_by P.cmp
+        (record { local = local.now; set = []; blocked = blocked.now.keys; counts = load.now }))
+        peer.now then weight else 0) weight }
+{
+    let weight = weight?;
     if may_be_asked(local, blocked, load, peer) {
-        Some(score.weight())
+        Some(weight)
     } else {
         Some(0)
     }
@@ -506,13 +526,21 @@ fn weighs(weight: Option<u64>) -> bool
     }
 }
 
-/// Takes in what a request to a peer took and gave, if the peer is in the set.
-fn observe<P: Ord>(set: &mut BTreeMap<P, Score>, peer: &P, elapsed: u128, bytes: u64)
-    ensures { set.new.entries ≡ observed P.cmp set.old.entries peer.now
+/// Takes in what a request to a peer took and gave, and says what its score weighs then, if it is in
+/// the set.
+fn observe<P: Ord>(set: &mut BTreeMap<P, Score>, peer: &P, elapsed: u128, bytes: u64) -> Option<u64>
+    ensures observed { set.new.entries ≡ observed P.cmp set.old.entries peer.now
         (record { elapsed = elapsed; bytes = bytes }) }
+    ensures weight { result ≡ option_map
+        (λ averages. weight_of (averaged averages (record { elapsed = elapsed; bytes = bytes })))
+        (lookup (is_at (P.cmp peer.now)) set.old.entries) }
 {
-    if let Some(score) = set.get_mut(peer) {
-        score.record(elapsed, bytes);
+    match set.get_mut(peer) {
+        Some(score) => {
+            score.record(elapsed, bytes);
+            Some(score.weight())
+        }
+        None => None,
     }
 }
 
