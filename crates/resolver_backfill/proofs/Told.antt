@@ -8,7 +8,7 @@ use Rattle.resolver_base.specs.declared.base.fault.Fault.{Fault}
 use Rattle.resolver_base.specs.declared.base.fault.Fault.TheVariants.{OutOfMemory}
 use Rattle.resolver_base.specs.declared.base.feedback.Feedback.{Feedback}
 use Rattle.resolver_root.specs.declared.root.Fetch.{Fetch}
-use Rattle.resolver_backfill.specs.Plans.{Plan, Without, fetches_of, is_below, let_go, let_go_below, met, settled, settled_below, without_keys}
+use Rattle.resolver_backfill.specs.Plans.{Plan, fetches_of, is_below, let_go, let_go_below, met, settled, settled_below, without_below, without_keys}
 use Rattle.resolver_backfill.specs.Telling.{AsksNew, CallsOnce}
 use Rattle.resolver_backfill.proofs.Keys.{from-all, unmet-all}
 
@@ -40,11 +40,8 @@ on-err (Err e) P p = p
 
 -- where nobody is let go from the keys below a bound, none is wanted there, and the plan stays as it was
 pub below-none : {K S : Type 0} (cmp : K → K → Ordering) (plan : Plan K S) (bound : K) → let_go_below cmp plan bound ≡ None → list_any (is_below cmp bound) plan.wanted ≡ false
-below-none {K} {S} cmp plan bound none = cases (list_any (is_below cmp bound) plan.wanted) none where
-  without : Without K S
-  without = record { subscriber = plan.subscriber; keys = []; below = Some bound }
-
-  cases : (b : Bool) → cond b (Some without) None ≡ None → b ≡ false
+below-none cmp plan bound none = cases (list_any (is_below cmp bound) plan.wanted) none where
+  cases : (b : Bool) → cond b (Some (without_below plan.subscriber bound)) None ≡ None → b ≡ false
   cases true none = absurd (let wrong = none in cc)
   cases false none = refl
 

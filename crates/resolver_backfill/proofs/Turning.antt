@@ -10,7 +10,7 @@ use Rattle.resolver_root.specs.Demand.{Act, Pair, acts, added_all, kept, mark_of
 use Rattle.resolver_root.specs.declared.root.Fetch.{Fetch}
 use Rattle.resolver_ingress.proofs.Marks.{both-true, or_else, or_else-assoc, mark_of-append, mark_of-added_all}
 use Rattle.resolver_ingress.proofs.Right.{flips-by, follows-by, mark_of-kept}
-use Rattle.resolver_backfill.specs.Plans.{Plan, Without, fetched, fetches_of, has, is_below, is_gone, keeps, lacking, let_go, let_go_below, met, settled, settled_below, wanting, without_keys}
+use Rattle.resolver_backfill.specs.Plans.{Plan, Without, fetched, fetches_of, has, is_below, is_gone, keeps, lacking, let_go, let_go_below, met, settled, settled_below, wanting, without_below, without_keys}
 use Rattle.resolver_backfill.specs.Given.{Call, Want, Done, DoneBelow, Forget, KeepsGiven, Lacks, Restores, Turns, called, fetch_told, given, is_due, others, pair_of, retain_told, turned, turned_all}
 use Rattle.resolver_backfill.specs.Telling.{TakenTurns, if_taken, is_taken}
 use Rattle.resolver_backfill.specs.Alike.{below_alike, has_alike, keeps_alike}
@@ -131,12 +131,9 @@ module _ {K S : Type 0} (n : Names K S) (by_key : IsTotalOrder n.key) (by_subscr
 
   pub done-below-turns : (plan : Plan K S) (bound : K) → Turns n plan (retain_told n (let_go_below n.key plan bound)) (settled_below n.key plan bound)
   done-below-turns plan bound = cases (list_any (is_below n.key bound) plan.wanted) refl where
-    without : Without K S
-    without = record { subscriber = plan.subscriber; keys = []; below = Some bound }
-
-    cases : (b : Bool) → list_any (is_below n.key bound) plan.wanted ≡ b → Turns n plan (retain_told n (cond b (Some without) None)) (settled_below n.key plan bound)
-    cases true is = removes plan (is_below n.key bound) (is_below n.key bound) (retain_told n (Some without))
-        (below_alike n.key by_key bound) (λ k there. refl) (λ e k s. mark_of-retain without e k s)
+    cases : (b : Bool) → list_any (is_below n.key bound) plan.wanted ≡ b → Turns n plan (retain_told n (cond b (Some (without_below plan.subscriber bound)) None)) (settled_below n.key plan bound)
+    cases true is = removes plan (is_below n.key bound) (is_below n.key bound) (retain_told n (Some (without_below plan.subscriber bound)))
+        (below_alike n.key by_key bound) (λ k there. refl) (λ e k s. mark_of-retain (without_below plan.subscriber bound) e k s)
     cases false is = stays plan (settled_below n.key plan bound) (ap (λ ws. record plan { wanted = ws }) (from-all n.key by_key bound plan.wanted is))
 
   among_alike : (named : List (S × ℕ)) (s t : S) → same_subscriber n s t ≡ true → is_among n.subscriber named s ≡ is_among n.subscriber named t

@@ -65,6 +65,10 @@ module _ {K S : Type 0} where
   without_keys subscriber [] = None
   without_keys subscriber (key ∷ keys) = Some (record { subscriber = subscriber; keys = key ∷ keys; below = None })
 
+  -- a subscriber that is let go from all keys below a bound
+  abbrev pub without_below : S → K → Without K S
+  without_below subscriber bound = record { subscriber = subscriber; keys = []; below = Some bound }
+
   module _ (cmp : K → K → Ordering) where
     -- the plan that wants some keys more
     abbrev pub wanting : Plan K S → List K → Plan K S
@@ -88,7 +92,7 @@ module _ {K S : Type 0} where
 
     -- what is let go then: all below the bound, if one of them was wanted
     abbrev pub let_go_below : Plan K S → K → Option (Without K S)
-    let_go_below plan bound = if list_any (is_below cmp bound) plan.wanted then Some (record { subscriber = plan.subscriber; keys = []; below = Some bound }) else None
+    let_go_below plan bound = if list_any (is_below cmp bound) plan.wanted then Some (without_below plan.subscriber bound) else None
 
     -- whether the subscriber is let go from a key
     abbrev pub is_gone : Without K S → K → Bool

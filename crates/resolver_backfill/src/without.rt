@@ -1,10 +1,10 @@
 //! One subscriber, let go from some keys.
 
-ghost use Rattle.std.specs.Prelude.{◌≡◌, [], None, Some};
+ghost use Rattle.std.specs.Prelude.{◌≡◌, None};
 ghost use Rattle.std.specs.Option.{option_copied};
 ghost use Rattle.resolver_root.specs.Names.{names};
 ghost use Rattle.std.proofs.Common.{◌∙◌, sym};
-ghost use Rattle.resolver_backfill.specs.Plans.{is_gone, keeps};
+ghost use Rattle.resolver_backfill.specs.Plans.{is_gone, keeps, without_below};
 ghost use Rattle.resolver_backfill.specs.Alike.{keeps_alike};
 
 use resolver_base::base::Faithful;
@@ -55,7 +55,7 @@ impl<K: Ord, S> Without<K, S> {
 
     /// Lets this subscriber go from all keys below this one. It takes no memory.
     pub fn below(alloc: Global, subscriber: S, bound: K) -> Self
-        ensures { result ≡ record { subscriber = subscriber; keys = []; below = Some bound } }
+        ensures { result ≡ without_below subscriber bound }
     {
         Without {
             subscriber,

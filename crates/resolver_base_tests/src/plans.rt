@@ -242,8 +242,11 @@ fn want_next(
     from: u8,
 ) -> Result<u8, Fault> {
     let heights = next_heights(alloc, plan, from, 20)?;
+    let Some(last) = heights.last() else {
+        return Ok(from);
+    };
     match fill(resolver, plan, &heights, None)? {
-        Feedback::Ok | Feedback::Backoff => Ok(from.saturating_add(heights.len() as u8)),
+        Feedback::Ok | Feedback::Backoff => Ok(last.0.saturating_add(1)),
         Feedback::Closed => Ok(from),
     }
 }
