@@ -6,7 +6,7 @@ use Rattle.std.specs.Char.{is_ascii_digit}
 use Rattle.std.specs.List.{list_all}
 use Rattle.std.specs.Str.{all_ascii_digits}
 use Rattle.std.specs.Str.Parse.{digits_value}
-use Rattle.resolver_script.specs.Numbers.{begins_plainly, is_plain, number_in}
+use Rattle.resolver_script.specs.Numbers.{begins_plainly, is_plain}
 use Rattle.resolver_script.proofs.script.fields.long_number.Goals as goal
 
 all-digits : (ds : List ℕ) → list_all is_ascii_digit ds ≡ all_ascii_digits ds
