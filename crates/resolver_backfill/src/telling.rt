@@ -112,7 +112,8 @@ where
 }
 
 /// Asks the resolver again for all that is wanted, by one call, of these peers or of any. What the
-/// resolver lost is asked for then, and what it has stays as it is.
+/// resolver lost is asked for then, and what it has stays as it is, but for the peers that it may be
+/// asked of: without targets any may.
 ///
 /// Where nothing is wanted, the resolver isn't called.
 pub fn refill<K, S, P, R>(

@@ -62,7 +62,8 @@ pub const FIRST_REQUEST: &[Call] = &[
     Call::Fetch(40),
 ];
 
-/// Two peers have as many requests as they may have, and a key waits until the time of one is over.
+/// Two peers have as many requests as they may have, and a key waits until the time of one is over, whose key waits
+/// again then.
 pub const FULL: &[Call] = &[
     Call::Reconcile(&[Peer(3), Peer(4)]),
     Call::Ready(1, 30),
@@ -72,6 +73,7 @@ pub const FULL: &[Call] = &[
     Call::Fetch(40),
     Call::Fetch(40),
     Call::Expire(90),
+    Call::Ready(1, 90),
     Call::Fetch(90),
 ];
 
