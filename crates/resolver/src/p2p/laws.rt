@@ -12,7 +12,15 @@ ghost use Rattle.resolver_parts.specs.Said.{codec};
 ghost use Rattle.resolver.specs.EngineLaws.{EngineRunsJoin, RunsAreSaid};
 
 use resolver_base::base::Span;
-pub use resolver_peer::laws::*;
+pub use resolver_peer::laws::{
+    asked_once, asks_eligible, asks_well, blocked_target, dead_verdicts_pass, earns_once,
+    foreign_and_broken_messages, ids_are_new, invalid_response, keeps_demand,
+    late_and_stale_responses, limit_one_peer, limit_peer_returns, limit_timeout, no_second_reply,
+    passed_over_pass, pays_once, pays_senders, peer_demand, peer_dropped_then_fetched_again,
+    peer_late_subscriber, peer_pruned_then_fetched_again, peer_refusals, refused_sends,
+    replies_once, responses_are_delivered, run_laws, runs_join, serving, stays_awake,
+    timeout_and_limits, tries_once, verdicts_repeated,
+};
 
 /// A step of an engine is a run of one input, and a run that goes on is one run.
 pub fn engine_runs_join<K: Span, S: Ord, P: Ord>()
