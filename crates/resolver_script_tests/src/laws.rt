@@ -1,9 +1,13 @@
-use resolver::laws::{dead_verdicts_pass, opaque_keeps_demand, opaque_runs_join};
-use resolver_machine::ruling::{Ruling, rule_on};
-use resolver_peer::laws::{
-    asked_once, asks_eligible, asks_well, earns_once, ids_are_new, keeps_demand, pays_once,
-    pays_senders, run_laws, stays_awake, tries_once,
+use crate::cores::make_core;
+use resolver::opaque::laws::{dead_verdicts_pass, opaque_keeps_demand, opaque_runs_join};
+use resolver::p2p::laws as peers;
+use resolver::p2p::laws::{
+    asked_once, asks_eligible, asks_well, earns_once, engine_runs_join, ids_are_new, keeps_demand,
+    no_second_reply, passed_over_pass, pays_once, pays_senders, replies_once,
+    responses_are_delivered, run_laws, runs_are_said, runs_join, stays_awake, tries_once,
 };
+use resolver::p2p::mocks::Key;
+use resolver_machine::ruling::{Ruling, rule_on};
 
 #[test]
 fn at_numbers(_rt: HostRuntime) {
@@ -25,9 +29,32 @@ fn of_the_peer_machine_at_numbers(_rt: HostRuntime) {
     stays_awake::<u8, u16, u32>();
     asked_once::<u8, u16, u32>();
     run_laws::<u8, u16, u32>();
+    runs_join::<u8, u16, u32>();
+}
+
+#[test]
+fn of_single_inputs_at_numbers(_rt: HostRuntime) {
+    replies_once::<u8, u16, u32>();
+    no_second_reply::<u8, u16, u32>();
+    passed_over_pass::<u8, u16, u32>();
+    peers::dead_verdicts_pass::<u8, u16, u32>();
+    responses_are_delivered::<u8, u16, u32>();
+}
+
+#[test]
+fn of_an_engine_at_keys_of_one_byte(_rt: HostRuntime) {
+    engine_runs_join::<Key, u16, u32>();
+    runs_are_said::<Key, u16, u32>();
 }
 
 #[test]
 fn a_delivery_that_was_dropped_is_served(rt: HostRuntime) {
     assert_eq!(rt; rule_on(None, false), Ruling::Serve { accepted: false });
+}
+
+#[test]
+fn of_a_core_that_has_not_failed(rt: HostRuntime) {
+    let core = make_core(rt.alloc(), None);
+    core.law();
+    drop(core);
 }
