@@ -21,7 +21,7 @@ use Rattle.resolver_request.specs.Modes.{means_weighted}
 use Rattle.resolver_asked.specs.declared.requests.request.Request.{Request}
 use Rattle.resolver_trying.specs.declared.cursor.Cursor.{Cursor}
 use Rattle.resolver_fetch.specs.Cursor.{ExpectsNewId, TakesNewId, scan_of}
-use Rattle.resolver_trying.specs.Fetcher.{AsksNewId, Fetcher, answered as answered_with, question, scan_answer, scan_taken, snapshot, turned}
+use Rattle.resolver_trying.specs.Fetcher.{AsksNewId, Fetcher, answered as answered_with, asked_by, question, scan_answer, scan_taken, snapshot, turned}
 use Rattle.resolver_trying.specs.Orders.{Orders}
 use Rattle.resolver_request.specs.Scores.{weight_of}
 use Rattle.resolver_fetch.specs.Seeking.{scan_at, tried_next}
@@ -186,6 +186,14 @@ module _ {K P : Type 0} (o : Orders K P) where
   asks-new f priority t last (Checking peer) is = tt
   asks-new f priority t last (FirstId peer) is = tt
   asks-new f priority t last (Sending peer id) is = is.0
+
+  -- the id of what the open scan asks is held by no request
+  pub question-new : (f : Fetcher K P) (cursor : Cursor K P) → f.scan ≡ Some (scan_of cursor) → tried_next o f cursor.moment cursor.trail ≡ Some cursor.trying
+      → ExpectsNewId f.asked f.last_id cursor.expects → AsksNewId o f (question o f)
+  question-new f cursor is tried new =
+      subst (AsksNewId o f)
+      (asks-kept f cursor.moment cursor.trail cursor.trying cursor.expects f.last_id f.waiter tried ∙ ap (asked_by o f) (sym is))
+      (asks-new f f.configuration.priority_requests cursor.trying f.last_id cursor.expects new)
 
   goes-like : (s : Snapshot K P) (moment : ℕ) (trail : List (Try K P)) (e d : Option (Expected P)) (w : Option (K × Waiting P))
       → goes_on_with o s (record { moment = moment; trail = trail; expects = e }) w ≡ goes_on_with o s (record { moment = moment; trail = trail; expects = d }) w

@@ -12,3 +12,5 @@ pub mod WakesLater
 pub mod Weights
 pub mod NeedsPairs
 pub mod ChoosesBelow
+pub mod TrailLaws
+pub mod EligibleLaws

@@ -33,3 +33,7 @@ refused-as (Err e) P Q is so = so e is
 pub on-both : {T E : Type 0} (r : Result T E) (A B C : Type 0) → (A → B → C) → OnOk r A → OnOk r B → OnOk r C
 on-both (Ok x) A B C so a b = so a b
 on-both (Err e) A B C so a b = tt
+
+pub err-both : {T E : Type 0} (r : Result T E) (A B C : Type 0) → (A → B → C) → OnErr r A → OnErr r B → OnErr r C
+err-both (Ok x) A B C so a b = tt
+err-both (Err e) A B C so a b = so a b

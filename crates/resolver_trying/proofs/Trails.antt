@@ -17,6 +17,7 @@ use Rattle.resolver_trying.specs.Waiting.{Waiting}
 use Rattle.resolver_trying.specs.Snapshot.{Snapshot, eligible}
 use Rattle.resolver_trying.specs.Scan.{Scan, Turn, answered, asks_for, begins, by_place, by_weight, clears, draws, fails, goes_on_with, left, next, sends, takes, takes_for, was_tried}
 use Rattle.resolver_trying.specs.FetcherLaws.{AllAre, IsOnce}
+use Rattle.resolver_trying.specs.TrailLaws.{IsLeft}
 use Rattle.resolver_trying.proofs.OneOf.{IsOneOf, by_place-among, by_weight-among, tested}
 
 or-left : (a b : Bool) → (a || b) ≡ false → (a || false) ≡ false
@@ -50,14 +51,10 @@ module _ {K P : Type 0} (o : Orders K P) (s : Snapshot K P) where
       once-more o trail (record { key = w.0; peer = peer; reason = reason }) once
       (not-true (was_tried o trail w.0 peer) (tested test (peer, found.0) (eligible o s w.1.targets) found.1))
 
-  -- the peer is left for the key that the scan tries
-  abbrev pub IsLeft : Scan K P → P → Type 0
-  IsLeft scan peer = (w : K × Waiting P) → next o s scan ≡ Some w → IsOneOf peer (left o s scan.trail w)
-
   abbrev pub IsSoundFor : Scan K P → Expected P → Type 0
-  IsSoundFor scan (Checking peer) = IsLeft scan peer
-  IsSoundFor scan (FirstId peer) = IsLeft scan peer
-  IsSoundFor scan (Sending peer id) = IsLeft scan peer
+  IsSoundFor scan (Checking peer) = IsLeft o s scan peer
+  IsSoundFor scan (FirstId peer) = IsLeft o s scan peer
+  IsSoundFor scan (Sending peer id) = IsLeft o s scan peer
   IsSoundFor scan expected = ⊤
 
   -- a word is expected only on a peer that is left

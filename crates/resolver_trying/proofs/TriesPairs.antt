@@ -16,6 +16,18 @@ and-first : (a b : Bool) → (a && b) ≡ true → a ≡ true
 and-first true b e = refl
 and-first false b e = cc
 
+module _ {K P : Type 0} (o : Orders K P) (s : Snapshot K P) where
+  -- a peer that is left for the key that a scan tries makes a pair of a due key and an eligible peer
+  pub left-pair : (scan : Scan K P) (w : K × Waiting P) → next o s scan ≡ Some w → (peer : P) (reason : Reason) → IsOneOf peer (left o s scan.trail w)
+      → IsPair o s scan.moment (record { key = w.0; peer = peer; reason = reason })
+  left-pair scan w is peer reason found = (
+    w,
+    found-among (can_be_tried o s scan) s.waiting w is,
+    refl,
+    and-first _ _ (found-passes (can_be_tried o s scan) s.waiting w is),
+    (found.0, among-filter (λ p. not (was_tried o scan.trail w.0 p.0)) (peer, found.0) (eligible o s w.1.targets) found.1),
+  )
+
 module _ {K P : Type 0} (o : Orders K P) (s : Snapshot K P) (now : ℕ) where
   -- what a scan of this moment tried
   abbrev IsTrail : ℕ → List (Try K P) → Type 0
@@ -29,14 +41,7 @@ module _ {K P : Type 0} (o : Orders K P) (s : Snapshot K P) (now : ℕ) where
       → IsTrail scan.moment scan.trail → IsTrail scan.moment (scan.trail ++ record { key = w.0; peer = peer; reason = reason } ∷ [])
   grows last scan w is peer reason found fine =
       let t : Try K P = record { key = w.0; peer = peer; reason = reason } in
-      let due : is_due scan.moment w ≡ true = and-first _ _ (found-passes (can_be_tried o s scan) s.waiting w is) in
-      let pair : IsPair o s now t = (
-        w,
-        found-among (can_be_tried o s scan) s.waiting w is,
-        refl,
-        subst (λ m. is_due m w ≡ true) fine.0 due,
-        (found.0, among-filter (λ p. not (was_tried o scan.trail w.0 p.0)) (peer, found.0) (eligible o s w.1.targets) found.1),
-      ) in
+      let pair : IsPair o s now t = subst (λ m. IsPair o s m t) fine.0 (left-pair o s scan w is peer reason found) in
       (fine.0, grows-once o s scan.trail w peer reason found fine.1, all-snoc (IsPair o s now) scan.trail t fine.2 pair)
 
   abbrev IsKept : Scan K P → Type 0

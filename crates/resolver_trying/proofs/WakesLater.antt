@@ -33,7 +33,7 @@ module _ (now : ℕ) where
   later-waiter fits None later = omega (arith, fits)
   later-waiter fits (Some moment) later = omega (arith, fits, later)
 
-  later-wake : {X : Type 0} (due_of : X → ℕ) (ws : List X) (waiter : ℕ) → now < waiter → IsLaterIfAny now (wake_up due_of ws (Some waiter))
+  pub later-wake : {X : Type 0} (due_of : X → ℕ) (ws : List X) (waiter : ℕ) → now < waiter → IsLaterIfAny now (wake_up due_of ws (Some waiter))
   later-wake due_of [] waiter later = tt
   later-wake due_of (w ∷ ws) waiter later = omega (arith, later)
 
@@ -54,6 +54,15 @@ module _ (now : ℕ) where
     later-tried delay waits (t ∷ trail) limits = later-after delay waits (least_until (t ∷ trail)) (later-until (t ∷ trail) limits)
 
 module _ {K P : Type 0} (o : Orders K P) where
+  -- of a scan that met no limit at or before its moment
+  pub waiter-later : (s : Snapshot K P) → 0 < s.configuration.retry_delay → (scan : Scan K P) → scan.moment < never
+      → AllAre (λ y. IsLaterLimit scan.moment y.reason) scan.trail → scan.moment < waiter_of o s scan
+  waiter-later s waits scan fits limits =
+      let due = later-due scan.moment s.waiting in
+      let tried = later-tried scan.moment s.configuration.retry_delay waits scan.trail limits in
+      let moment = later-least scan.moment (next_due scan.moment s.waiting) (trail_moment s.configuration.retry_delay scan.moment scan.trail) due tried in
+      later-waiter scan.moment fits (least (next_due scan.moment s.waiting) (trail_moment s.configuration.retry_delay scan.moment scan.trail)) moment
+
   module _ (f : Fetcher K P) (waits : 0 < f.configuration.retry_delay) where
     -- of an end in vain
     abbrev IsLater : Turn K P → Type 0
@@ -62,11 +71,7 @@ module _ {K P : Type 0} (o : Orders K P) where
 
     ends-later : (scan : Scan K P) → next o (snapshot o f) scan ≡ None → IsLater (ends o (snapshot o f) scan)
     ends-later scan none fits limits =
-        let due = later-due scan.moment (snapshot o f).waiting in
-        let tried = later-tried scan.moment f.configuration.retry_delay waits scan.trail limits in
-        let moment = later-least scan.moment (next_due scan.moment (snapshot o f).waiting) (trail_moment f.configuration.retry_delay scan.moment scan.trail) due tried in
-        let waiter = later-waiter scan.moment fits (least (next_due scan.moment (snapshot o f).waiting) (trail_moment f.configuration.retry_delay scan.moment scan.trail)) moment in
-        later-wake scan.moment (λ (w : Place × K). w.0.due) f.waiting (waiter_of o (snapshot o f) scan) waiter
+        later-wake scan.moment (λ (w : Place × K). w.0.due) f.waiting (waiter_of o (snapshot o f) scan) (waiter-later (snapshot o f) waits scan fits limits)
 
   abbrev opened : (now : ℕ) → Scan K P
   opened now = record { moment = now; trail = []; expects = None }

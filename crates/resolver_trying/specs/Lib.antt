@@ -10,3 +10,5 @@ pub mod Steps
 pub mod Pools
 pub mod Fetcher
 pub mod FetcherLaws
+pub mod TrailLaws
+pub mod EligibleLaws

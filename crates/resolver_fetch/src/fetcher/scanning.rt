@@ -26,6 +26,7 @@ ghost use Rattle.resolver_fetch.specs.Seeking.{first_until, next_behind, next_of
 ghost use Rattle.resolver_trying.specs.Waiting.{place_order};
 ghost use Rattle.resolver_fetch.specs.Stepping.{after_all, after_step, expecting};
 ghost use Rattle.resolver_trying.specs.Steps.{ask_for};
+ghost use Rattle.resolver_trying.specs.TrailLaws.{AnswersRightly, BeginsRightly};
 
 use crate::fetcher::peers::Peers;
 use crate::fetcher::{Answer, Ask, Fetcher, ID};
@@ -58,6 +59,8 @@ impl<K: Ord + Clone + Drop, P: Ord + Clone + Drop> Fetcher<K, P> {
         ensures ok { OnOk result
             (self.new ≡ calls.scan_begin (orders K.cmp P.cmp) now self.old) }
         ensures asked { IfOk result (λ ask. ask ≡ question (orders K.cmp P.cmp) self.new) }
+        ensures law { OnOk result
+            (BeginsRightly (orders K.cmp P.cmp) now self.old self.new) }
         ensures err { OnErr result (self.new ≡ self.old) }
         ensures only { IfErr result (λ fault. fault ≡ OutOfMemory) }
     {
@@ -82,6 +85,8 @@ impl<K: Ord + Clone + Drop, P: Ord + Clone + Drop> Fetcher<K, P> {
         ensures ok { OnOk result
             (calls.scan_answer (orders K.cmp P.cmp) answer self.old ≡ (Ok tt, self.new)) }
         ensures asked { IfOk result (λ ask. ask ≡ question (orders K.cmp P.cmp) self.new) }
+        ensures law { OnOk result
+            (AnswersRightly (orders K.cmp P.cmp) answer self.old self.new) }
         ensures new_id { IfOk result (λ ask. AsksNewId (orders K.cmp P.cmp) self.new ask) }
         ensures refused { IfErr result (λ fault. fault ≢ OutOfMemory
             → calls.scan_answer (orders K.cmp P.cmp) answer self.old ≡ (Err fault, self.old)) }

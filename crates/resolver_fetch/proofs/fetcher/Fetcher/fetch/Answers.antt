@@ -1,8 +1,10 @@
-use Rattle.std.proofs.Common.{inl, refl, subst, sym}
+use Rattle.std.proofs.Common.{inl, inr, refl, subst, sym}
 use Rattle.resolver_trying.specs.Fetcher.{Fetcher}
 use Rattle.resolver_trying.specs.Orders.{orders}
+use Rattle.resolver_fetch.specs.Fetching.{lent, outside}
 use Rattle.resolver_fetch.specs.Progress.{IsSound}
-use Rattle.resolver_trying.proofs.Outcomes.{on-both, on-err}
+use Rattle.resolver_fetch.proofs.Fetching.{gives-up}
+use Rattle.resolver_trying.proofs.Outcomes.{err-both, on-both, on-err}
 use Rattle.resolver_fetch.proofs.Progress.{begins-sound}
 use Rattle.resolver_fetch.proofs.fetcher.Fetcher.fetch.Goals as goal
 
@@ -24,3 +26,12 @@ returns-else-is_err-clause-ok g c =
 
 pub returns-in_err-asked-clause-err : goal.returns-in_err-asked-clause-err
 returns-in_err-asked-clause-err g c = on-err c.from_residual.result _ (inl (rw c.in_err-asked.ensures.err refl))
+
+pub returns-then-is_err-clause-err : goal.returns-then-is_err-clause-err
+returns-then-is_err-clause-err g c =
+    let o = orders g.K.Ord.cmp g.P.Ord.cmp in
+    let out = outside g.K.Span.bytes_of g.S.Sender.check_gives g.S.Sender.send_gives g.D.Draws.below_gives in
+    let before = lent c.args.self.now c.args.sender.now c.args.draws.now in
+    let after = lent c.give_up.new.self c.drive-driven.new.sender c.drive-driven.new.draws in
+    err-both c.drive-driven.result _ _ _ (λ stops keeps. inr (gives-up o out c.args.now before after c.drive-driven.new.self stops c.give_up.ensures keeps))
+    (rw c.in_ok-asked.ensures.ok at c.drive-driven.ensures.stops) (rw c.in_ok-asked.ensures.ok at c.drive-driven.ensures.keeps)

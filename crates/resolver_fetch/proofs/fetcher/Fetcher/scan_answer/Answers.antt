@@ -1,13 +1,14 @@
 use Rattle.std.proofs.Common.{◌≡◌, refl, ap, ◌∙◌, sym, None, Some, Ok, option_map}
 use Rattle.std.proofs.lemmas.Result.{on_err_weaker}
-use Rattle.resolver_fetch.specs.Cursor.{scan_of}
+use Rattle.resolver_fetch.specs.Cursor.{ExpectsNewId, scan_of}
 use Rattle.resolver_trying.specs.Fetcher.{Fetcher}
 use Rattle.resolver_trying.specs.Orders.{orders}
 use Rattle.resolver_fetch.specs.Seeking.{tried_next}
 use Rattle.resolver_fetch.specs.Stepping.{after_step}
 use Rattle.resolver_fetch.proofs.Progress.{if-refused}
 use Rattle.resolver_trying.proofs.Outcomes.{onto-ok}
-use Rattle.resolver_fetch.proofs.Stepping.{answer-refused, answer-taken, answer-unasked, answer-wanted, if-memory, step-closed, step-new}
+use Rattle.resolver_trying.proofs.TrailLaws.{trail_law}
+use Rattle.resolver_fetch.proofs.Stepping.{answer-refused, answer-taken, answer-unasked, answer-wanted, if-memory, question-new, step-closed, step-new}
 use Rattle.resolver_fetch.proofs.fetcher.Fetcher.scan_answer.Goals as goal
 
 pub returns-in-Ok-clause-ok : goal.returns-in-Ok-clause-ok
@@ -24,6 +25,17 @@ returns-in-Ok-clause-ok g c =
     onto-ok c.go.result _ _ (λ is. took ∙ ap (λ (n : Fetcher g.row.K.Denot g.row.P.Denot). (Ok tt, n)) (sym (is
     ∙ ap (λ (f : Fetcher g.row.K.Denot g.row.P.Denot). after_step o (scan_of cursor) cursor.trying.key c.in-Ok.step (record f { scan = None })) c.self.view_is
     ∙ step-closed o f (scan_of cursor) cursor.trying.key c.in-Ok.step))) closed
+
+pub returns-in-Ok-clause-law : goal.returns-in-Ok-clause-law
+returns-in-Ok-clause-law g c =
+    let o = orders g.K.Ord.cmp g.P.Ord.cmp in
+    let cursor = c.in-Some.cursor in
+    let held : c.self.inside.cursor ≡ Some cursor = sym c.take.ensures.value ∙ c.in-Some.is in
+    let scan = sym (ap (λ (f : Fetcher g.row.K.Denot g.row.P.Denot). f.scan) c.self.view_is) ∙ ap (option_map scan_of) held in
+    let right = rw held at c.self.invariant.2 in
+    let tries : tried_next o c.args.self.now cursor.moment cursor.trail ≡ Some cursor.trying = rw (← c.self.view_is) right.tries in
+    let expects : ExpectsNewId c.args.self.now.asked c.args.self.now.last_id cursor.expects = rw (← c.self.view_is) right.new_id in
+    onto-ok c.go.result _ _ (λ is. (trail_law o).answered c.args.self.now _ c.args.answer (question-new o c.args.self.now cursor scan tries expects) is) (returns-in-Ok-clause-ok g c)
 
 pub returns-in-Err-clause-refused : goal.returns-in-Err-clause-refused
 returns-in-Err-clause-refused g c = λ other.

@@ -1,4 +1,8 @@
 use Rattle.resolver_trying.proofs.Outcomes.{on-err}
+use Rattle.std.proofs.Common.{sym, subst, arith}
+use Rattle.resolver_trying.specs.Orders.{orders}
+use Rattle.resolver_trying.specs.TrailLaws.{BeginsRightly}
+use Rattle.resolver_trying.proofs.TrailLaws.{trail_law}
 use Rattle.resolver_fetch.proofs.fetcher.Fetcher.scan_begin.Goals as goal
 
 pub go_on-requires-clause-closed : goal.go_on-requires-clause-closed
@@ -12,3 +16,8 @@ returns-clause-ok g c = rw (c.find.ensures.same, c.new-trail.ensures) at c.go_on
 
 pub returns-in_err-next-clause-err : goal.returns-in_err-next-clause-err
 returns-in_err-next-clause-err g c = on-err c.from_residual.result _ c.find.ensures.same
+
+pub returns-clause-law : goal.returns-clause-law
+returns-clause-law g c =
+    let o = orders g.K.Ord.cmp g.P.Ord.cmp in
+    subst (BeginsRightly o c.args.now c.args.self.now) (sym (returns-clause-ok g c)) ((trail_law o).begun c.args.self.now c.args.now (omega (arith, c.requires.moment)))
