@@ -296,16 +296,22 @@ module _ {K S : Type 0} (n : Names K S) (keys : IsEquivalence (same_key n)) (ord
       ap (λ b. (o.0, record o.1 { live = o.1.live && b }) ∷ map (watch (table n) t) os) (tells-has_key t d tells o.1.handed.key)
       ∙ ap (λ rest. watch (pairs n) d o ∷ rest) (watch-tells t d tells os)
 
+  -- accounts with the same demand, which judge alike
+  record IsTold (x : Account K S (List (K × List (S × ℕ)))) (y : Account K S (List (Pair K S))) : Type 0 where
+    tells : Tells x.demand y.demand
+    deliveries : x.deliveries ≡ y.deliveries
+    completed : x.completed ≡ y.completed
+
   tells-run : (taken : List (Change K S × List (ℕ × Handed K S))) → Each (λ one. IsLawful n one.0) taken → (t : List (K × List (S × ℕ))) (d : List (Pair K S)) (deliveries : List (ℕ × Watched K S)) (completed : List ℕ) → Tells t d
-      → Tells (account_of (table n) (account t deliveries completed) taken).demand (account_of (pairs n) (account d deliveries completed) taken).demand
-  tells-run [] lawful t d deliveries completed tells = tells
+      → IsTold (account_of (table n) (account t deliveries completed) taken) (account_of (pairs n) (account d deliveries completed) taken)
+  tells-run [] lawful t d deliveries completed tells = record { tells = tells; deliveries = refl; completed = refl }
   tells-run (one ∷ taken) lawful t d deliveries completed tells =
       let after = tells-after deliveries completed t d tells one.0 lawful.0 in
       let shown = opens (left_open deliveries one.0) one.1 in
       let t' = demand_after (table n) (account t deliveries completed) one.0 in
       let d' = demand_after (pairs n) (account d deliveries completed) one.0 in
       let completed' = completed_after deliveries completed one.0 in
-      subst (λ os. Tells (account_of (table n) (account t' (map (watch (table n) t') shown) completed') taken).demand (account_of (pairs n) (account d' os completed') taken).demand) (watch-tells t' d' after shown)
+      subst (λ os. IsTold (account_of (table n) (account t' (map (watch (table n) t') shown) completed') taken) (account_of (pairs n) (account d' os completed') taken)) (watch-tells t' d' after shown)
       (tells-run taken lawful.1 t' d' (map (watch (table n) t') shown) completed' after)
 
   -- the pairs of a table
@@ -329,5 +335,11 @@ module _ {K S : Type 0} (n : Names K S) (keys : IsEquivalence (same_key n)) (ord
   pub demand_is_told : (taken : List (Change K S × List (ℕ × Handed K S))) → Each (λ one. IsLawful n one.0) taken
       → IsSameDemand n (all_pairs_of (account_of (table n) (nothing_asked (table n)) taken).demand) (account_of (pairs n) (nothing_asked (pairs n)) taken).demand
   demand_is_told taken lawful k s =
-      let tells = tells-run taken lawful [] [] [] [] tells-nothing in
+      let tells = (tells-run taken lawful [] [] [] [] tells-nothing).tells in
       mark-all_pairs_of (account_of (table n) (nothing_asked (table n)) taken).demand tells.sound.distinct k s ∙ tells.marks k s
+
+  -- what is live by the table, and what was completed, is so by the pairs
+  pub judgments_are_told : (taken : List (Change K S × List (ℕ × Handed K S))) → Each (λ one. IsLawful n one.0) taken
+      → ((account_of (table n) (nothing_asked (table n)) taken).deliveries ≡ (account_of (pairs n) (nothing_asked (pairs n)) taken).deliveries)
+      × ((account_of (table n) (nothing_asked (table n)) taken).completed ≡ (account_of (pairs n) (nothing_asked (pairs n)) taken).completed)
+  judgments_are_told taken lawful = let told = tells-run taken lawful [] [] [] [] tells-nothing in (told.deliveries, told.completed)

@@ -2,7 +2,7 @@
 use Rattle.std.proofs.Common.{◌≡◌, refl, ap, sym, ◌∙◌, subst, ◌⊎◌, inl, inr, ℕ, ◌+◌, ◌^◌, Bool, true, false, cond, ◌==◌, List, [], ◌∷◌, ◌++◌, Option, None, Some, Result, Ok, Err, filter, filter_map, map, if◌then◌else◌}
 use Rattle.std.specs.Prelude.{option_map, option_and_then, nat_lt, ⊤}
 use Rattle.std.specs.Cmp.{IsEquivalence, IsTotalOrder}
-use Rattle.std.specs.List.{AllByRecursion, cons_option}
+use Rattle.std.specs.List.{AllByRecursion}
 use Rattle.std.specs.BTreeMap.{insert_entry}
 use Rattle.std.specs.Map.{keys_of, lookup, remove_entry}
 use Rattle.std.proofs.lemmas.Cmp.{eq_by_cmp_equiv}
@@ -22,20 +22,20 @@ use Rattle.resolver_trying.specs.declared.scan.Ask.TheVariants as asks
 use Rattle.resolver_trying.specs.declared.trail.Expected.{Expected}
 use Rattle.resolver_trying.specs.declared.trail.Expected.TheVariants.{Mode, ByWeight, ByPlace, Checking, FirstId, Sending}
 use Rattle.resolver_trying.specs.Scan.{Scan, Turn, can_be_tried, goes_on_with, is_over, next, question_of, succeeds, takes, takes_for}
-use Rattle.resolver_trying.specs.Waiting.{Waiting, in_order, once_more, retry_at, waiting_order}
+use Rattle.resolver_trying.specs.Waiting.{Waiting, once_more, retry_at}
 use Rattle.resolver_trying.specs.FetcherLaws.{IsAmong}
 use Rattle.resolver_trying.proofs.OneOf.{found-among}
 use Rattle.resolver_machine.specs.declared.ruling.Ruling.{Ruling}
 use Rattle.resolver_machine.specs.declared.ruling.Ruling.TheVariants as rulings
 use Rattle.resolver_machine.specs.Verdicts.{ruling}
 use Rattle.resolver_peer.specs.Parties.{Parties, names_of, orders_of}
-use Rattle.resolver_peer.specs.PeerRows.{Row, Phase, Waits, Asked, Judged, Judging, change_entry, waiting_in, waiting_of}
+use Rattle.resolver_peer.specs.PeerRows.{Row, Phase, Waits, Asked, Judged, Judging, change_entry, waiting_of}
 use Rattle.resolver_peer.specs.declared.named.Serve.{Serve}
 use Rattle.resolver_peer.specs.Peer.{Machine, Open, Done, Item, Status, Running, Ended, Failed, Input, Happens, Answers, Event, Fetch, Retain, PeerSet, Blocked, ActiveDue, PendingDue, Verdict, Served, Net, End, quiet, and_then, snapshot, closed, served_by, row_of, is_key, fetch, fetch_one, times_out, hand_out, account_for, serves_rest, ruled, ruled_in, ruled_at, verdict_on, freed, responds, misses, answered, receive, does, has_subscribers, pruned, is_newer, turned, with_sent, is_due, wake_up, scanned_if, scanned, step_of, answer_of, step_running, step_in, step, opening}
 use Rattle.resolver_peer.specs.PeerRun.{Fed, after}
 use Rattle.resolver_peer.specs.PeerLaws.{AcceptsSend, AskedOnce, EndsOrRetries}
 use Rattle.resolver_peer.proofs.Apart.{AreApart, run-apart, step-apart}
-use Rattle.resolver_peer.proofs.InOrder.{among-put}
+use Rattle.resolver_peer.proofs.WaitingRows.{in-order-from, phase-waits, row-waits}
 use Rattle.resolver_machine.proofs.Rows.{lookup-inserted, lookup-removed, lookup-same}
 
 abbrev IsBusy : {K P : Type 0} → Phase K P → Type 0
@@ -293,29 +293,6 @@ module _ {K S P : Type 0} (a : Parties K S P) (total : IsTotalOrder a.key) (key 
     in-step-goes Running m input apart busy = running-goes (is_over m.scan) m input apart busy
 
   -- a key that is tried waits
-  in-order-from : (w : K × Waiting P) (ws : List (K × Waiting P)) → IsAmong w (in_order (orders_of a) ws) → IsAmong w ws
-  in-order-from w [] i = i
-  in-order-from w (v ∷ ws) i = at (among-put (waiting_order (orders_of a)) w v (in_order (orders_of a) ws) i) (in-order-from w ws) where
-    at : (w ≡ v) ⊎ IsAmong w (in_order (orders_of a) ws) → (IsAmong w (in_order (orders_of a) ws) → IsAmong w ws) → IsAmong w (v ∷ ws)
-    at (inl e) rest = inl e
-    at (inr j) rest = inr (rest j)
-
-  row-waits : (w : K × Waiting P) (rows : List (K × Row K S P)) → IsAmong w (filter_map waiting_of rows) → (r : K × Row K S P) × IsAmong r rows × (waiting_of r ≡ Some w)
-  row-waits w [] i = absurd i
-  row-waits w (r ∷ rows) i = at (waiting_of r) refl i (row-waits w rows) where
-    at : (o : Option (K × Waiting P)) → waiting_of r ≡ o → IsAmong w (cons_option o (filter_map waiting_of rows))
-        → (IsAmong w (filter_map waiting_of rows) → (r : K × Row K S P) × IsAmong r rows × (waiting_of r ≡ Some w)) → (q : K × Row K S P) × IsAmong q (r ∷ rows) × (waiting_of q ≡ Some w)
-    at None is j rest = let found = rest j in (found.0, inr found.1, found.2)
-    at (Some v) is (inl e) rest = (r, inl refl, is ∙ ap Some (sym e))
-    at (Some v) is (inr j) rest = let found = rest j in (found.0, inr found.1, found.2)
-
-  phase-waits : (r : K × Row K S P) (w : K × Waiting P) → waiting_of r ≡ Some w → (r.0 ≡ w.0) × ((place : Place) × (r.1.phase ≡ Waits place))
-  phase-waits r w e = at r.1.phase refl e where
-    at : (phase : Phase K P) → r.1.phase ≡ phase → waiting_in r.0 r.1 phase ≡ Some w → (r.0 ≡ w.0) × ((place : Place) × (r.1.phase ≡ Waits place))
-    at (Waits place) is found = (cc, (place, is))
-    at (Asked id request) is found = absurd cc
-    at (Judged j) is found = absurd cc
-
   apart-from : (k : K) (r : K × Row K S P) (rows : List (K × Row K S P)) → AllByRecursion (λ y. is_key a k y ≡ false) (keys_of rows) → IsAmong r rows → is_key a k r.0 ≡ false
   apart-from k r [] all i = absurd i
   apart-from k r (q ∷ rows) all (inl e) = ap (λ (x : K × Row K S P). is_key a k x.0) e ∙ all.0
@@ -353,7 +330,7 @@ module _ {K S P : Type 0} (a : Parties K S P) (total : IsTotalOrder a.key) (key 
     -- a key that is asked for waits
     waits-at : (row : Row K S P) × (Look m.rows ≡ Some row) × (place : Place) × (row.phase ≡ Waits place)
     waits-at =
-        let i = in-order-from found.0 (filter_map waiting_of m.rows) (found-among (can_be_tried (orders_of a) (snapshot a m) m.scan) (snapshot a m).waiting found.0 found.3) in
+        let i = in-order-from a found.0 (filter_map waiting_of m.rows) (found-among (can_be_tried (orders_of a) (snapshot a m) m.scan) (snapshot a m).waiting found.0 found.3) in
         let r = row-waits found.0 m.rows i in
         let phase = phase-waits r.0 found.0 r.2 in
         let same : is_key a key r.0.0 ≡ true = laws.symm key r.0.0 ∙ ap (λ k. is_key a k key) (phase.0 ∙ found.5) ∙ sends.5 in

@@ -1,6 +1,6 @@
 -- Each request goes to a peer that is eligible for its key.
 use Rattle.std.proofs.Common.{◌≡◌, refl, subst, ap, ◌∙◌, sym, ◌⊎◌, inl, inr, ℕ, ◌^◌, Bool, true, false, not, ◌==◌, List, [], ◌∷◌, ◌++◌, Option, None, Some, Result, Ok, Err, filter, map, if◌then◌else◌}
-use Rattle.std.specs.Prelude.{option_map, option_and_then, option_to_list, nat_lt, is_none, ⊤}
+use Rattle.std.specs.Prelude.{option_map, option_and_then, option_to_list, nat_lt, ⊤}
 use Rattle.std.specs.Map.{lookup}
 use Rattle.resolver_base.specs.declared.base.fault.Fault.{Fault}
 use Rattle.resolver_root.specs.declared.root.Outcome.{Outcome}
@@ -10,6 +10,7 @@ use Rattle.resolver_trying.specs.Waiting.{Waiting}
 use Rattle.resolver_asked.specs.declared.requests.request.Request.{Request}
 use Rattle.resolver_asked.specs.Requests.{overdue}
 use Rattle.resolver_trying.specs.declared.trail.Try.{Try}
+use Rattle.resolver_trying.specs.EligibleLaws.{MayBeAsked}
 use Rattle.resolver_trying.specs.Snapshot.{Snapshot, eligible}
 use Rattle.resolver_trying.specs.declared.trail.Expected.{Expected}
 use Rattle.resolver_trying.specs.declared.trail.Expected.TheVariants.{Mode, ByWeight, ByPlace, Checking, FirstId, Sending}
@@ -21,6 +22,7 @@ use Rattle.resolver_machine.specs.declared.ruling.Ruling.{Ruling}
 use Rattle.resolver_machine.specs.declared.ruling.Ruling.TheVariants as rulings
 use Rattle.resolver_machine.specs.Verdicts.{ruling}
 use Rattle.resolver_trying.specs.FetcherLaws.{AllAre, IsAmong, IsOnce}
+use Rattle.resolver_trying.proofs.EligibleLaws.{eligible_means}
 use Rattle.resolver_trying.proofs.OneOf.{IsOneOf, among-filter, found-among}
 use Rattle.resolver_trying.proofs.Trails.{IsFine, IsFineAfter, IsFineTurn, IsSoundAt, begins-fine, grows-once, takes-fine}
 use Rattle.resolver_peer.specs.Parties.{Parties, orders_of}
@@ -30,6 +32,7 @@ use Rattle.resolver_peer.specs.Peer.{Machine, Open, Done, Effect, Ask, Deliver, 
 use Rattle.std.specs.List.{cons_option}
 use Rattle.resolver_peer.specs.PeerRun.{Fed, effects_of, after}
 use Rattle.resolver_peer.specs.PeerLaws.{IsWellAsked, AsksEligible}
+use Rattle.resolver_peer.proofs.WaitingRows.{row-of}
 use Rattle.resolver_peer.proofs.Told.{all-append, over-none}
 
 module _ {K S P : Type 0} (a : Parties K S P) where
@@ -79,7 +82,10 @@ module _ {K S P : Type 0} (a : Parties K S P) where
   question-well m (Some w) is (Some (Sending peer id)) here =
       let in_waiting : IsAmong w (snapshot a m).waiting = found-among (can_be_tried (orders_of a) (snapshot a m) m.scan) (snapshot a m).waiting w is in
       let found : IsOneOf peer (left (orders_of a) (snapshot a m) m.scan.trail w) = here w is in
-      ((w.1, in_waiting, (found.0, among-filter _ (peer, found.0) (eligible (orders_of a) (snapshot a m) w.1.targets) found.1)), tt)
+      let among : IsAmong (peer, found.0) (eligible (orders_of a) (snapshot a m) w.1.targets) = among-filter _ (peer, found.0) (eligible (orders_of a) (snapshot a m) w.1.targets) found.1 in
+      let waits = row-of a m.rows w in_waiting in
+      let may : MayBeAsked (orders_of a) (snapshot a m) w.1.targets peer = (eligible_means (orders_of a)).alone (snapshot a m) w.1.targets peer found.0 among in
+      ((waits.0, waits.1, waits.2, subst (λ targets. MayBeAsked (orders_of a) (snapshot a m) targets peer) (sym waits.3) may), tt)
 
 module _ {K S P : Type 0} where
   abbrev pub IsNoQuestion : Effect K S P → Type 0

@@ -1,6 +1,6 @@
 -- Each request has an id that no other request holds.
 use Rattle.std.proofs.Common.{◌≡◌, refl, subst, ap, ◌∙◌, sym, ℕ, ◌+◌, ◌<◌, ◌≤◌, ◌^◌, Bool, true, false, List, [], ◌∷◌, ◌++◌, length, Option, None, Some, Result, Ok, Err, filter_map, if◌then◌else◌, arith}
-use Rattle.std.specs.Prelude.{option_map, option_and_then, option_to_list, nat_lt, is_none, ⊤}
+use Rattle.std.specs.Prelude.{option_map, option_and_then, option_to_list, nat_lt, ⊤}
 use Rattle.std.specs.BTreeMap.{insert_entry}
 use Rattle.std.specs.List.{cons_option}
 use Rattle.std.specs.Ordering.{match_ordering, nat_cmp}

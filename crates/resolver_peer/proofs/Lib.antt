@@ -1,5 +1,6 @@
 pub mod Told
 pub mod EarnsOnce
+pub mod WaitingRows
 pub mod AsksEligible
 pub mod TriesOnce
 pub mod Changed
@@ -21,3 +22,5 @@ pub mod Refusals
 pub mod Cached
 pub mod PeerPoints
 pub mod PeerReplies
+pub mod JudgesByTheRun
+pub mod RestsAfterScans

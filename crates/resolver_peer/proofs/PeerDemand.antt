@@ -500,16 +500,18 @@ module _ {K S P : Type 0} (a : Parties K S P) where
       with_deliveries : List (ℕ × Handed K S) → Standing K S
       with_deliveries ds = record (standing_of m) { deliveries = ds }
 
+  -- what is open under a number
+  pub open-alike : (m : Machine K S P) (c : Account K S (List (K × List (S × ℕ)))) (number : ℕ) → Stands m c
+      → option_map (λ o. o.handed) (lookup (λ n. number == n) m.deliveries) ≡ option_map (λ w. w.handed) (lookup (is_at (nat_cmp number)) c.deliveries)
+  open-alike m c number stands =
+      ap (λ (test : Test). option_map (λ o. o.handed) (lookup test m.deliveries)) (same_tests number)
+      ∙ (sym (lookup-map_values (λ o. o.handed) (is_at (nat_cmp number)) m.deliveries)
+      ∙ (ap (lookup (is_at (nat_cmp number))) stands.tallies.deliveries ∙ lookup-map_values (λ w. w.handed) (is_at (nat_cmp number)) c.deliveries))
+
   verdict-tells : IsEquivalence (same_key (names_of a)) → (m : Machine K S P) (c : Account K S (List (K × List (S × ℕ)))) (now number : ℕ) (outcome : Option Outcome) → Stands m c
       → Tells c (Judges number outcome) (verdict a m now number outcome)
-  verdict-tells laws m c now number outcome stands = at (lookup (λ n. number == n) m.deliveries) refl (lookup (is_at (nat_cmp number)) c.deliveries) refl tied
+  verdict-tells laws m c now number outcome stands = at (lookup (λ n. number == n) m.deliveries) refl (lookup (is_at (nat_cmp number)) c.deliveries) refl (open-alike m c number stands)
     where
-      tied : option_map (λ o. o.handed) (lookup (λ n. number == n) m.deliveries) ≡ option_map (λ w. w.handed) (lookup (is_at (nat_cmp number)) c.deliveries)
-      tied =
-          ap (λ (test : Test). option_map (λ o. o.handed) (lookup test m.deliveries)) (same_tests number)
-          ∙ (sym (lookup-map_values (λ o. o.handed) (is_at (nat_cmp number)) m.deliveries)
-          ∙ (ap (lookup (is_at (nat_cmp number))) stands.tallies.deliveries ∙ lookup-map_values (λ w. w.handed) (is_at (nat_cmp number)) c.deliveries))
-
       on : (h : Open K S P) → lookup (λ n. number == n) m.deliveries ≡ Some h → (w : Watched K S) → h.handed ≡ w.handed → lookup (is_at (nat_cmp number)) c.deliveries ≡ Some w
           → Tells c (Judges number outcome) (verdict_on a m now number outcome (Some h))
       on h found w handed it =
@@ -762,7 +764,7 @@ module _ {K S P : Type 0} (a : Parties K S P) where
   refused-same m mid now input fault other Failed is = sym (ap (λ p. p.1) is)
 
   -- In each run that did not fail, the account of the inputs taken is what the machine stands at.
-  pub runs-stands : IsEquivalence (same_key (names_of a)) → (inputs : List (Fed K S P)) (answers : List (Result (List (Effect K S P)) Fault)) (old m : Machine K S P) (c : Account K S (List (K × List (S × ℕ))))
+  runs-stands : IsEquivalence (same_key (names_of a)) → (inputs : List (Fed K S P)) (answers : List (Result (List (Effect K S P)) Fault)) (old m : Machine K S P) (c : Account K S (List (K × List (S × ℕ))))
       → Stands old c → Runs a old inputs answers m → m.status ≢ Failed → Stands m (account_of (table (names_of a)) c (taken inputs answers))
   runs-stands laws [] [] old m c stands runs sound = subst (λ m. Stands m c) (sym runs) stands
   runs-stands laws [] (answer ∷ answers) old m c stands runs sound = absurd runs
@@ -781,10 +783,16 @@ module _ {K S P : Type 0} (a : Parties K S P) where
   demanded-seen [] = refl
   demanded-seen (r ∷ rs) = ap (λ d. (r.0, r.1.subscribers) ∷ d) (demanded-seen rs)
 
+  -- in every run from the opening state that did not fail
+  pub run-stands : IsEquivalence (same_key (names_of a)) → (configuration : Config P) (priority_responses : Bool) (inputs : List (Fed K S P)) (answers : List (Result (List (Effect K S P)) Fault)) (new : Machine K S P)
+      → Runs a (opening configuration priority_responses) inputs answers new → new.status ≢ Failed
+      → Stands new (account_of (table (names_of a)) (nothing_asked (table (names_of a))) (taken inputs answers))
+  run-stands laws configuration priority_responses inputs answers new runs sound =
+      runs-stands laws inputs answers (opening configuration priority_responses) new (nothing_asked (table (names_of a))) (opening-stands configuration priority_responses) runs sound
+
   -- the table of who is asked for is kept in every run
   pub table_is_kept : IsEquivalence (same_key (names_of a)) → (configuration : Config P) (priority_responses : Bool) (inputs : List (Fed K S P)) (answers : List (Result (List (Effect K S P)) Fault)) (new : Machine K S P)
       → Runs a (opening configuration priority_responses) inputs answers new → new.status ≢ Failed
       → demanded new.rows ≡ (account_of (table (names_of a)) (nothing_asked (table (names_of a))) (taken inputs answers)).demand
   table_is_kept laws configuration priority_responses inputs answers new runs sound =
-      sym (demanded-seen new.rows)
-      ∙ (runs-stands laws inputs answers (opening configuration priority_responses) new (nothing_asked (table (names_of a))) (opening-stands configuration priority_responses) runs sound).tallies.demand
+      sym (demanded-seen new.rows) ∙ (run-stands laws configuration priority_responses inputs answers new runs sound).tallies.demand

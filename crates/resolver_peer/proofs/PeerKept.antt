@@ -15,7 +15,7 @@ use Rattle.resolver_peer.proofs.PeerDemand.{table_is_kept}
 use Rattle.resolver_machine.proofs.Bridge.{demand_is_told}
 
 module _ {K S P : Type 0} (a : Parties K S P) (keys : IsEquivalence (same_key (names_of a))) (order : IsTotalOrder a.subscriber) (subscribers : IsEquivalence (same_subscriber (names_of a))) where
-  taken-lawful : (inputs : List (Fed K S P)) (answers : List (Result (List (Effect K S P)) Fault)) → AllLawful a inputs
+  pub taken-lawful : (inputs : List (Fed K S P)) (answers : List (Result (List (Effect K S P)) Fault)) → AllLawful a inputs
       → Each (λ one. IsLawful (names_of a) one.0) (taken inputs answers)
   taken-lawful [] answers lawful = tt
   taken-lawful (fed ∷ inputs) [] lawful = tt

@@ -40,7 +40,7 @@ module _ (t : ℕ) where
   below-waiter None less = tt
   below-waiter (Some m) less = omega (arith, less)
 
-  not-due : (x : Option ℕ) → IsLaterIfAny t x → is_due t x ≡ false
+  pub not-due : (x : Option ℕ) → IsLaterIfAny t x → is_due t x ≡ false
   not-due None later = refl
   not-due (Some m) later = grind (arith, nat_tests, common_steps, later)
 

@@ -4,18 +4,18 @@ use Rattle.std.specs.Map.{lookup}
 use Rattle.std.specs.Ordering.{is_eq}
 use Rattle.resolver_base.specs.declared.base.fault.Fault.{Fault}
 use Rattle.resolver_root.specs.Demand.{all_pairs_of, IsSameDemand}
-use Rattle.resolver_request.specs.declared.score.Averages.{Averages}
 use Rattle.resolver_trying.specs.declared.config.Config.{Config}
+use Rattle.resolver_trying.specs.declared.place.Place.{Place}
 use Rattle.resolver_trying.specs.declared.scan.Ask.TheVariants as asks
 use Rattle.resolver_asked.specs.Ids.{is_held}
 use Rattle.resolver_trying.specs.declared.scan.Answer.TheVariants.{Sent}
-use Rattle.resolver_trying.specs.Waiting.{Waiting, once_more, retry_at}
-use Rattle.resolver_trying.specs.Snapshot.{eligible}
+use Rattle.resolver_trying.specs.Waiting.{once_more, retry_at}
+use Rattle.resolver_trying.specs.EligibleLaws.{MayBeAsked}
 use Rattle.resolver_trying.specs.FetcherLaws.{AllAre, IsAmong, IsOnce}
 use Rattle.resolver_machine.specs.Account.{Change, Handed, pairs, nothing_asked, account_of}
 use Rattle.resolver_machine.specs.Lawful.{Each, IsLawful}
 use Rattle.resolver_peer.specs.Parties.{Parties, names_of, orders_of}
-use Rattle.resolver_peer.specs.Peer.{Machine, Effect, Ask, Deliver, Credit, Block, Input, Happens, Fetch, Retain, Net, Failed, opening, snapshot, step, Running, Answers, is_key, question, row_of}
+use Rattle.resolver_peer.specs.Peer.{Machine, Effect, Ask, Deliver, Credit, Block, Input, Happens, Net, Failed, opening, snapshot, step, Running, Answers, is_key, question, row_of}
 use Rattle.resolver_peer.specs.PeerRun.{Fed, answers, after, effects_of, all_effects, change_of, delivery_in, demanded}
 use Rattle.resolver_peer.specs.PeerSteps.{Runs}
 use Rattle.resolver_peer.specs.PeerRows.{Row, Waits}
@@ -33,9 +33,10 @@ module _ {K S P : Type 0} (a : Parties K S P) where
   EarnsOnce = (configuration : Config P) (replies_first : Bool) (inputs : List (Fed K S P)) (response : ℕ)
       → length (account response (all_effects (answers a (opening configuration replies_first) inputs))) ≤ 1
 
-  -- the peer is in the latest set, not local, not blocked, below the limit, and among the key's targets, where there are such
+  -- the key waits, and the peer is in the latest set, not local, not blocked, below the limit, and among the key's targets, where there are such
   abbrev pub IsEligibleFor : Machine K S P → K → P → Type 0
-  IsEligibleFor m key peer = (w : Waiting P) × IsAmong (key, w) (snapshot a m).waiting × ((x : Averages) × IsAmong (peer, x) (eligible (orders_of a) (snapshot a m) w.targets))
+  IsEligibleFor m key peer =
+      (row : Row K S P) × IsAmong (key, row) m.rows × ((place : Place) × (row.phase ≡ Waits place)) × MayBeAsked (orders_of a) (snapshot a m) row.targets peer
 
   -- a request goes to a peer that is eligible for its key
   abbrev pub IsWellAsked : Machine K S P → Effect K S P → Type 0

@@ -1,18 +1,28 @@
 -- What single inputs of a peer machine do, and what they don't.
-use Rattle.std.specs.Prelude.{◌≡◌, ◌≤◌, ◌<◌, ◌^◌, ℕ, Bool, true, false, ◌&&◌, ◌==◌, List, [], ◌∷◌, ◌++◌, Option, None, Some, Result, filter, length, map}
+use Rattle.std.specs.Prelude.{◌≡◌, ◌≢◌, ◌≤◌, ◌<◌, ◌^◌, ℕ, Bool, true, false, ◌&&◌, ◌==◌, List, [], ◌∷◌, ◌++◌, Option, None, Some, Result, Ok, filter, length, map}
 use Rattle.std.specs.Map.{lookup}
+use Rattle.std.specs.BTreeMap.{is_at}
+use Rattle.std.specs.Ordering.{nat_cmp}
 use Rattle.resolver_base.specs.declared.base.fault.Fault.{Fault}
 use Rattle.resolver_root.specs.declared.root.Outcome.{Outcome}
+use Rattle.resolver_root.specs.Demand.{Pair}
 use Rattle.resolver_asked.specs.declared.requests.request.Request.{Request}
 use Rattle.resolver_request.specs.declared.wire.Payload.TheVariants as payloads
+use Rattle.resolver_request.specs.Times.{never}
 use Rattle.resolver_trying.specs.declared.config.Config.{Config}
+use Rattle.resolver_trying.specs.declared.scan.Answer.{Answer}
 use Rattle.resolver_trying.specs.Scan.{is_over}
+use Rattle.resolver_trying.specs.FetcherLaws.{AllAre, IsLaterLimit}
+use Rattle.resolver_trying.specs.TrailLaws.{is_accepted}
+use Rattle.resolver_machine.specs.Account.{Account, Handed, Watched, account_of, conflicts, nothing_asked, pairs}
 use Rattle.resolver_peer.specs.declared.named.Serve.{Serve}
-use Rattle.resolver_peer.specs.Parties.{Parties}
+use Rattle.resolver_peer.specs.Parties.{Parties, names_of}
+use Rattle.resolver_peer.specs.PeerLaws.{AllLawful, taken}
 use Rattle.resolver_peer.specs.PeerRows.{Row, Phase, Judged}
 use Rattle.resolver_peer.specs.PeerRun.{Fed, effects_of}
+use Rattle.resolver_peer.specs.PeerStanding.{standing_of}
 use Rattle.resolver_peer.specs.PeerSteps.{Runs, is_passed_over}
-use Rattle.resolver_peer.specs.Peer.{Machine, Open, Status, Running, Effect, Deliver, Reply, Credit, Block, Event, PendingDue, Verdict, Served, Net, Input, Happens, answered, opening, payload_of, row_of, step}
+use Rattle.resolver_peer.specs.Peer.{Machine, Open, Status, Running, Failed, Effect, Deliver, Reply, Credit, Block, Event, PendingDue, Verdict, Served, Net, Input, Happens, Answers, answered, opening, payload_of, row_of, step}
 
 abbrev pub is_running : Status → Bool
 is_running Running = true
@@ -107,3 +117,39 @@ NoSecondReply {K} {S} {P} a =
     (old : Machine K S P) (inputs : List (Fed K S P)) (answers : List (Result (List (Effect K S P)) Fault)) (new : Machine K S P)
     → Runs a old inputs answers new → (configuration : Config P) (priority_responses : Bool) → old ≡ opening configuration priority_responses
     → (serve : ℕ) → length (filter (λ n. serve == n) (all_served inputs answers)) ≤ 1
+
+module _ {K S : Type 0} where
+  -- what is handed out and open by an account
+  abbrev pub handed_in : List (ℕ × Watched K S) → List (ℕ × Handed K S)
+  handed_in deliveries = map (λ w. (w.0, w.1.handed)) deliveries
+
+  abbrev pub is_watched_live : Option (Watched K S) → Bool
+  is_watched_live None = false
+  is_watched_live (Some w) = w.live
+
+module _ {K S P : Type 0} (a : Parties K S P) where
+  -- The machine's table of open deliveries means what the account of a run does: the same numbers are open, a number is live to the machine where it is live by the account, and a response was accepted where the account has a Complete for it.
+  pub record JudgesBy (m : Machine K S P) (c : Account K S (List (Pair K S))) : Type 0 where
+    pub handed : (standing_of m).deliveries ≡ handed_in c.deliveries
+    pub live : (number : ℕ) → is_live a m number ≡ is_watched_live (lookup (is_at (nat_cmp number)) c.deliveries)
+    pub accepted : (number : ℕ) (h : Open K S P) → lookup (λ n. number == n) m.deliveries ≡ Some h → h.accepted ≡ conflicts c.completed h.handed
+
+  -- So it is after each run of lawful inputs from the opening state that did not fail, by the inputs taken and what they handed out alone.
+  abbrev pub JudgesByTheRun : Type 0
+  JudgesByTheRun =
+      (old : Machine K S P) (inputs : List (Fed K S P)) (answers : List (Result (List (Effect K S P)) Fault)) (new : Machine K S P)
+      → AllLawful a inputs → Runs a old inputs answers new → (configuration : Config P) (priority_responses : Bool) → old ≡ opening configuration priority_responses → new.status ≢ Failed
+      → JudgesBy new (account_of (pairs (names_of a)) (nothing_asked (pairs (names_of a))) (taken inputs answers))
+
+module _ {K S P : Type 0} (a : Parties K S P) where
+  -- a wake-up at this moment begins no scan
+  abbrev pub RestsAt : Machine K S P → (now : ℕ) → Type 0
+  RestsAt m now = step a m now (Happens PendingDue) ≡ (Ok [], record m { moment = now })
+
+  -- No event leaves a scan to begin at its moment. Nor does a scan that ended without an accepted request and met no limit at or before its moment.
+  pub record RestsAfterScans : Type 0 where
+    pub after_event : (m new : Machine K S P) (now : ℕ) (event : Event K S P) (effects : List (Effect K S P)) → step a m now (Happens event) ≡ (Ok effects, new)
+        → new.status ≡ Running → is_over new.scan ≡ true → 0 < new.configuration.retry_delay → now < never → RestsAt new now
+    pub after_answer : (m new : Machine K S P) (now : ℕ) (answer : Answer) (effects : List (Effect K S P)) → step a m now (Answers answer) ≡ (Ok effects, new)
+        → is_over new.scan ≡ true → is_accepted answer ≡ false → 0 < new.configuration.retry_delay → new.scan.moment < never
+        → AllAre (λ t. IsLaterLimit new.scan.moment t.reason) new.scan.trail → RestsAt new new.scan.moment

@@ -5,7 +5,7 @@ ghost use Rattle.resolver_peer.specs.Parties.{parties};
 ghost use Rattle.resolver_peer.specs.PeerDemandRows.{PeerDemand};
 ghost use Rattle.resolver_peer.specs.PeerLaws.{AsksEligible, DemandIsKept, EarnsOnce, IsPaidOnce, IsPaidToSenders, IsWellAskedThroughout, TriesOnce, AskedOnce, IdsAreNew, StaysAwake};
 ghost use Rattle.resolver_peer.specs.PeerSteps.{RunsJoin};
-ghost use Rattle.resolver_peer.specs.PeerPoints.{DeadVerdictsPass, NoSecondReply, PassedOverPass, RepliesOnce, ResponsesAreDelivered};
+ghost use Rattle.resolver_peer.specs.PeerPoints.{DeadVerdictsPass, JudgesByTheRun, NoSecondReply, PassedOverPass, RepliesOnce, ResponsesAreDelivered, RestsAfterScans};
 ghost use Rattle.resolver_peer.specs.PeerRunLaws.{RunLaws};
 ghost use Rattle.resolver_peer.specs.PeerRuns as peer;
 
@@ -174,6 +174,17 @@ pub fn dead_verdicts_pass<K: Ord, S: Ord, P: Ord>()
 /// A response that answers a request is delivered in that step, to exactly the subscribers of its key.
 pub fn responses_are_delivered<K: Ord, S: Ord, P: Ord>()
     ensures { ResponsesAreDelivered (parties K.cmp S.cmp P.cmp) }
+{}
+
+/// After a run of the peer machine that did not fail, its open deliveries are live, and their responses accepted, as
+/// the account of what it took and handed out says.
+pub fn judges_by_the_run<K: Ord, S: Ord, P: Ord>()
+    ensures { JudgesByTheRun (parties K.cmp S.cmp P.cmp) }
+{}
+
+/// A wake-up at the moment of an event, or of a scan that ended in vain, begins no scan.
+pub fn rests_after_scans<K: Ord, S: Ord, P: Ord>()
+    ensures { RestsAfterScans (parties K.cmp S.cmp P.cmp) }
 {}
 
 /// A step of the peer machine is a run of one input, and a run that goes on is one run.
