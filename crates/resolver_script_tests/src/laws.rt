@@ -2,9 +2,10 @@ use crate::cores::make_core;
 use resolver::opaque::laws::{dead_verdicts_pass, opaque_keeps_demand, opaque_runs_join};
 use resolver::p2p::laws as peers;
 use resolver::p2p::laws::{
-    asked_once, asks_eligible, asks_well, earns_once, engine_runs_join, ids_are_new, keeps_demand,
-    no_second_reply, passed_over_pass, pays_once, pays_senders, replies_once,
-    responses_are_delivered, run_laws, runs_are_said, runs_join, stays_awake, tries_once,
+    asked_once, asks_eligible, asks_well, earns_once, engine_runs_join, ids_are_new,
+    judges_by_the_run, keeps_demand, no_second_reply, passed_over_pass, pays_once, pays_senders,
+    replies_once, responses_are_delivered, rests_after_scans, run_laws, runs_are_said, runs_join,
+    stays_awake, tries_once,
 };
 use resolver::p2p::mocks::Key;
 use resolver_machine::ruling::{Ruling, rule_on};
@@ -30,6 +31,7 @@ fn of_the_peer_machine_at_numbers(_rt: HostRuntime) {
     asked_once::<u8, u16, u32>();
     run_laws::<u8, u16, u32>();
     runs_join::<u8, u16, u32>();
+    judges_by_the_run::<u8, u16, u32>();
 }
 
 #[test]
@@ -39,6 +41,7 @@ fn of_single_inputs_at_numbers(_rt: HostRuntime) {
     passed_over_pass::<u8, u16, u32>();
     peers::dead_verdicts_pass::<u8, u16, u32>();
     responses_are_delivered::<u8, u16, u32>();
+    rests_after_scans::<u8, u16, u32>();
 }
 
 #[test]

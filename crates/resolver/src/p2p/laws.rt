@@ -14,12 +14,12 @@ ghost use Rattle.resolver.specs.EngineLaws.{EngineRunsJoin, RunsAreSaid};
 use resolver_base::base::Span;
 pub use resolver_peer::laws::{
     asked_once, asks_eligible, asks_well, blocked_target, dead_verdicts_pass, earns_once,
-    foreign_and_broken_messages, ids_are_new, invalid_response, keeps_demand,
+    foreign_and_broken_messages, ids_are_new, invalid_response, judges_by_the_run, keeps_demand,
     late_and_stale_responses, limit_one_peer, limit_peer_returns, limit_timeout, no_second_reply,
     passed_over_pass, pays_once, pays_senders, peer_demand, peer_dropped_then_fetched_again,
     peer_late_subscriber, peer_pruned_then_fetched_again, peer_refusals, refused_sends,
-    replies_once, responses_are_delivered, run_laws, runs_join, serving, stays_awake,
-    timeout_and_limits, tries_once, verdicts_repeated,
+    replies_once, responses_are_delivered, rests_after_scans, run_laws, runs_join, serving,
+    stays_awake, timeout_and_limits, tries_once, verdicts_repeated,
 };
 
 /// A step of an engine is a run of one input, and a run that goes on is one run.
