@@ -1,6 +1,6 @@
 -- The calls of a scan: what it tries, how it ends in vain, and what they leave as it was.
-use Rattle.std.proofs.Common.{◌≡◌, refl, sym, ap, ◌∙◌, subst, ◌⊎◌, inl, inr, ℕ, ◌+◌, ◌<◌, ◌^◌, Bool, true, false, ◌&&◌, List, [], ◌∷◌, ◌++◌, Option, None, Some, Result, Ok, Err, if◌then◌else◌}
-use Rattle.std.specs.Prelude.{IfSome, is_none, nat_lt, option_and_then, ⊤}
+use Rattle.std.proofs.Common.{◌≡◌, refl, ap, ◌∙◌, subst, inl, inr, ℕ, ◌+◌, ◌<◌, ◌^◌, Bool, true, false, ◌&&◌, List, [], ◌∷◌, ◌++◌, Option, None, Some, Result, Ok, Err, if◌then◌else◌}
+use Rattle.std.specs.Prelude.{IfSome, nat_lt, option_and_then, ⊤}
 use Rattle.resolver_base.specs.declared.base.check.Check.TheVariants.{Clear, Until}
 use Rattle.resolver_base.specs.declared.base.fault.Fault.{Fault}
 use Rattle.resolver_base.specs.declared.base.fault.Fault.TheVariants.{OutOfRange, Unasked}
@@ -17,10 +17,10 @@ use Rattle.resolver_trying.specs.declared.trail.Try.{Try}
 use Rattle.resolver_trying.specs.Orders.{Orders}
 use Rattle.resolver_trying.specs.Waiting.{Waiting}
 use Rattle.resolver_trying.specs.Snapshot.{Snapshot, known}
-use Rattle.resolver_trying.specs.Scan.{Scan, Turn, answered, asks_for, begins, by_place, by_weight, clears, draws, goes_on_with, is_over, left, next, sends, takes, takes_for}
+use Rattle.resolver_trying.specs.Scan.{Scan, Turn, answered, begins, by_place, by_weight, clears, draws, goes_on_with, is_over, left, next, sends, takes, takes_for}
 use Rattle.resolver_trying.specs.Fetcher.{Fetcher, answered as answered_with, pending_deadline, question, scan_begin, scan_taken, snapshot, turned, weight}
 use Rattle.resolver_trying.specs.FetcherLaws.{HasTriedAll, IsInVain, IsLaterIfAny, is_sent_to, weight_unless}
-use Rattle.resolver_trying.specs.TrailLaws.{AnswersRightly, BeginsRightly, EndsInVain, IsLeft, IsTrail, ScansRightly, TrailLaw, TriesRightly, awaited, is_accepted, scan_in}
+use Rattle.resolver_trying.specs.TrailLaws.{BeginsRightly, EndsInVain, IsLeft, IsTrail, ScansRightly, TrailLaw, TriesRightly, awaited, is_accepted, scan_in}
 use Rattle.resolver_trying.proofs.OneOf.{IsOneOf}
 use Rattle.resolver_trying.proofs.Trails.{IsFine, IsFineAfter, IsFineTurn, IsSoundAt, all-snoc, begins-fine, grows-once, takes-fine}
 use Rattle.resolver_trying.proofs.TriesAll.{tries_all}

@@ -7,7 +7,7 @@ use Rattle.resolver_trying.specs.declared.trail.Try.{Try}
 use Rattle.resolver_trying.specs.Orders.{Orders}
 use Rattle.resolver_trying.specs.Waiting.{Waiting}
 use Rattle.resolver_trying.specs.Snapshot.{Snapshot, eligible}
-use Rattle.resolver_trying.specs.Scan.{Scan, Turn, begins, can_be_tried, is_due, left, next, takes, was_tried}
+use Rattle.resolver_trying.specs.Scan.{Scan, Turn, begins, can_be_tried, left, next, takes, was_tried}
 use Rattle.resolver_trying.specs.FetcherLaws.{AllAre, IsOnce, IsPair, TriesPairs, after_answers, unless_refused}
 use Rattle.resolver_trying.proofs.OneOf.{IsOneOf, among-filter, found-among, found-passes}
 use Rattle.resolver_trying.proofs.Trails.{IsFine, IsFineAfter, all-snoc, begins-fine, grows-once, takes-fine}

@@ -1,5 +1,5 @@
 -- What a scan tried, and what the calls of a scan promise.
-use Rattle.std.specs.Prelude.{◌≡◌, ℕ, ◌<◌, Bool, true, false, ◌&&◌, List, [], Option, None, Some, IfSome, Result, Ok, Err, option_and_then}
+use Rattle.std.specs.Prelude.{◌≡◌, ℕ, ◌<◌, Bool, false, ◌&&◌, List, [], Option, None, Some, IfSome, Result, Ok, Err, option_and_then}
 use Rattle.resolver_base.specs.declared.base.fault.Fault.{Fault}
 use Rattle.resolver_request.specs.declared.score.Averages.{Averages}
 use Rattle.resolver_request.specs.Times.{never}

@@ -1,4 +1,4 @@
-use Rattle.std.proofs.Common.{◌≡◌, ◌∙◌, ap, sym, slice_get, List, arith}
+use Rattle.std.proofs.Common.{◌∙◌, ap, sym, slice_get, List, arith}
 use Rattle.resolver_trying.proofs.Pools.{chosen-by-weight, got, none-by-weight}
 use Rattle.resolver_trying.proofs.pool.Pool.by_weight.Goals as goal
 

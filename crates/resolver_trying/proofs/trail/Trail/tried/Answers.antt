@@ -1,4 +1,4 @@
-use Rattle.std.proofs.Common.{◌≡◌, ◌∙◌, ap, [], Some, None, rules}
+use Rattle.std.proofs.Common.{◌≡◌, ◌∙◌, [], Some, None, rules}
 use Rattle.std.specs.BTreeMap.{is_at}
 use Rattle.std.specs.Map.{lookup}
 use Rattle.resolver_trying.specs.Tried.{peers_tried}

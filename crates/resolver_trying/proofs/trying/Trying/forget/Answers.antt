@@ -1,4 +1,4 @@
-use Rattle.std.proofs.Common.{◌≡◌, ap, rules}
+use Rattle.std.proofs.Common.{ap}
 use Rattle.resolver_trying.specs.Trying.{Trying, apart_from}
 use Rattle.resolver_trying.proofs.Outcomes.{onto-ok}
 use Rattle.resolver_trying.proofs.trying.Trying.forget.Goals as goal
