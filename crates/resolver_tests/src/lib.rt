@@ -18,7 +18,11 @@ mod fakes;
 #[cfg(test)]
 mod leaving;
 #[cfg(test)]
+mod mailboxes;
+#[cfg(test)]
 mod mocks;
+#[cfg(test)]
+mod ordering;
 #[cfg(test)]
 mod pair;
 #[cfg(test)]
