@@ -3,6 +3,7 @@
 use crate::asserting::assert_same;
 use crate::fakes::acts::Asks;
 use crate::fakes::world::{Setting, make_world};
+use resolver_base::base::Feedback;
 use resolver_fakes::names::Below;
 use resolver_fakes::seen::{Wrong, spell_feedback};
 use std::alloc::{AllocGlobal, Global};
@@ -48,4 +49,31 @@ fn an_engine_s_mailbox_has_room_for_one(rt: HostRuntime) {
 #[test]
 fn an_engine_s_mailbox_has_room_for_two(rt: HostRuntime) {
     answers(rt, 2, "Ok\nOk\nBackoff\n");
+}
+
+/// That one message of so many fetches is taken.
+fn fetch_many<R>(rt: R, count: u16)
+where
+    R: Abort + Wait + RandomSource + AllocGlobal + Copy + Drop + Send + 'static,
+{
+    let made = make_world::<Below, _>(rt, rt.alloc(), Setting::with(Wrong::Nothing));
+    let (mut world, engine, lent) = made.expect(&rt, "a world");
+    let mut wants = Vec::new(rt.alloc());
+    for number in 0..count {
+        wants
+            .push(((number % 256) as u8, number))
+            .expect(&rt, "memory");
+    }
+    let feedback = world.mailbox.fetch(rt.alloc(), wants.as_slice());
+    assert_same(&rt, &feedback, &Ok(Feedback::Ok));
+    drop(wants);
+    drop(engine);
+    drop(lent);
+    drop(world);
+}
+
+#[test]
+fn ample_memory_for_a_message_of_many_fetches(rt: HostRuntime) {
+    fetch_many(rt, 17);
+    fetch_many(rt, 10_000);
 }
