@@ -1,5 +1,7 @@
 -- What an engine counts of what happens.
-use Rattle.std.specs.Prelude.{Bool, true, false, not, Option, None, Some, if◌then◌else◌, ◌==◌, ℕ}
+use Rattle.std.specs.Prelude.{◌≡◌, Bool, true, false, not, Option, None, Some, if◌then◌else◌, ◌==◌, ◌^◌, ℕ, nat_lt, List, length, Unit}
+use Rattle.resolver.specs.declared.p2p.counting.Noted.{Noted}
+use Rattle.resolver.specs.declared.p2p.counting.Noted.TheVariants.{Served}
 use Rattle.resolver_root.specs.declared.root.Outcome.{Outcome}
 use Rattle.resolver_root.specs.declared.root.Outcome.TheVariants.{Invalid, Resolved, Unresolved, Ignored}
 use Rattle.resolver_metrics.specs.Counters.{measured, raised}
@@ -31,7 +33,17 @@ tallied live accepted again None t = one_dropped (if live then (if accepted then
 abbrev pub called_off : (ended : ℕ) → Tally → Tally
 called_off ended t = if ended == 0 then one_dropped true t else record t { success = raised ended t.success }
 
--- the producer's answer to a peer's request, with bytes or without
+-- Whether the producer's answer to a peer's request is a response: bytes, and no more than a message can carry.
+abbrev pub is_answer : Option (List ℕ) → Bool
+is_answer None = false
+is_answer (Some bytes) = nat_lt (length bytes) (2 ^ 32)
+
+-- what is noted of the producer's answer says whether it is a response
+abbrev pub NotesAnswer : Bool → Noted → Type 0
+NotesAnswer is (Served is_answered elapsed) = is_answered ≡ is
+NotesAnswer is noted = Unit {0}
+
+-- the producer's answer to a peer's request, a response or not
 abbrev pub answered : Bool → Tally → Tally
 answered true t = one_success true t
 answered false t = one_failure t

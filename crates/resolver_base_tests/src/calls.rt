@@ -247,7 +247,7 @@ fn spell_queue<K: Ord + Debug + Drop>(
 }
 
 /// Writes where a key waits and under which id it is asked for, whether it waits and how often it was put back with the
-/// requests and the scan, or what a queue has. Ends the test where no call has this word.
+/// requests and the scan, what a queue has, or the fetcher's own text. Ends the test where no call has this word.
 fn look_at<K: Ord + Debug + Drop, P: Ord + Debug + Drop>(
     rt: &impl Abort,
     text: &mut String,
@@ -267,6 +267,7 @@ fn look_at<K: Ord + Debug + Drop, P: Ord + Debug + Drop>(
         }
         "fresh" => spell_queue(rt, text, fetcher.fresh_queue()),
         "retries" => spell_queue(rt, text, fetcher.retry_queue()),
+        "shown" => spell(rt, text, fetcher),
         _ => holds(rt, false),
     }
 }

@@ -49,6 +49,18 @@ fn a_second_request(rt: HostRuntime) {
     goes_by(&rt, rt.alloc(), delayed(10), &[ASKS, CALLS]);
 }
 
+/// Its text tells the keys that wait from those that are asked for.
+#[test]
+fn a_fetcher_shows_how_many_keys_wait_and_are_asked_for(rt: HostRuntime) {
+    const CALLS: &str = "
+        ready 2 40
+        ready 3 40
+        shown = Fetcher { pending: 2, active: 1, is_scanning: false, .. }
+        begin 40 = Ok(Some(Draw(4)))
+        shown = Fetcher { pending: 2, active: 1, is_scanning: true, .. }";
+    goes_by(&rt, rt.alloc(), delayed(10), &[ASKS, CALLS]);
+}
+
 #[test]
 fn targets_of_each_length(rt: HostRuntime) {
     const CALLS: &str = "

@@ -31,6 +31,8 @@ mod fetching;
 #[cfg(test)]
 mod ingress;
 #[cfg(test)]
+mod joining;
+#[cfg(test)]
 mod keys;
 #[cfg(test)]
 mod laws;

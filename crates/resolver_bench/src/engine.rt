@@ -2,14 +2,14 @@
 //! each of them; each request is answered; and each response is judged complete.
 
 use crate::fault::Fault;
-use crate::name::Name;
 use crate::spent::{Driven, Kind, Load, Steps, Times, drive};
-use crate::workload::{All, CONFIG, Peer, fetch, listed, named};
+use crate::workload::{All, CONFIG, Peer, fetch, listed, named, scattered};
 use bytes::Bytes;
 use resolver::p2p::Core;
 use resolver::p2p::effects::Effect;
 use resolver::p2p::inputs::{Event, Happening, Input};
 use resolver_base::base::Check;
+use resolver_fakes::wide::Name;
 use resolver_fetch::fetcher::{Answer, Ask};
 use resolver_root::{Outcome, Resolution};
 use std::alloc::Global;
@@ -25,6 +25,11 @@ const STEPS: &[Steps] = &[
     Steps(Kind::Answer, Times::Keys, "answer", "effects"),
     Steps(Kind::Complete, Times::Keys, "complete", "effects"),
 ];
+
+/// Keys that don't come in their order, each once.
+fn name(i: u64) -> Name {
+    Name::numbered((scattered(i) % (1 << 32)) as u32)
+}
 
 /// More than a scan asks before its first request is taken.
 const ASKS: u64 = 8;
@@ -108,7 +113,7 @@ fn event_of(alloc: Global, kind: Kind, i: u64) -> Result<Step, Fault> {
     Ok(match kind {
         Kind::Wait => {
             let subscribers = listed(alloc, SUBSCRIBERS)?;
-            Event::Fetch(fetch(alloc, Name::scattered(i), subscribers, None)?)
+            Event::Fetch(fetch(alloc, name(i), subscribers, None)?)
         }
         Kind::Ask => Event::PendingDue,
         Kind::Answer => Event::Net {

@@ -14,7 +14,6 @@ mod fault;
 mod fetcher;
 mod index;
 mod mailbox;
-mod name;
 mod refused;
 mod scans;
 mod spent;

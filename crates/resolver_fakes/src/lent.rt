@@ -103,13 +103,13 @@ impl Sender for Wire {
         check
     }
 
-    fn send(&mut self, peer: &Peer, message: Bytes, _priority: bool) -> Unreliable {
+    fn send(&mut self, peer: &Peer, message: Bytes, priority: bool) -> Unreliable {
         self.sends = self.sends.saturating_add(1);
         if self.wrong.is_refused(self.sends) {
-            tell(&self.told, Seen::Refused(*peer, message));
+            tell(&self.told, Seen::Refused(*peer, message, priority));
             Unreliable::Rejected
         } else {
-            tell(&self.told, Seen::Sent(*peer, message));
+            tell(&self.told, Seen::Sent(*peer, message, priority));
             Unreliable::Outcome(Feedback::Ok)
         }
     }

@@ -18,12 +18,12 @@ impl Faithful for Peer {
     ghost clones = { Prim.search rules };
 }
 
-/// A fetch of a key.
+/// A fetch of a key, with a mark that no other key and subscriber below 100 have.
 pub fn wanted(key: u8, subscriber: u16) -> Fetch<Key, u16> {
     Fetch {
         key: Key(key),
         subscriber,
-        mark: 7,
+        mark: 100 * u64::from(key) + u64::from(subscriber),
     }
 }
 

@@ -14,12 +14,14 @@ pub trait Polled {
     fn poll_once(&mut self, task: &MockTask) -> Poll<Ending>;
 }
 
-/// Polls the loop until it is over, or nothing is left for it: what is new in a set of futures wakes the
-/// task that polls it, and so does a loop that took many turns.
+/// Polls the loop for as long as its task is woken, as an executor does, or until it is over. A new task is woken.
 pub fn settle<L: Polled>(task: &MockTask, looped: &mut L) -> Poll<Ending> {
     for _ in 0..1000_u64 {
+        if !task.is_woken() {
+            return Poll::Pending;
+        }
         let polled = looped.poll_once(task);
-        if polled.is_ready() || !task.is_woken() {
+        if polled.is_ready() {
             return polled;
         }
     }

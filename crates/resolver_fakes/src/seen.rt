@@ -77,12 +77,15 @@ pub enum Seen {
     Checked(Peer),
     /// A check that was answered by a moment.
     Limited(Peer),
-    Sent(Peer, Bytes),
-    /// A send that was refused.
-    Refused(Peer, Bytes),
+    /// A send, and whether it has priority.
+    Sent(Peer, Bytes, bool),
+    /// The same of one that was refused.
+    Refused(Peer, Bytes, bool),
     Delivered(Delivery<Key, u16>, Bytes),
     Produced(Key),
     Blocked(Peer),
+    /// A look of an opaque source.
+    Looked(Key),
 }
 
 /// A line for each.
@@ -92,15 +95,27 @@ impl fmt::Display for Seen {
             Seen::Drew(below) => write!(f, "draw {below}"),
             Seen::Checked(peer) => write!(f, "check {}", peer.0),
             Seen::Limited(peer) => write!(f, "limit {}", peer.0),
-            Seen::Sent(peer, bytes) => write!(f, "send {} {}", peer.0, Hex(bytes.as_slice())),
-            Seen::Refused(peer, bytes) => {
-                write!(f, "refuse {} {}", peer.0, Hex(bytes.as_slice()))
+            Seen::Sent(peer, bytes, priority) => write_send(f, "send", *peer, bytes, *priority),
+            Seen::Refused(peer, bytes, priority) => {
+                write_send(f, "refuse", *peer, bytes, *priority)
             },
             Seen::Delivered(delivery, value) => write_delivery(f, delivery, value),
             Seen::Produced(key) => write!(f, "produce {}", key.0),
             Seen::Blocked(peer) => write!(f, "block {}", peer.0),
+            Seen::Looked(key) => write!(f, "look {}", key.0),
         }
     }
+}
+
+fn write_send<W: Write>(
+    f: &mut Formatter<W>,
+    word: &str,
+    peer: Peer,
+    bytes: &Bytes,
+    priority: bool,
+) -> fmt::Result {
+    let priority = if priority { " first" } else { "" };
+    write!(f, "{word} {} {}{priority}", peer.0, Hex(bytes.as_slice()))
 }
 
 fn write_delivery<W: Write>(
@@ -109,8 +124,8 @@ fn write_delivery<W: Write>(
     value: &Bytes,
 ) -> fmt::Result {
     write!(f, "deliver {} to", delivery.key.0)?;
-    for (subscriber, _) in delivery.subscribers.iter() {
-        write!(f, " {subscriber}")?;
+    for (subscriber, mark) in delivery.subscribers.iter() {
+        write!(f, " {subscriber}:{mark}")?;
     }
     write!(f, " {}", Hex(value.as_slice()))
 }

@@ -28,6 +28,7 @@ ghost use Rattle.resolver_trying.specs.Snapshot.{known};
 ghost use Rattle.resolver_request.specs.Times.{charged, elapsed_since};
 
 use crate::fetcher::peers::Peers;
+pub use fetching::answer_to;
 use resolver_asked::requests::Requests;
 pub use resolver_asked::requests::{ID, Request};
 use resolver_base::base::Fault;

@@ -1,6 +1,9 @@
 //! Looks for values that are under way.
 
 ghost use Rattle.std.specs.Prelude.{◌≡◌, IfErr};
+ghost use Rattle.std.specs.BTreeMap.{remove_entry};
+ghost use Rattle.std.specs.Ordering.{nat_cmp};
+ghost use Rattle.futures.specs.Poll.{IfReady};
 ghost use Rattle.futures.specs.Task.{Keeps};
 ghost use Rattle.resolver_base.specs.declared.base.fault.Fault.TheVariants.{OutOfMemory};
 
@@ -89,10 +92,12 @@ impl<V, F: Future<Output = Option<V>>> Attempts<F> {
         }
     }
 
-    /// The next number whose look is over, with the value. Where there is none so far, the task is
-    /// woken by the next.
+    /// The next number whose look is over, with the value: nothing of it is kept. Where there is none so far, the
+    /// task is woken by the next.
     pub(crate) fn poll_any(&mut self, cx: &mut Context<'_>) -> Poll<(u64, Option<V>)>
         requires pollable { (future : F) → F.can_poll future }
+        ensures forgets { IfReady result (λ said. self.new.handles.entries
+            ≡ remove_entry nat_cmp said.0 self.old.handles.entries) }
         ensures kept { Keeps cx.old cx.new }
     {
         if self.looks.is_empty() {

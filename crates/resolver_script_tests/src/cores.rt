@@ -41,12 +41,16 @@ pub enum Given {
     Wake,
     TimeOut,
     Verdict(u64, Option<Outcome>),
-    /// The producer has two bytes for this serve, or drops it.
-    Served(u64, bool),
+    /// The producer has these bytes for this serve, or drops it.
+    Served(u64, Option<&'static [u8]>),
     /// This peer sends these bytes.
     Net(u8, &'static [u8]),
+    /// The end.
+    End,
     Drawn(u128),
     Clear,
+    /// The peer that is checked is to wait for this moment.
+    Until(u128),
     Sent(bool),
 }
 
@@ -81,11 +85,10 @@ fn peers(rt: &impl Abort, alloc: Global, numbers: &[u8]) -> Vec<Peer> {
     peers
 }
 
-fn served(serve: u64, is_answered: bool) -> PlainEvent {
-    let value = if is_answered {
-        Some(Bytes::from_static(&[104, 105]))
-    } else {
-        None
+fn served(serve: u64, bytes: Option<&'static [u8]>) -> PlainEvent {
+    let value = match bytes {
+        Some(bytes) => Some(Bytes::from_static(bytes)),
+        None => None,
     };
     Event::Served { serve, value }
 }
@@ -103,13 +106,15 @@ fn event_of(rt: &impl Abort, alloc: Global, given: Given) -> Result<PlainEvent, 
         Given::Wake => Ok(Event::PendingDue),
         Given::TimeOut => Ok(Event::ActiveDue),
         Given::Verdict(number, outcome) => Ok(Event::Verdict { number, outcome }),
-        Given::Served(serve, is_answered) => Ok(served(serve, is_answered)),
+        Given::Served(serve, bytes) => Ok(served(serve, bytes)),
         Given::Net(peer, bytes) => Ok(Event::Net {
             peer: Peer(peer),
             bytes: Bytes::from_static(bytes),
         }),
+        Given::End => Ok(Event::End),
         Given::Drawn(number) => Err(Answer::Drawn(number)),
         Given::Clear => Err(Answer::Checked(Check::Clear)),
+        Given::Until(moment) => Err(Answer::Checked(Check::Until(moment))),
         Given::Sent(is_accepted) => Err(Answer::Sent(is_accepted)),
     }
 }

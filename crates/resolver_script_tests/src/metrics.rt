@@ -420,9 +420,9 @@ fn retains(rt: HostRuntime) {
 #[test]
 fn serves(rt: HostRuntime) {
     const CLOSED: &[(u64, Given)] = &[
-        (7, Given::Served(1, false)),
-        (30, Given::Served(0, true)),
-        (40, Given::Served(0, true)),
+        (7, Given::Served(1, None)),
+        (30, Given::Served(0, Some(b"hi"))),
+        (40, Given::Served(0, Some(b"hi"))),
     ];
     const EXPECTED: Metrics = Metrics {
         serve: Tally {
@@ -437,6 +437,168 @@ fn serves(rt: HostRuntime) {
         ..UNCOUNTED
     };
     assert_counts(&rt, rt.alloc(), &[SERVES, CLOSED], &EXPECTED);
+}
+
+/// No bytes are an answer as others are.
+#[test]
+fn a_serve_without_bytes(rt: HostRuntime) {
+    const CLOSED: &[(u64, Given)] = &[(30, Given::Served(0, Some(b"")))];
+    const EXPECTED: Metrics = Metrics {
+        serve_processing: 1,
+        serve: ONE,
+        serve_duration: Durations {
+            count: 1,
+            nanoseconds: 25,
+        },
+        ..UNCOUNTED
+    };
+    assert_counts(&rt, rt.alloc(), &[SERVES, CLOSED], &EXPECTED);
+}
+
+/// The verdict on a delivery that was called off, while its key is judged again: neither the key's time is counted nor
+/// a dropped key.
+#[test]
+fn a_dead_verdict_while_its_key_is_judged_again(rt: HostRuntime) {
+    const JUDGED_ANEW: &[(u64, Given)] = &[
+        (20, Given::Net(4, FIVE)),
+        (20, KEEP_NOBODY),
+        (20, Given::Fetch(1, 11)),
+        (20, Given::Drawn(0)),
+        (20, Given::Drawn(0)),
+        (20, Given::Clear),
+        (20, Given::Sent(true)),
+        (45, Given::Net(4, SIX)),
+    ];
+    const ANEW: Metrics = Metrics {
+        cancel: ONE,
+        requests_sent: Tally { success: 2, ..NONE },
+        ..UNCOUNTED
+    };
+    const ROWS: &[Row] = &[
+        (
+            &[ASKED, JUDGED_ANEW, &[(50, Given::Verdict(0, COMPLETE))]],
+            Metrics {
+                fetch: ONE,
+                resolves: TWENTY,
+                ..ANEW
+            },
+        ),
+        (
+            &[ASKED, JUDGED_ANEW, &[(50, Given::Verdict(0, IGNORED))]],
+            ANEW,
+        ),
+        (
+            &[ASKED, JUDGED_ANEW, &[(50, Given::Verdict(0, None))]],
+            ANEW,
+        ),
+    ];
+    assert_rows(&rt, rt.alloc(), ROWS);
+}
+
+/// The end calls keys off, but no retain does, and no request fails. What was counted stays.
+#[test]
+fn the_end_counts_nothing(rt: HostRuntime) {
+    const END: &[(u64, Given)] = &[(40, Given::End)];
+    const DONE: &[(u64, Given)] = &[(20, Given::Verdict(0, COMPLETE))];
+    const ROWS: &[Row] = &[
+        (&[ASKED, END], SENT),
+        (&[ASKED, JUDGED, END], SENT),
+        (&[ASKED, JUDGED, DONE, END], COMPLETED),
+        (&[WAITS, END], UNCOUNTED),
+        (&[SERVES, END], UNCOUNTED),
+    ];
+    assert_rows(&rt, rt.alloc(), ROWS);
+}
+
+/// Both peers are to wait, so that nothing is sent.
+#[test]
+fn peers_that_are_to_wait(rt: HostRuntime) {
+    const GIVEN: &[(u64, Given)] = &[
+        (0, Given::Peers(&[3, 4])),
+        (0, Given::Fetch(1, 10)),
+        (0, Given::Drawn(0)),
+        (0, Given::Drawn(0)),
+        (0, Given::Until(7)),
+        (0, Given::Drawn(0)),
+        (0, Given::Drawn(0)),
+        (0, Given::Until(9)),
+    ];
+    const EXPECTED: Metrics = Metrics {
+        fetch_pending: 1,
+        ..UNCOUNTED
+    };
+    assert_counts(&rt, rt.alloc(), &[GIVEN], &EXPECTED);
+}
+
+/// Times of more than ten seconds, each whole: of a serve, of a response and of its key.
+#[test]
+fn long_times(rt: HostRuntime) {
+    const HOUR: u64 = 3_600_000_000_000;
+    const LASTING: Durations = Durations {
+        count: 1,
+        nanoseconds: HOUR as u128,
+    };
+    const LATE: &[(u64, Given)] = &[
+        (HOUR, Given::Net(4, FIVE)),
+        (HOUR, Given::Verdict(0, COMPLETE)),
+    ];
+    const SERVED: &[(u64, Given)] = &[
+        (5, Given::Net(3, REQUEST)),
+        (HOUR + 5, Given::Served(0, Some(b"hi"))),
+    ];
+    const ROWS: &[Row] = &[
+        (
+            &[ASKED, LATE],
+            Metrics {
+                fetch: ONE,
+                resolves: LASTING,
+                fetch_duration: LASTING,
+                ..SENT
+            },
+        ),
+        (
+            &[SERVED],
+            Metrics {
+                serve: ONE,
+                serve_duration: LASTING,
+                ..UNCOUNTED
+            },
+        ),
+    ];
+    assert_rows(&rt, rt.alloc(), ROWS);
+}
+
+/// Where the clock went back, no time has passed.
+#[test]
+fn times_where_the_clock_went_back(rt: HostRuntime) {
+    const NO_TIME: Durations = Durations {
+        count: 1,
+        nanoseconds: 0,
+    };
+    const LATER: &[(u64, Given)] = &[
+        (100, Given::Peers(&[4, 4])),
+        (100, Given::Fetch(1, 10)),
+        (100, Given::Drawn(0)),
+        (100, Given::Drawn(0)),
+        (100, Given::Clear),
+        (100, Given::Drawn(5)),
+        (100, Given::Sent(true)),
+        (100, Given::Net(3, REQUEST)),
+    ];
+    const BEFORE: &[(u64, Given)] = &[
+        (60, Given::Net(4, FIVE)),
+        (50, Given::Verdict(0, COMPLETE)),
+        (50, Given::Served(0, Some(b"hi"))),
+    ];
+    const EXPECTED: Metrics = Metrics {
+        fetch: ONE,
+        resolves: NO_TIME,
+        fetch_duration: NO_TIME,
+        serve: ONE,
+        serve_duration: NO_TIME,
+        ..SENT
+    };
+    assert_counts(&rt, rt.alloc(), &[LATER, BEFORE], &EXPECTED);
 }
 
 /// Both peers are asked, and neither request is accepted to be sent.

@@ -37,7 +37,7 @@ fn open_serves(rt: &impl Abort, alloc: Global, core: &mut Plain, count: u64) -> 
 fn close_serves(rt: &impl Abort, alloc: Global, core: &mut Plain, count: u64) -> usize {
     let mut replied = 0_usize;
     for before in 0..count {
-        let dropped = Given::Served(count - 1 - before, false);
+        let dropped = Given::Served(count - 1 - before, None);
         replied = replied.saturating_add(serves(rt, alloc, core, dropped));
     }
     replied

@@ -1,9 +1,11 @@
 //! Sources that close, and parts that fail: what becomes of the engine's loop.
 
 use crate::fakes::acts::Act;
-use crate::playing::sees;
+use crate::fakes::world::Setting;
+use crate::playing::{sees, sees_in};
 use resolver::{Outcome, Resolution};
 use resolver_fakes::seen::Wrong;
+use std::num::NonZeroU32;
 
 /// There is peer 3.
 const PEERS: Act = Act::Peers(1, &[3]);
@@ -60,7 +62,38 @@ check 4
 draw 18446744073709551616
 send 4 x00000000000000000001
 -
-deliver 1 to 10 x6869
+deliver 1 to 10:110 x6869
+-
+Ok
+",
+    );
+}
+
+/// Peers are still blocked by the loop itself.
+#[test]
+fn a_peer_is_blocked_after_the_blocked_source_closed(rt: HostRuntime) {
+    const ACTS: &[Act] = &[
+        PEERS,
+        Act::CloseBlocked,
+        FETCH,
+        RESPONSE,
+        Act::Judge(Outcome::Invalid),
+    ];
+    sees(
+        rt,
+        Wrong::Nothing,
+        ACTS,
+        "-
+-
+draw 4
+draw 1
+check 3
+draw 18446744073709551616
+send 3 x00000000000000000001
+-
+deliver 1 to 10:110 x6869
+-
+block 3
 -
 Ok
 ",
@@ -127,6 +160,37 @@ Closed
     );
 }
 
+/// The response frees its peer, so the step that hands it out asks for the next key too: that request still goes out
+/// before the loop ends.
+#[test]
+fn the_consumer_answers_1_where_a_scan_goes_on(rt: HostRuntime) {
+    const ACTS: &[Act] = &[PEERS, FETCH, Act::Fetch(&[(2, 10)]), RESPONSE];
+    let setting = Setting {
+        limit: Some(NonZeroU32::MIN),
+        ..Setting::with(Wrong::Consumer)
+    };
+    sees_in(
+        rt,
+        setting,
+        ACTS,
+        "-
+draw 4
+draw 1
+check 3
+draw 18446744073709551616
+send 3 x00000000000000000001
+-
+-
+draw 4
+draw 1
+check 3
+send 3 x00000000000000010002
+OutOfMemory
+Closed
+",
+    );
+}
+
 #[test]
 fn the_producer_answers_1(rt: HostRuntime) {
     const ACTS: &[Act] = &[PEERS, REQUEST];
@@ -176,7 +240,7 @@ check 3
 draw 18446744073709551616
 send 3 x00000000000000000001
 -
-deliver 1 to 10 x6869
+deliver 1 to 10:110 x6869
 -
 -
 Ok

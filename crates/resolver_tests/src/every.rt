@@ -1,7 +1,8 @@
 //! Each input and each effect of the peer machine, once.
 
 use crate::fakes::acts::Act;
-use crate::playing::sees;
+use crate::fakes::world::Setting;
+use crate::playing::{sees, sees_in};
 use resolver::{Outcome, Resolution};
 use resolver_fakes::seen::Wrong;
 
@@ -38,7 +39,7 @@ draw 18446744073709551616
 send 3 x00000000000000000001
 -
 -
-deliver 1 to 10 x6e6f
+deliver 1 to 10:110 x6e6f
 -
 block 3
 -
@@ -54,10 +55,10 @@ draw 1
 check 4
 send 4 x00000000000000020001
 -
-deliver 1 to 10 x6869
+deliver 1 to 10:110 x6869
 -
 -
-deliver 1 to 11 x6869
+deliver 1 to 11:111 x6869
 -
 -
 wanted false
@@ -72,6 +73,94 @@ Closed
 #[test]
 fn every_input_every_effect(rt: HostRuntime) {
     sees(rt, Wrong::Nothing, EVERY, SEEN);
+}
+
+/// A peer's request is answered, and a key is asked for.
+const SENDS: &[Act] = &[
+    Act::Peers(1, &[3]),
+    Act::Net(3, b"\0\0\0\0\0\0\0\x07\0\x05"),
+    Act::Serve(b"ok"),
+    Act::Fetch(&[(1, 10)]),
+];
+
+/// An engine whose requests, or whose replies, are sent before other messages.
+fn first(requests: bool, replies: bool) -> Setting {
+    Setting {
+        priorities: (requests, replies),
+        ..Setting::with(Wrong::Nothing)
+    }
+}
+
+#[test]
+fn requests_are_sent_first(rt: HostRuntime) {
+    sees_in(
+        rt,
+        first(true, false),
+        SENDS,
+        "-
+produce 5
+-
+send 3 x000000000000000701026f6b
+-
+draw 4
+draw 1
+check 3
+draw 18446744073709551616
+send 3 x00000000000000000001 first
+-
+Ok
+",
+    );
+}
+
+#[test]
+fn replies_are_sent_first(rt: HostRuntime) {
+    sees_in(
+        rt,
+        first(false, true),
+        SENDS,
+        "-
+produce 5
+-
+send 3 x000000000000000701026f6b first
+-
+draw 4
+draw 1
+check 3
+draw 18446744073709551616
+send 3 x00000000000000000001
+-
+Ok
+",
+    );
+}
+
+/// No bytes are a response as others are; where the producer drops a request, the reply is that there is no data.
+#[test]
+fn a_serve_without_bytes_and_one_that_is_dropped(rt: HostRuntime) {
+    const ACTS: &[Act] = &[
+        Act::Peers(1, &[3]),
+        Act::Net(3, b"\0\0\0\0\0\0\0\x07\0\x05"),
+        Act::Serve(b""),
+        Act::Net(3, b"\0\0\0\0\0\0\0\x08\0\x06"),
+        Act::DropServe,
+    ];
+    sees(
+        rt,
+        Wrong::Nothing,
+        ACTS,
+        "-
+produce 5
+-
+send 3 x00000000000000070100
+-
+produce 6
+-
+send 3 x000000000000000802
+-
+Ok
+",
+    );
 }
 
 /// A subscriber joins while a response is being judged.
@@ -96,10 +185,10 @@ check 3
 draw 18446744073709551616
 send 3 x00000000000000000001
 -
-deliver 1 to 10 x6869
+deliver 1 to 10:110 x6869
 -
 -
-deliver 1 to 11 x6869
+deliver 1 to 11:111 x6869
 -
 -
 Ok

@@ -144,10 +144,8 @@ where
     R: Abort + Print + Wait + RandomSource + AllocGlobal + Copy + Drop + Send + 'static,
 {
     let setting = Setting {
-        me: 9,
-        wrong,
         seed: plan.seed,
-        limit: None,
+        ..Setting::with(wrong)
     };
     let eligible = if plan.is_targeted { 1 } else { 3 };
     let mut play = Course {

@@ -26,14 +26,14 @@ check 3
 draw 18446744073709551616
 send 3 x00000000000000000001
 -
-deliver 1 to 10 11 x6869
+deliver 1 to 10:110 11:111 x6869
 -
 draw 4
 draw 1
 check 3
 send 3 x00000000000000010001
 -
-deliver 1 to 12 x6f6b
+deliver 1 to 12:112 x6f6b
 -
 Ok
 ",
@@ -64,10 +64,10 @@ check 3
 draw 18446744073709551616
 send 3 x00000000000000000001
 -
-deliver 1 to 10 x6869
+deliver 1 to 10:110 x6869
 -
 -
-deliver 1 to 11 x6869
+deliver 1 to 11:111 x6869
 -
 -
 draw 4

@@ -6,6 +6,8 @@
 #![tactic(auto)]
 
 #[cfg(test)]
+mod ample;
+#[cfg(test)]
 mod asserting;
 #[cfg(test)]
 mod closing;
@@ -18,7 +20,11 @@ mod fakes;
 #[cfg(test)]
 mod leaving;
 #[cfg(test)]
+mod mailboxes;
+#[cfg(test)]
 mod mocks;
+#[cfg(test)]
+mod ordering;
 #[cfg(test)]
 mod pair;
 #[cfg(test)]

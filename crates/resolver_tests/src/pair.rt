@@ -16,8 +16,9 @@ use std::sync::Wait;
 
 /// A loop that is given what its twin is given.
 pub trait Side {
-    /// Takes this. Writes what its fakes are asked, whether it goes on, and what it awaits.
-    fn take(&mut self, rt: &impl Abort, text: &mut String, act: Act<'_>);
+    /// Takes these, all of which are ready before it is polled. Writes what its fakes are asked, whether it goes on,
+    /// and what it awaits.
+    fn take(&mut self, rt: &impl Abort, text: &mut String, acts: &[Act<'_>]);
 }
 
 /// A loop in its world. The loop is large, so it is boxed.
@@ -25,6 +26,8 @@ pub struct Looping<M, L> {
     task: MockTask,
     looped: Box<L>,
     world: World<M>,
+    /// The moment that it waited for when it was polled last.
+    awaited: Option<u128>,
 }
 
 impl<M: Drop, L: Drop> Looping<M, L> {
@@ -38,6 +41,7 @@ impl<M: Drop, L: Drop> Looping<M, L> {
             task: MockTask::new(rt).expect(rt, "a task"),
             looped: Box::new(alloc, looped).expect(rt, "memory"),
             world,
+            awaited: None,
         }
     }
 }
@@ -48,17 +52,23 @@ impl<M: Drop, L: Drop> Drop for Looping<M, L> {
             task: _,
             looped: _,
             world: _,
+            awaited: _,
         } = self;
     }
 }
 
 impl<M: Asks, L: Polled> Side for Looping<M, L> {
-    fn take(&mut self, rt: &impl Abort, text: &mut String, act: Act<'_>) {
-        self.world.act(act).expect(rt, "memory");
+    fn take(&mut self, rt: &impl Abort, text: &mut String, acts: &[Act<'_>]) {
+        for act in acts {
+            self.world.act(*act).expect(rt, "memory");
+        }
+        let is_woken = self.task.is_woken();
         let polled = settle(&self.task, &mut *self.looped);
-        let awaited = self.world.held.watch.awaited();
+        if is_woken {
+            self.awaited = self.world.held.watch.awaited();
+        }
         let told = &mut self.world.held.told;
-        spell_turn(rt, text, told, polled.is_pending(), awaited);
+        spell_turn(rt, text, told, polled.is_pending(), self.awaited);
     }
 }
 
@@ -104,7 +114,16 @@ impl<S: Drop, C: Drop> Drop for Pair<S, C> {
 pub trait Acts {
     /// Both take this. Fails where the loop's fakes were asked something else than the twin's, in
     /// another order, or where it waits for another moment.
-    fn act(&mut self, rt: &(impl Abort + Print), act: Act<'_>);
+    fn act(&mut self, rt: &(impl Abort + Print), act: Act<'_>) {
+        self.act_at_once(rt, &[act]);
+    }
+
+    /// The same of several, all of which are ready when the loop is polled: the twin takes them in the order in which
+    /// a loop looks.
+    fn act_at_once(&mut self, rt: &(impl Abort + Print), acts: &[Act<'_>]);
+
+    /// What the loop's fakes were asked by what was done last, whether it goes on, and what it awaits.
+    fn said(&self) -> &str;
 
     /// What carries the twin's effects out.
     fn hands(&mut self) -> &mut Hands;
@@ -160,17 +179,21 @@ fn compare(rt: &(impl Abort + Print), hands: &Hands, said: &str, expected: &str)
 }
 
 impl<S: Side, C: Steps> Acts for Pair<S, C> {
-    fn act(&mut self, rt: &(impl Abort + Print), act: Act<'_>) {
+    fn act_at_once(&mut self, rt: &(impl Abort + Print), acts: &[Act<'_>]) {
         self.said.clear();
-        self.side.take(rt, &mut self.said, act);
+        self.side.take(rt, &mut self.said, acts);
         self.expected.clear();
-        self.twin.act(rt, &mut self.expected, act);
+        self.twin.act(rt, &mut self.expected, acts);
         compare(
             rt,
             &self.twin.hands,
             self.said.as_str(),
             self.expected.as_str(),
         );
+    }
+
+    fn said(&self) -> &str {
+        self.said.as_str()
     }
 
     fn hands(&mut self) -> &mut Hands {

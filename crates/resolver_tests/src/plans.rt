@@ -200,7 +200,7 @@ send 3 x00000000000000010002
 -
 Ok, wants 1 2
 -
-deliver 1 to 10 x6869
+deliver 1 to 10:7 x6869
 -
 -
 Ok, wants 2

@@ -74,7 +74,15 @@ pub fn sees<R>(rt: R, wrong: Wrong, acts: &[Act<'_>], seen: &str)
 where
     R: Abort + Wait + RandomSource + AllocGlobal + Copy + Drop + Send + 'static,
 {
-    let made = make_loop::<Below, _>(rt, rt.alloc(), Setting::with(wrong));
+    sees_in(rt, Setting::with(wrong), acts, seen);
+}
+
+/// The same in a world that differs so.
+pub fn sees_in<R>(rt: R, setting: Setting, acts: &[Act<'_>], seen: &str)
+where
+    R: Abort + Wait + RandomSource + AllocGlobal + Copy + Drop + Send + 'static,
+{
+    let made = make_loop::<Below, _>(rt, rt.alloc(), setting);
     let (mut world, mut looped) = made.expect(&rt, "a loop");
     let text = written(&rt, &mut looped, &mut world, acts);
     drop(looped);

@@ -198,12 +198,13 @@ where
     text
 }
 
-/// Does these to an engine in a thread, with a world of its own. Gives what was written, and how the engine ended.
-fn play<R>(rt: R, steps: &[Step]) -> (String, Result<(), Fault>)
+/// Does these to an engine in a thread, with a world of its own in which this goes wrong. Gives what was written, and
+/// how the engine ended.
+fn play<R>(rt: R, wrong: Wrong, steps: &[Step]) -> (String, Result<(), Fault>)
 where
     R: Abort + Clock + Threads + Wait + RandomSource + AllocGlobal + Copy + Drop + Send + 'static,
 {
-    let made = make_world::<Below, _>(rt, rt.alloc(), Setting::with(Wrong::Nothing));
+    let made = make_world::<Below, _>(rt, rt.alloc(), Setting::with(wrong));
     let (mut world, engine, lent) = made.expect(&rt, "a world");
     let handle = start(engine, lent).expect(&rt, "a thread");
     let text = go(&rt, &mut world, steps);
@@ -212,50 +213,83 @@ where
     (text, ended)
 }
 
-/// That this was written, and what ran in a thread has ended well.
-fn assert_ran(rt: &impl Abort, text: &str, ended: Result<(), Fault>, expected: &str) {
-    assert_same(rt, &ended, &Ok(()));
-    assert_same(rt, text, expected);
+/// That this is written where these are done to an engine in a thread, and it ends so.
+fn runs<R>(rt: R, wrong: Wrong, steps: &[Step], ended: Result<(), Fault>, expected: &str)
+where
+    R: Abort + Clock + Threads + Wait + RandomSource + AllocGlobal + Copy + Drop + Send + 'static,
+{
+    let (text, found) = play(rt, wrong, steps);
+    assert_same(&rt, &found, &ended);
+    assert_same(&rt, text.as_str(), expected);
+    drop(text);
 }
 
 #[test]
 fn an_engine_in_a_thread_fetches_and_serves(rt: HostRuntime) {
-    let (text, ended) = play(rt, EXCHANGE);
-    assert_ran(
-        &rt,
-        text.as_str(),
-        ended,
+    runs(
+        rt,
+        Wrong::Nothing,
+        EXCHANGE,
+        Ok(()),
         "draw 4
 draw 1
 check 4
 draw 18446744073709551616
 send 4 x00000000000000000001
-deliver 1 to 10 x6869
+deliver 1 to 10:110 x6869
 produce 5
 send 3 x000000000000000701026f6b
 ",
     );
-    drop(text);
 }
 
 /// A serve that is held back holds no fetch back.
 #[test]
 fn serve_waits_for_fetch(rt: HostRuntime) {
-    let (text, ended) = play(rt, HOLD_BACK);
-    assert_ran(
-        &rt,
-        text.as_str(),
-        ended,
+    runs(
+        rt,
+        Wrong::Nothing,
+        HOLD_BACK,
+        Ok(()),
         "produce 5
 draw 4
 draw 1
 check 3
 draw 18446744073709551616
 send 3 x00000000000000000001
-deliver 1 to 10 x6869
+deliver 1 to 10:110 x6869
 owed true
 send 3 x000000000000000701026f6b
 ",
     );
-    drop(text);
+}
+
+/// Its thread ends by itself.
+#[test]
+fn an_engine_in_a_thread_whose_consumer_wants_memory(rt: HostRuntime) {
+    const STEPS: &[Step] = &[
+        Step::Act(Act::Peers(1, &[3])),
+        Step::Act(Act::Fetch(&[(1, 10)])),
+        Step::Wait(5),
+        Step::Act(Act::Net(3, b"\0\0\0\0\0\0\0\0\x01\x02hi")),
+    ];
+    runs(
+        rt,
+        Wrong::Consumer,
+        STEPS,
+        Err(Fault::OutOfMemory),
+        "draw 4
+draw 1
+check 3
+draw 18446744073709551616
+send 3 x00000000000000000001
+",
+    );
+}
+
+/// Its thread ends by itself.
+#[test]
+fn an_engine_in_a_thread_whose_producer_wants_memory(rt: HostRuntime) {
+    const STEPS: &[Step] = &[Step::Act(Act::Net(3, b"\0\0\0\0\0\0\0\x07\0\x05"))];
+    runs(rt, Wrong::Producer, STEPS, Err(Fault::OutOfMemory), "");
 }

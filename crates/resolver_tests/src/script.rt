@@ -64,9 +64,8 @@ fn write_fetch(rt: &impl Abort, lines: &mut String, items: &[FetchKey<Key, Peer,
     }
 }
 
-/// Peers, joined by commas; a dash where there is none.
-fn write_peers(rt: &impl Abort, lines: &mut String, index: u64, peers: &[Peer]) {
-    write!(lines, "peers {index} ").expect(rt, "memory");
+/// The rest of a line that lists peers: joined by commas; a dash where there is none.
+fn write_peers(rt: &impl Abort, lines: &mut String, peers: &[Peer]) {
     let mut comma = "";
     for peer in peers {
         write!(lines, "{comma}{}", peer.0).expect(rt, "memory");
@@ -79,7 +78,14 @@ fn write_peers(rt: &impl Abort, lines: &mut String, index: u64, peers: &[Peer]) 
 pub fn write_event(rt: &impl Abort, lines: &mut String, event: &Happened) {
     match event {
         Event::Fetch(items) => write_fetch(rt, lines, items.as_slice()),
-        Event::PeerSet { index, peers } => write_peers(rt, lines, *index, peers.as_slice()),
+        Event::PeerSet { index, peers } => {
+            write!(lines, "peers {index} ").expect(rt, "memory");
+            write_peers(rt, lines, peers.as_slice());
+        }
+        Event::Blocked(peers) => {
+            put(rt, lines, "blocked ");
+            write_peers(rt, lines, peers.as_slice());
+        }
         Event::ActiveDue => put(rt, lines, "timeout\n"),
         Event::PendingDue => put(rt, lines, "wake\n"),
         Event::Verdict { number, outcome } => {
@@ -92,9 +98,10 @@ pub fn write_event(rt: &impl Abort, lines: &mut String, event: &Happened) {
         Event::Net { peer, bytes } => {
             write_said(rt, lines, "net", u64::from(peer.0), Hex(bytes.as_slice()));
         }
-        Event::Blocked(_) | Event::Retain(_) | Event::End => {
-            put(rt, lines, "# an event that no test of these gives\n");
+        Event::Retain(below) => {
+            writeln!(lines, "# subscribers below {} are kept", below.0).expect(rt, "memory");
         }
+        Event::End => put(rt, lines, "stop\n"),
     }
 }
 
@@ -126,7 +133,7 @@ const ACTS: &[Act] = &[
 /// What the core takes: zeros are drawn, and of the four sends the last is refused.
 const LINES: &str = "p2p 9 50 10
 peers 1 2,9
-fetch 5 10 7
+fetch 5 10 510
 drawn 0
 drawn 0
 checked clear
@@ -137,7 +144,7 @@ net 2 x000000000000000001026869
 verdict 0 complete
 net 2 x00000000000000070005
 served 0 x6f6b
-fetch 6 11 7
+fetch 6 11 611
 drawn 0
 drawn 0
 checked clear

@@ -146,6 +146,49 @@ pub fn awaited(deadlines: Deadlines) -> Option<u128> {
     }
 }
 
+/// Where a loop looks for an input, from the first place to the last. The moment is what the loop's clock says.
+#[derive(Clone, Copy, PartialEq, Eq, PartialOrd, Ord)]
+enum Place {
+    Moment,
+    Peers,
+    Blocked,
+    /// A request's time is over.
+    Active,
+    Verdicts,
+    Mailbox,
+    /// A key is due.
+    Pending,
+    Serves,
+    Network,
+}
+
+const PLACES: &[Place] = &[
+    Place::Moment,
+    Place::Peers,
+    Place::Blocked,
+    Place::Verdicts,
+    Place::Mailbox,
+    Place::Serves,
+    Place::Network,
+];
+
+/// Where a loop finds what this makes ready.
+fn place_of(act: Act<'_>) -> Place {
+    match act {
+        Act::At(_) => Place::Moment,
+        Act::Peers(..) | Act::ClosePeers => Place::Peers,
+        Act::Block(_) | Act::CloseBlocked => Place::Blocked,
+        Act::Judge(_) | Act::Drop | Act::IsWanted => Place::Verdicts,
+        Act::Fetch(_)
+        | Act::LastFetch(_)
+        | Act::FetchFrom(_)
+        | Act::Retain(_)
+        | Act::CloseMailbox => Place::Mailbox,
+        Act::Serve(_) | Act::DropServe => Place::Serves,
+        Act::Net(..) | Act::CloseNetwork => Place::Network,
+    }
+}
+
 /// An engine's core, as calls that promise nothing.
 pub trait Steps {
     fn take(&mut self, rt: &impl Abort, input: Input<Key, Peer, u16, Below>) -> Vec<Done>;
@@ -183,9 +226,9 @@ pub fn make_core(alloc: Global, setting: Setting) -> Plain {
         fetch_timeout: 50,
         retry_delay: 10,
         peer_limit: setting.limit,
-        priority_requests: false,
+        priority_requests: setting.priorities.0,
     };
-    Core::new(alloc, configuration, false)
+    Core::new(alloc, configuration, setting.priorities.1)
 }
 
 fn make_fakes(rt: &impl Abort, alloc: Global, setting: Setting) -> Fakes {
@@ -296,6 +339,8 @@ fn event_of(rt: &impl Abort, alloc: Global, act: Act<'_>) -> Option<Happened> {
             index,
             peers: peers(alloc, numbers).expect(rt, "memory"),
         },
+        Act::Block(numbers) => Event::Blocked(peers(alloc, numbers).expect(rt, "memory")),
+        Act::Retain(below) => Event::Retain(Below(below)),
         Act::Fetch(wants) => Event::Fetch(wanted(rt, alloc, wants)),
         Act::FetchFrom(wants) => Event::Fetch(wanted_from(rt, alloc, wants)),
         Act::Net(peer, bytes) => Event::Net {
@@ -564,28 +609,6 @@ impl<C: Steps> Twin<C> {
         self.judge_limit(rt);
     }
 
-    /// What is due.
-    fn due(&self) -> Option<Happened> {
-        let (active, pending) = self.core.deadlines();
-        if is_due(active, self.now) {
-            return Some(Event::ActiveDue);
-        }
-        if is_due(pending, self.now) {
-            return Some(Event::PendingDue);
-        }
-        None
-    }
-
-    fn settle(&mut self, rt: &(impl Abort + Print)) {
-        for _ in 0..DUE {
-            let Some(event) = self.due() else {
-                return;
-            };
-            self.take(rt, event);
-        }
-        self.hands.fail(rt, "there is always something due");
-    }
-
     /// The consumer says this of the first delivery that has no verdict, if there is one.
     fn judge(&mut self, rt: &(impl Abort + Print), outcome: Outcome) {
         if let Some(number) = self.hands.deliveries.pop_front() {
@@ -619,10 +642,46 @@ impl<C: Steps> Twin<C> {
         }
     }
 
-    /// Takes this, and what is due then. Writes what its fakes are asked and what it awaits.
-    pub fn act(&mut self, rt: &(impl Abort + Print), text: &mut String, act: Act<'_>) {
-        self.take_act(rt, act);
-        self.settle(rt);
+    /// What a loop looks for before it looks there is due.
+    fn due_before(&self, place: Place) -> Option<Happened> {
+        let (active, pending) = self.core.deadlines();
+        if place > Place::Active && is_due(active, self.now) {
+            return Some(Event::ActiveDue);
+        }
+        if place > Place::Pending && is_due(pending, self.now) {
+            return Some(Event::PendingDue);
+        }
+        None
+    }
+
+    /// Takes what is due before a loop looks there.
+    fn take_due_before(&mut self, rt: &(impl Abort + Print), place: Place) {
+        for _ in 0..DUE {
+            let Some(event) = self.due_before(place) else {
+                return;
+            };
+            self.take(rt, event);
+        }
+        self.hands.fail(rt, "there is always something due");
+    }
+
+    /// Takes those of these that a loop looks for there.
+    fn take_at(&mut self, rt: &(impl Abort + Print), place: Place, acts: &[Act<'_>]) {
+        for act in acts {
+            if place_of(*act) == place {
+                self.take_due_before(rt, place);
+                self.take_act(rt, *act);
+            }
+        }
+    }
+
+    /// Takes these in the order in which a loop looks for what is ready, and what is due. Writes what its fakes are
+    /// asked and what it awaits.
+    pub fn act(&mut self, rt: &(impl Abort + Print), text: &mut String, acts: &[Act<'_>]) {
+        for place in PLACES {
+            self.take_at(rt, *place, acts);
+        }
+        self.take_due_before(rt, Place::Network);
         let awaited = awaited(self.core.deadlines());
         spell_turn(rt, text, &mut self.hands.fakes.seen, true, awaited);
     }

@@ -244,9 +244,9 @@ fn go_all<P: Acts>(rt: &(impl Abort + Print), one: &mut P, two: &mut P, course: 
 fn setting(me: u8, seed: u64, limit: Option<NonZeroU32>) -> Setting {
     Setting {
         me,
-        wrong: Wrong::Sevenths,
         seed: Some(seed),
         limit,
+        ..Setting::with(Wrong::Sevenths)
     }
 }
 

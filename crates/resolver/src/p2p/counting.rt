@@ -6,7 +6,7 @@
 ghost use Rattle.std.specs.Prelude.{◌≡◌, ℕ, length};
 ghost use Rattle.resolver_peer.specs.Parties.{parties};
 ghost use Rattle.resolver_peer.specs.Peer.{Machine};
-ghost use Rattle.resolver.specs.Counted.{answered, called_off, measured_if, sent, tallied};
+ghost use Rattle.resolver.specs.Counted.{NotesAnswer, answered, called_off, is_answer, measured_if, sent, tallied};
 ghost use Rattle.resolver_parts.specs.EngineSteps.{Taken};
 ghost use Rattle.resolver_parts.specs.Going.{IsTied};
 ghost use Rattle.resolver_parts.specs.Said.{codec, fed_of};
@@ -135,14 +135,23 @@ fn note_served<K: Ord + Drop, P: Ord + Drop, S: Ord + Drop>(
     now: u128,
     serve: u64,
     value: &Option<Bytes>,
-) -> Noted {
+) -> Noted
+    ensures { NotesAnswer (is_answer value.now) result }
+{
     let Some(open) = parts.serves.get(&serve) else {
         return Noted::Nothing;
     };
     Noted::Served {
-        is_answered: value.is_some(),
+        is_answered: is_answer(value),
         elapsed: open.elapsed_until(now),
     }
+}
+
+/// Whether this answer of the producer is a response: more bytes than a message can carry are told to the peer as none.
+fn is_answer(value: &Option<Bytes>) -> bool
+    ensures { result ≡ is_answer value.now }
+{
+    matches!(value, Some(bytes) if bytes.len() <= u32::MAX as usize)
 }
 
 /// Counts what came of a step that told these effects.
@@ -279,7 +288,7 @@ fn count_retain(metrics: &mut Metrics, ended: u64)
     }
 }
 
-/// Counts a peer's request that the producer had bytes for, after this time, or dropped.
+/// Counts a peer's request that was answered by a response, after this time, or by word that there is none.
 fn count_serve(metrics: &mut Metrics, is_answered: bool, elapsed: u128)
     ensures { metrics.new ≡ record metrics.old {
       serve = answered is_answered metrics.old.serve;

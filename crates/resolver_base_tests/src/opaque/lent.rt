@@ -9,7 +9,7 @@ use resolver_base::base::Feedback;
 use resolver_fakes::lent::{Judge, make_judge};
 use resolver_fakes::names::{Below, Peer, wanted};
 use resolver_fakes::polling::Polled;
-use resolver_fakes::seen::{Seen, Wrong, spell_said};
+use resolver_fakes::seen::{Seen, Told, Wrong, tell};
 use resolver_fakes::watch::{Standing, Telling, Watch};
 use resolver_loop::{Ending, Resolver};
 use resolver_mailbox::mailbox::Unrecorded;
@@ -50,12 +50,17 @@ impl Future for Look {
 /// A source that hands each look to its test.
 pub struct Source {
     alloc: Global,
-    looks: mpsc::UnboundedSender<(Key, oneshot::Sender<Option<Bytes>>)>,
+    told: Told,
+    looks: mpsc::UnboundedSender<Looked>,
 }
 
 impl Drop for Source {
     fn drop(self) {
-        let Self { alloc: _, looks: _ } = self;
+        let Self {
+            alloc: _,
+            told: _,
+            looks: _,
+        } = self;
     }
 }
 
@@ -70,7 +75,8 @@ impl Fetcher for Source {
         let Ok((sender, receiver)) = oneshot::channel(self.alloc) else {
             return Look { value: None };
         };
-        drop(self.looks.unbounded_send((key, sender)));
+        tell(&self.told, Seen::Looked(key));
+        drop(self.looks.unbounded_send(sender));
         Look {
             value: Some(receiver),
         }
@@ -111,7 +117,7 @@ pub type Looked = oneshot::Sender<Option<Bytes>>;
 
 /// What a test holds of what an actor is lent.
 pub struct Held {
-    pub looks: mpsc::UnboundedReceiver<(Key, Looked)>,
+    pub looks: mpsc::UnboundedReceiver<Looked>,
     pub verdicts: mpsc::UnboundedReceiver<oneshot::Sender<Outcome>>,
     pub told: mpsc::UnboundedReceiver<Seen>,
     pub moments: mpsc::UnboundedReceiver<u128>,
@@ -168,10 +174,15 @@ fn make_clock(
 }
 
 /// A source, and where it hands each look to its test.
-fn make_source(rt: &impl Abort, alloc: Global) -> (mpsc::UnboundedReceiver<(Key, Looked)>, Source) {
+fn make_source(
+    rt: &impl Abort,
+    alloc: Global,
+    told: &Told,
+) -> (mpsc::UnboundedReceiver<Looked>, Source) {
     let (sender, looks) = mpsc::unbounded(alloc).expect(rt, "memory");
     let source = Source {
         alloc,
+        told: told.clone().expect(rt, "memory"),
         looks: sender,
     };
     (looks, source)
@@ -180,8 +191,8 @@ fn make_source(rt: &impl Abort, alloc: Global) -> (mpsc::UnboundedReceiver<(Key,
 /// What an actor is lent, and the ends of it that its test holds.
 pub fn lend(rt: &impl Abort, alloc: Global, wrong: Wrong) -> (Held, Lent) {
     let (moments, watch, clock) = make_clock(rt, alloc);
-    let (looks, source) = make_source(rt, alloc);
     let (teller, told) = mpsc::unbounded(alloc).expect(rt, "memory");
+    let (looks, source) = make_source(rt, alloc, &teller);
     let (verdicts, consumer) = make_judge(alloc, &teller, wrong).expect(rt, "memory");
     drop(teller);
     let held = Held {
@@ -201,8 +212,8 @@ pub fn lend(rt: &impl Abort, alloc: Global, wrong: Wrong) -> (Held, Lent) {
 
 /// A handle of an actor's mailbox, as a test asks by it.
 pub trait Asking {
-    /// The subscriber wants key 1.
-    fn want(&mut self, rt: &impl Abort, subscriber: u16) -> Feedback;
+    /// The subscriber wants this key.
+    fn want(&mut self, rt: &impl Abort, key: u8, subscriber: u16) -> Feedback;
 
     /// The subscribers from this one on are let go.
     fn let_go_from(&mut self, rt: &impl Abort, subscriber: u16);
@@ -211,8 +222,8 @@ pub trait Asking {
 }
 
 impl<R: Wait + Copy + Send + 'static> Asking for Asked<R> {
-    fn want(&mut self, rt: &impl Abort, subscriber: u16) -> Feedback {
-        self.fetch(wanted(1, subscriber)).expect(rt, "memory")
+    fn want(&mut self, rt: &impl Abort, key: u8, subscriber: u16) -> Feedback {
+        self.fetch(wanted(key, subscriber)).expect(rt, "memory")
     }
 
     fn let_go_from(&mut self, rt: &impl Abort, subscriber: u16) {
@@ -234,18 +245,9 @@ pub fn answer_look(look: Looked, value: Option<&'static [u8]>) {
 }
 
 impl Held {
-    /// The look that has begun, which is written.
-    pub fn look(&mut self, rt: &impl Abort, text: &mut String) -> Option<Looked> {
-        let Ok((key, look)) = self.looks.try_recv() else {
-            return None;
-        };
-        spell_said(text, "look", key.0).expect(rt, "memory");
-        Some(look)
-    }
-
-    /// Answers the look that has begun.
-    pub fn answer(&mut self, rt: &impl Abort, text: &mut String, value: Option<&'static [u8]>) {
-        if let Some(look) = self.look(rt, text) {
+    /// Answers the first look that has no answer.
+    pub fn answer(&mut self, value: Option<&'static [u8]>) {
+        if let Ok(look) = self.looks.try_recv() {
             answer_look(look, value);
         }
     }

@@ -4,9 +4,8 @@ use crate::asserts::{equal, equal_texts};
 use crate::opaque::lent::{Asking, Held, Lent, Looked, answer_look, lend};
 use futures::channel::mpsc;
 use resolver_base::base::Fault;
-use resolver_fakes::seen::{Wrong, spell_said};
+use resolver_fakes::seen::{Seen, Wrong, spell_said};
 use resolver_fakes::waiting::next;
-use resolver_mailbox::mocks::Key;
 use resolver_opaque::init;
 use std::alloc::AllocGlobal;
 use std::fmt::Write;
@@ -18,18 +17,23 @@ use std::sync::Wait;
 use std::thread::Threads;
 
 /// The next look is answered so.
-fn answer<R>(
-    rt: &R,
-    text: &mut String,
-    looks: &mut mpsc::UnboundedReceiver<(Key, Looked)>,
-    value: Option<&'static [u8]>,
-)
+fn answer<R>(rt: &R, looks: &mut mpsc::UnboundedReceiver<Looked>, value: Option<&'static [u8]>)
 where
     R: Abort + Wait + RandomSource + AllocGlobal,
 {
-    if let Some((key, look)) = next(rt, looks).expect(rt, "a wait") {
-        spell_said(text, "look", key.0).expect(rt, "memory");
+    if let Some(look) = next(rt, looks).expect(rt, "a wait") {
         answer_look(look, value);
+    }
+}
+
+/// Writes what is asked next.
+fn wait<R>(rt: &R, text: &mut String, told: &mut mpsc::UnboundedReceiver<Seen>)
+where
+    R: Abort + Wait + RandomSource + AllocGlobal,
+{
+    if let Some(seen) = next(rt, told).expect(rt, "a wait") {
+        writeln!(text, "{seen}").expect(rt, "memory");
+        drop(seen);
     }
 }
 
@@ -40,27 +44,26 @@ where
     R: Abort + Wait + RandomSource + AllocGlobal,
 {
     let mut text = String::new(rt.alloc());
-    answer(rt, &mut text, &mut held.looks, None);
+    wait(rt, &mut text, &mut held.told);
+    answer(rt, &mut held.looks, None);
     if let Some(moment) = next(rt, &mut held.moments).expect(rt, "a wait") {
         spell_said(&mut text, "wait", moment).expect(rt, "memory");
     }
     held.watch.put(100);
-    answer(rt, &mut text, &mut held.looks, Some(b"hi"));
-    if let Some(seen) = next(rt, &mut held.told).expect(rt, "a wait") {
-        writeln!(text, "{seen}").expect(rt, "memory");
-        drop(seen);
-    }
+    wait(rt, &mut text, &mut held.told);
+    answer(rt, &mut held.looks, Some(b"hi"));
+    wait(rt, &mut text, &mut held.told);
     text
 }
 
-/// What an actor in a thread does so, with a delay of 100, that is asked for key 1. Gives what was written, and how the
-/// actor ended.
-fn retry_in_thread<R>(rt: R) -> (String, Result<(), Fault>)
+/// What an actor in a thread does so, with a delay of 100, that is asked for key 1 and lent what goes wrong so. Gives
+/// what was written, and how the actor ended.
+fn retry_in_thread<R>(rt: R, wrong: Wrong) -> (String, Result<(), Fault>)
 where
     R: Abort + Threads + Wait + RandomSource + AllocGlobal + Copy + Drop + Send + 'static,
 {
     let alloc = rt.alloc();
-    let (mut held, lent) = lend(&rt, alloc, Wrong::Nothing);
+    let (mut held, lent) = lend(&rt, alloc, wrong);
     let Lent {
         clock,
         source,
@@ -68,7 +71,7 @@ where
     } = lent;
     let begun = init(rt, alloc, clock, source, consumer, NonZeroUsize::MIN, 100);
     let (mut resolver, handle) = begun.expect(&rt, "an actor");
-    drop(resolver.want(&rt, 10));
+    drop(resolver.want(&rt, 1, 10));
     let text = retry(&rt, &mut held);
     resolver.end();
     let ended = handle.join(&rt);
@@ -77,18 +80,33 @@ where
     (text, ended)
 }
 
+/// That this is written there, and the actor ends so.
+fn runs<R>(rt: R, wrong: Wrong, ended: Result<(), Fault>, seen: &str)
+where
+    R: Abort + Threads + Wait + RandomSource + AllocGlobal + Copy + Drop + Send + 'static,
+{
+    let (text, found) = retry_in_thread(rt, wrong);
+    equal(&rt, &found, &ended);
+    equal_texts(&rt, text.as_str(), seen);
+    drop(text);
+}
+
 #[test]
 fn an_actor_in_a_thread_asks_again_after_the_delay(rt: HostRuntime) {
-    let (text, ended) = retry_in_thread(rt);
-    equal(&rt, &ended, &Ok(()));
-    equal_texts(
-        &rt,
-        text.as_str(),
-        "look 1
+    let seen = "look 1
 wait 100
 look 1
-deliver 1 to 10 x6869
-",
-    );
-    drop(text);
+deliver 1 to 10:110 x6869
+";
+    runs(rt, Wrong::Nothing, Ok(()), seen);
+}
+
+/// Its thread ends by itself.
+#[test]
+fn an_actor_in_a_thread_whose_consumer_wants_memory(rt: HostRuntime) {
+    let seen = "look 1
+wait 100
+look 1
+";
+    runs(rt, Wrong::Consumer, Err(Fault::OutOfMemory), seen);
 }

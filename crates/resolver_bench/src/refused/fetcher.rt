@@ -1,10 +1,10 @@
 //! Keys that wait and are asked of peers.
 
-use crate::name::Name;
 use crate::refused::part::{Fresh, Notes, Part, Way};
 use crate::workload::Peer;
 use bytes::Bytes;
 use resolver_base::base::{Check, Draws, Fault, Feedback, Sender, Unreliable};
+use resolver_fakes::wide::Name;
 use resolver_fetch::fetcher::{Config, Fetcher};
 use std::alloc::Global;
 use std::num::NonZeroU32;

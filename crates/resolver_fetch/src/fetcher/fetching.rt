@@ -124,8 +124,9 @@ impl<K: Span + Drop, P: PublicKey + Drop> Fetcher<K, P> {
     }
 }
 
-/// What draws or a sender say to what a scan asks. Where memory is wanting, they were not asked.
-fn answer_to<K: Span + Drop, S: Sender, D: Draws>(
+/// What draws or a sender say to what a scan asks, which never asks for a number below 0. Where memory is wanting,
+/// they were not asked.
+pub fn answer_to<K: Span + Drop, S: Sender, D: Draws>(
     alloc: Global,
     sender: &mut S,
     draws: &mut D,

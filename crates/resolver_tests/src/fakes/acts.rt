@@ -37,6 +37,8 @@ pub enum Act<'a> {
     IsWanted,
     /// The producer has these bytes for the first request that it hasn't answered.
     Serve(&'a [u8]),
+    /// The producer drops the first request that it hasn't answered.
+    DropServe,
     /// It is this moment.
     At(u64),
     ClosePeers,
@@ -137,6 +139,7 @@ impl Held {
             Act::Block(numbers) => return self.block(numbers),
             Act::Net(peer, bytes) => return self.receive(peer, bytes),
             Act::Serve(bytes) => return self.serve(bytes),
+            Act::DropServe => drop(self.serves.try_recv()),
             Act::Judge(outcome) => self.judge(outcome),
             Act::Drop | Act::IsWanted => {
                 self.is_wanted();

@@ -32,16 +32,23 @@ pub struct Setting {
     pub seed: Option<u64>,
     /// How many requests one peer may have, if that is limited.
     pub limit: Option<NonZeroU32>,
+    /// How many messages its mailbox has room for.
+    pub mailbox_size: NonZeroUsize,
+    /// Whether its requests, and whether its replies, are sent before other messages.
+    pub priorities: (bool, bool),
 }
 
 impl Setting {
-    /// An engine that is called 9, draws 0, and asks a peer for any number of keys at once.
+    /// An engine that is called 9, draws 0, asks a peer for any number of keys at once, has a mailbox with room for one
+    /// message, and sends nothing before other messages.
     pub fn with(wrong: Wrong) -> Setting {
         Setting {
             me: 9,
             wrong,
             seed: None,
             limit: None,
+            mailbox_size: NonZeroUsize::MIN,
+            priorities: (false, false),
         }
     }
 
@@ -327,13 +334,13 @@ pub fn make_world<Q: Predicate<Key, u16> + Faithful + Drop, R: Copy>(
                 blocker: parts.blocker,
                 consumer: parts.consumer,
                 producer: parts.producer,
-                mailbox_size: NonZeroUsize::MIN,
+                mailbox_size: setting.mailbox_size,
                 me: Some(Peer(setting.me)),
                 fetch_timeout: 50,
                 fetch_retry_delay: 10,
                 peer_limit: setting.limit,
-                priority_requests: false,
-                priority_responses: false,
+                priority_requests: setting.priorities.0,
+                priority_responses: setting.priorities.1,
             };
             match Engine::new(rt, alloc, cfg) {
                 Ok((engine, mailbox)) => Ok((World { mailbox, held }, engine, lent)),

@@ -1,6 +1,6 @@
 -- A key's four bytes.
 use Rattle.std.specs.Prelude.{◌≡◌, ℕ, List, [], ◌∷◌, Option, None, Some}
-use Rattle.resolver_bench.specs.declared.name.Name.{Name}
+use Rattle.resolver_fakes.specs.declared.wide.Name.{Name}
 
 abbrev pub bytes_of : Name → List ℕ
 bytes_of name = name.first ∷ name.second ∷ name.third ∷ name.fourth ∷ []

@@ -1,12 +1,11 @@
-//! Keys of four bytes.
+//! Keys of four bytes, for tests of many.
 
 ghost use Rattle.std.specs.Prelude.{refl};
 ghost use Rattle.std.proofs.Common.{rules};
-ghost use Rattle.resolver_bench.specs.Names.{bytes_of, read_from, own_bytes};
+ghost use Rattle.resolver_fakes.specs.Names.{bytes_of, read_from, own_bytes};
 
-use crate::workload::scattered;
 use bytes::BytesMut;
-use resolver_base::base::Span;
+use resolver_base::base::{Faithful, Span};
 use std::alloc::AllocError;
 
 /// A key of four bytes.
@@ -19,17 +18,6 @@ pub struct Name {
 }
 
 impl Name {
-    /// Keys that don't come in their order, each once.
-    pub fn scattered(i: u64) -> Name {
-        let [_, _, _, _, first, second, third, fourth] = scattered(i).to_be_bytes();
-        Name {
-            first,
-            second,
-            third,
-            fourth,
-        }
-    }
-
     /// The key whose bytes are this number's. Keys are ordered as their numbers are.
     pub fn numbered(number: u32) -> Name {
         let [first, second, third, fourth] = number.to_be_bytes();
@@ -74,4 +62,8 @@ impl Span for Name {
     ghost read_again = { λ name. Prim.search rules };
 
     ghost own_bytes = { own_bytes };
+}
+
+impl Faithful for Name {
+    ghost clones = { Prim.search rules };
 }
