@@ -1,8 +1,12 @@
 -- How many requests a peer has, where one is put, taken out or let go.
-use Rattle.std.proofs.Common.{◌≡◌, refl, ap, sym, ◌∙◌, ℕ, ◌+◌, ◌-◌, ◌≤◌, Bool, true, false, cond, List, [], ◌∷◌, length, filter, Option, None, Some, is_some, if◌then◌else◌, arith}
+use Rattle.std.proofs.Common.{◌≡◌, refl, ap, sym, ◌∙◌, ℕ, ◌+◌, ◌-◌, ◌≤◌, Bool, true, false, cond, List, [], ◌∷◌, length, filter, Option, None, Some, is_some, if◌then◌else◌, inl, inr, arith}
 use Rattle.std.specs.Cmp.{IsTotalOrder}
-use Rattle.std.specs.Prelude.{IsSome, option_map, unwrap_or}
-use Rattle.std.specs.Map.{lookup, set_value}
+use Rattle.std.specs.Prelude.{IsSome, nat_lt, option_map, unwrap_or}
+use Rattle.std.specs.List.Sorted.{IsStrictlySortedBy}
+use Rattle.std.proofs.lemmas.Bool.{cases_lt, le-ltb, lt-ltb}
+use Rattle.std.proofs.lemmas.Map.Keys.{IsDistinct-from_sorted}
+use Rattle.std.proofs.lemmas.Map.Entries.{lookup-filter-values, option_filter}
+use Rattle.std.specs.Map.{keys_of, lookup, set_value}
 use Rattle.std.proofs.lemmas.Cmp.{eq_by_cmp_equiv}
 use Rattle.std.proofs.lemmas.Map.{lookup-set_value}
 use Rattle.std.specs.BTreeMap.{insert_entry, is_at}
@@ -112,3 +116,20 @@ module _ {P : Type 0} {R : P → P → Ordering} (total : IsTotalOrder R) (peer 
   pub loads-fewer : (limit : ℕ) → unwrap_or count 0 ≡ counted R old peer - 1
       → loaded R (record { limit = limit; counts = new }) ≡ one_fewer R peer (loaded R (record { limit = limit; counts = old }))
   loads-fewer limit is = λ i. record { limit = limit; requests = λ p. counts-then (λ n. n - 1) is p i }
+
+-- who has none may be forgotten
+module _ {P : Type 0} {R : P → P → Ordering} (total : IsTotalOrder R) where
+  none-or-some : (count : Option ℕ) → unwrap_or (option_filter (λ n. nat_lt 0 n) count) 0 ≡ unwrap_or count 0
+  none-or-some None = refl
+  none-or-some (Some n) = elim (cases_lt 0 n) [
+    | inl some ↦ rw (lt-ltb 0 n some) refl
+    | inr none ↦ rw (le-ltb 0 n none) (omega (arith, none))
+  ]
+
+  pub loads-tidied : (limit : ℕ) (counts : List (P × ℕ)) → IsStrictlySortedBy R (keys_of counts)
+      → loaded R (record { limit = limit; counts = filter (λ e. nat_lt 0 e.1) counts }) ≡ loaded R (record { limit = limit; counts = counts })
+  loads-tidied limit counts sorted = λ i. record { limit = limit; requests = λ p. same p i } where
+    same : (p : P) → counted R (filter (λ e. nat_lt 0 e.1) counts) p ≡ counted R counts p
+    same p =
+        ap (λ (o : Option ℕ). unwrap_or o 0) (lookup-filter-values (eq_by_cmp_equiv total) (λ n. nat_lt 0 n) p counts (IsDistinct-from_sorted R (keys_of counts) sorted))
+        ∙ none-or-some (lookup (is_at (R p)) counts)

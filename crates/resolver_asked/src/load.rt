@@ -69,9 +69,13 @@ impl<P: Ord + Drop> Load<P> {
         ensures err { OnErr result (self.new ≡ self.old) }
         ensures only { IfErr result (λ fault. fault ≡ OutOfMemory) }
     {
-        let count = self.count(&peer);
-        self.counts.insert(peer, count + 1)?;
-        Ok(count + 1 == u64::from(self.limit.get()))
+        let limit = u64::from(self.limit.get());
+        if let Some(count) = self.counts.get_mut(&peer) {
+            *count += 1;
+            return Ok(*count == limit);
+        }
+        self.counts.insert(peer, 1)?;
+        Ok(limit == 1)
     }
 
     /// A peer has one fewer, if it has one. Says whether it was full before and is not now.
@@ -79,24 +83,19 @@ impl<P: Ord + Drop> Load<P> {
         ensures fewer { loaded P.cmp self.new ≡ one_fewer P.cmp peer.now (loaded P.cmp self.old) }
         ensures frees { result ≡ frees P.cmp peer.now (Some self.old) }
     {
-        let count = self.count(peer);
-        self.lower(peer, count);
-        count == u64::from(self.limit.get())
+        let Some(count) = self.counts.get_mut(peer) else {
+            return false;
+        };
+        let before = *count;
+        *count = before.saturating_sub(1);
+        before == u64::from(self.limit.get())
     }
 
-    /// A peer that has this many has one fewer.
-    fn lower(&mut self, peer: &P, count: u64)
-        requires has { count ≡ counted P.cmp self.old.counts peer.now }
-        ensures fewer { loaded P.cmp self.new ≡ one_fewer P.cmp peer.now (loaded P.cmp self.old) }
-        ensures limit { self.new.limit ≡ self.old.limit }
+    /// Forgets the peers that have none.
+    pub fn tidy(&mut self)
+        ensures { loaded P.cmp self.new ≡ loaded P.cmp self.old }
     {
-        if count > 1 {
-            if let Some(place) = self.counts.get_mut(peer) {
-                *place = count - 1;
-            }
-        } else {
-            self.counts.remove(peer);
-        }
+        self.counts.retain(|_, count| *count > 0);
     }
 
     /// How many a peer has.

@@ -18,9 +18,10 @@ use Rattle.resolver_asked.specs.Loads.{Counts, is_full, loaded}
 use Rattle.resolver_asked.proofs.Names.{lookup-same}
 use Rattle.resolver_trying.specs.Known.{Company, Known, eligible, is_local, known_by, may_be_asked, sampling_weight, weight_in}
 use Rattle.resolver_trying.specs.Orders.{is_one_of}
-use Rattle.resolver_trying.specs.Pools.{IsWhole, Pool, reweighed, weighing, whole}
+use Rattle.resolver_trying.specs.Pools.{IsWhole, Pool, revalued, reweighed, weighing, whole}
 use Rattle.resolver_trying.specs.Trying.{drawn_from, sampled, weighed}
 use Rattle.resolver_trying.proofs.Entries.{set_value-none}
+use Rattle.resolver_trying.proofs.Pools.{revalued-nothing, revalued-some}
 use Rattle.resolver_trying.proofs.Tried.{equal-back, equal-is}
 use Rattle.resolver_fetch.proofs.Weighing.{same-filter, unchanged, weight-some}
 
@@ -59,6 +60,15 @@ module _ {P : Type 0} (may : P → Bool) where
         → samples may (cond b ((e.0, v) ∷ set) (e ∷ set_value at set v))
         ≡ cond b ((e.0, if same then weight_of v else 0) ∷ samples may set) ((e.0, if may e.0 then weight_of e.1 else 0) ∷ set_value at (samples may set) (if same then weight_of v else 0))
     here true is rest = rw (alike e.0 is) refl
+    here false is rest = ap (λ ps. (e.0, if may e.0 then weight_of e.1 else 0) ∷ ps) rest
+
+  -- also one that may not be asked
+  pub samples-stay : (at : P → Bool) → ((p : P) → at p ≡ true → may p ≡ false) → (v : Averages) (set : List (P × Averages))
+      → samples may (set_value at set v) ≡ samples may set
+  samples-stay at none v [] = refl
+  samples-stay at none v (e ∷ set) = here (at e.0) refl (samples-stay at none v set) where
+    here : (b : Bool) → at e.0 ≡ b → samples may (set_value at set v) ≡ samples may set → samples may (cond b ((e.0, v) ∷ set) (e ∷ set_value at set v)) ≡ samples may (e ∷ set)
+    here true is rest = rw (none e.0 is) refl
     here false is rest = ap (λ ps. (e.0, if may e.0 then weight_of e.1 else 0) ∷ ps) rest
 
 -- what is left of the peers that are drawn from, where none was tried
@@ -142,40 +152,63 @@ module _ {P : Type 0} {R : P → P → Ordering} (total : IsTotalOrder R) (p q :
   pub equal-may : (company : Company P) → may_be_asked R (known_by R company) p ≡ may_be_asked R (known_by R company) q
   equal-may company = rw (equal-local company.local, equal-blocked company.blocked, equal-full company.counts) refl
 
--- where a value is set it is found
-found-set : {K X : Type 0} (test : K → Bool) (es : List (K × X)) (v : X) → lookup test (set_value test es v) ≡ option_map (λ x. v) (lookup test es)
-found-set test [] v = refl
-found-set test (e ∷ es) v = at (test e.0) refl (found-set test es v) where
-  at : (b : Bool) → test e.0 ≡ b → lookup test (set_value test es v) ≡ option_map (λ x. v) (lookup test es)
-      → lookup test (cond b ((e.0, v) ∷ es) (e ∷ set_value test es v)) ≡ option_map (λ x. v) (cond b (Some e.1) (lookup test es))
-  at true is rest = rw is refl
-  at false is rest = rw is rest
-
 -- what is observed of a peer changes what it weighs, if it may be asked
 module _ {P : Type 0} {R : P → P → Ordering} (total : IsTotalOrder R) (company : Company P) (x : P) (v : Averages) where
   abbrev Then : Company P
   Then = record company { set = set_value (is_at (R x)) company.set v }
 
-  observed-with : (found : Option Averages) → lookup (is_at (R x)) company.set ≡ found → (pool : Pool P) → pool ≡ whole (sampled R (known_by R company))
-      → reweighed R x (option_map (λ a. sampling_weight R (known_by R Then) (x, a)) (option_map (λ a. v) found)) pool ≡ whole (sampled R (known_by R Then))
-  observed-with None none pool is =
-      is ∙ ap (λ (set : List (P × Averages)). whole (samples (may_be_asked R (known_by R company)) set)) (sym (set_value-none (is_at (R x)) company.set v none))
-  observed-with (Some a) there pool is =
-      ap (λ (p : Pool P). whole (set_value (is_at (R x)) p.all (if may_be_asked R (known_by R company) x then weight_of v else 0))) is
-      ∙ ap whole (sym (samples-set (may_be_asked R (known_by R company)) (is_at (R x)) (may_be_asked R (known_by R company) x)
-      (λ p same. sym (equal-may total x p (equal-is (R x p) same) company)) v company.set))
+  abbrev May : P → Bool
+  May p = may_be_asked R (known_by R company) p
 
-  pub whole-observed : (pool : Option (Pool P)) → IsWhole R (known_by R company) pool → IsWhole R (known_by R Then) (option_map (reweighed R x (weight_in R (known_by R Then) x)) pool)
-  whole-observed None so = tt
-  whole-observed (Some pool) so =
-      subst (λ (o : Option Averages). reweighed R x (option_map (λ a. sampling_weight R (known_by R Then) (x, a)) o) pool ≡ whole (sampled R (known_by R Then)))
-      (sym (found-set (is_at (R x)) company.set v)) (observed-with (lookup (is_at (R x)) company.set) refl pool so)
+  alike : (p : P) → is_at (R x) p ≡ true → May p ≡ May x
+  alike p same = sym (equal-may total x p (equal-is (R x p) same) company)
 
-  -- what it weighs then, by what its score weighs
-  pub weighs-observed : (seen : Observation) (found : Option Averages) → lookup (is_at (R x)) company.set ≡ found → v ≡ averaged (unwrap_or found Unobserved) seen
-      → option_map (λ w. if may_be_asked R (known_by R company) x then w else 0) (option_map (λ a. weight_of (averaged a seen)) found) ≡ weight_in R (known_by R Then) x
-  weighs-observed seen None none is = rw (found-set (is_at (R x)) company.set v, none) refl
-  weighs-observed seen (Some a) there is = rw (found-set (is_at (R x)) company.set v, there, is) refl
+  -- what it weighs so far
+  sampled-at : (set : List (P × Averages)) → lookup (is_at (R x)) (samples May set) ≡ option_map (λ a. if May x then weight_of a else 0) (lookup (is_at (R x)) set)
+  sampled-at [] = refl
+  sampled-at (e ∷ set) = at (is_at (R x) e.0) refl (sampled-at set) where
+    at : (b : Bool) → is_at (R x) e.0 ≡ b → lookup (is_at (R x)) (samples May set) ≡ option_map (λ a. if May x then weight_of a else 0) (lookup (is_at (R x)) set)
+        → cond b (Some (if May e.0 then weight_of e.1 else 0)) (lookup (is_at (R x)) (samples May set)) ≡ option_map (λ a. if May x then weight_of a else 0) (cond b (Some e.1) (lookup (is_at (R x)) set))
+    at true is rest = rw (alike e.0 is) refl
+    at false is rest = rest
+
+  revalued-with : (a : Averages) → lookup (is_at (R x)) company.set ≡ Some a → (b : Bool) → May x ≡ b → (pool : Pool P) → pool ≡ whole (sampled R (known_by R company))
+      → revalued R x (weight_of v) pool ≡ whole (sampled R (known_by R Then))
+  revalued-with a there b may pool is =
+      let found : lookup (is_at (R x)) pool.all ≡ Some (if b then weight_of a else 0) =
+      ap (λ (p : Pool P). lookup (is_at (R x)) p.all) is ∙ sampled-at company.set
+      ∙ ap (λ (o : Option Averages). option_map (λ a. if May x then weight_of a else 0) o) there ∙ ap (λ (m : Bool). Some (if m then weight_of a else 0)) may in
+      at b may found where
+        at : (b : Bool) → May x ≡ b → lookup (is_at (R x)) pool.all ≡ Some (if b then weight_of a else 0) → revalued R x (weight_of v) pool ≡ whole (sampled R (known_by R Then))
+        at true may found =
+            revalued-some total x pool (weight_of a) (weight_of v) found (weight-some a)
+            ∙ ap (λ (p : Pool P). whole (set_value (is_at (R x)) p.all (weight_of v))) is
+            ∙ ap whole (sym (samples-set May (is_at (R x)) true (λ p same. alike p same ∙ may) v company.set))
+        at false may found =
+            revalued-nothing total x pool 0 (weight_of v) found (omega arith)
+            ∙ ap (λ (p : Pool P). whole p.all) is
+            ∙ ap whole (sym (samples-stay May (is_at (R x)) (λ p same. alike p same ∙ may) v company.set))
+
+  whole-there : (a : Averages) → lookup (is_at (R x)) company.set ≡ Some a → (pool : Option (Pool P)) → IsWhole R (known_by R company) pool
+      → IsWhole R (known_by R Then) (option_map (revalued R x (weight_of v)) pool)
+  whole-there a there None so = tt
+  whole-there a there (Some pool) so = revalued-with a there (May x) refl pool so
+
+  -- by what its score weighs then
+  pub whole-revalued : (seen : Observation) (found : Option Averages) → lookup (is_at (R x)) company.set ≡ found → v ≡ averaged (unwrap_or found Unobserved) seen
+      → (weight : ℕ) → Some weight ≡ option_map (λ a. weight_of (averaged a seen)) found → (pool : Option (Pool P)) → IsWhole R (known_by R company) pool
+      → IsWhole R (known_by R Then) (option_map (revalued R x weight) pool)
+  whole-revalued seen None none is weight weighs pool so = absurd cc
+  whole-revalued seen (Some a) there is weight weighs pool so =
+      let same : weight_of v ≡ weight = cc in
+      subst (λ (w : ℕ). IsWhole R (known_by R Then) (option_map (revalued R x w) pool)) same (whole-there a there pool so)
+
+  -- where it is not in the set nothing changes
+  pub whole-unseen : (seen : Observation) (found : Option Averages) → lookup (is_at (R x)) company.set ≡ found → None ≡ option_map (λ a. weight_of (averaged a seen)) found
+      → (pool : Option (Pool P)) → IsWhole R (known_by R company) pool → IsWhole R (known_by R Then) pool
+  whole-unseen seen None none unseen pool so =
+      subst (λ (set : List (P × Averages)). IsWhole R (known_by R (record company { set = set })) pool) (sym (set_value-none (is_at (R x)) company.set v none)) so
+  whole-unseen seen (Some a) there unseen pool so = absurd cc
 
 -- what one peer weighs, and how many may be asked, where it has more or fewer requests
 module _ {P : Type 0} {R : P → P → Ordering} (total : IsTotalOrder R) (x : P) (old new : Company P) (set : new.set ≡ old.set) (sorted : IsStrictlySortedBy R (keys_of old.set))

@@ -313,6 +313,7 @@ impl<K: Ord + Drop, P: Ord + Drop> Fetcher<K, P> {
         ensures only { IfErr result (λ fault. fault ≡ OutOfMemory) }
     {
         self.peers.reconcile(peers)?;
+        self.peers.tidy();
         self.pending.wake();
         Ok(())
     }

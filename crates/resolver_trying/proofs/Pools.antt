@@ -3,7 +3,7 @@ use Rattle.std.proofs.Common.{◌≡◌, refl, ap, sym, ◌∙◌, ℕ, zero, su
 use Rattle.std.specs.BTreeMap.{is_at}
 use Rattle.std.specs.Cmp.{IsTotalOrder}
 use Rattle.std.specs.List.Sorted.{IsStrictlySortedBy}
-use Rattle.std.specs.Map.{keys_of, set_value}
+use Rattle.std.specs.Map.{keys_of, lookup, set_value}
 use Rattle.std.specs.Ordering.{is_eq}
 use Rattle.std.specs.Option.{option_copied}
 use Rattle.std.specs.Prelude.{IfSome, is_some, nat_lt, sum}
@@ -21,7 +21,7 @@ use Rattle.resolver_trees.specs.SumTrees.{mark}
 use Rattle.resolver_trees.proofs.Choices.{chosen-first, chosen-later}
 use Rattle.resolver_trees.proofs.Marks.{marks-set}
 use Rattle.resolver_request.proofs.Restored.{restored-last, restored-length}
-use Rattle.resolver_trying.specs.Pools.{IsNamed, IsPool, is_named, weighing, weighted}
+use Rattle.resolver_trying.specs.Pools.{IsNamed, IsPool, Pool, is_named, revalued, weighing, weighted, whole}
 use Rattle.resolver_trying.specs.Trying.{apart_from, at_place, at_weight, weights_of}
 use Rattle.resolver_trying.proofs.Searched.{before-named, named-within, none-behind, or-neither}
 use Rattle.resolver_trying.proofs.Tried.{equal-back, equal-is}
@@ -245,6 +245,42 @@ module _ {P : Type 0} {R : P → P → Ordering} (total : IsTotalOrder R) (x : P
       let turned : is_eq (R x n) ≡ false = equal-back total x n ∙ ap is_eq (before-named total x n ns i (sorted_head R n ns sorted) named) in
       rw (turned, rest) refl
 
+  -- what a peer weighs, by its place
+  pub weight-here : (ns : List P) (ws : List ℕ) (i : ℕ) → IsStrictlySortedBy R ns → length ns ≡ length ws → IsNamed R ns i x
+      → lookup (is_at (R x)) (weighted ns ws) ≡ Some (slice_index ws i)
+  weight-here [] ws i sorted many named = absurd named
+  weight-here (n ∷ ns) [] i sorted many named = absurd (omega (arith, many))
+  weight-here (n ∷ ns) (w ∷ ws) zero sorted many named = let turned : is_eq (R x n) ≡ true = equal-back total x n ∙ named in rw turned refl
+  weight-here (n ∷ ns) (w ∷ ws) (suc i) sorted many named =
+      let rest : lookup (is_at (R x)) (weighted ns ws) ≡ Some (slice_index ws i) = weight-here ns ws i (sorted_tail R n ns sorted) (omega (arith, many)) named in
+      let turned : is_eq (R x n) ≡ false = equal-back total x n ∙ ap is_eq (before-named total x n ns i (sorted_head R n ns sorted) named) in
+      rw (turned, rest) refl
+
+  pub weight-none : (ns : List P) (ws : List ℕ) → is_named R ns x ≡ false → lookup (is_at (R x)) (weighted ns ws) ≡ None
+  weight-none [] ws none = refl
+  weight-none (n ∷ ns) [] none = refl
+  weight-none (n ∷ ns) (w ∷ ws) none =
+      let both = or-neither (is_eq (R n x)) (is_named R ns x) none in
+      let turned : is_eq (R x n) ≡ false = equal-back total x n ∙ both.0 in
+      let rest : lookup (is_at (R x)) (weighted ns ws) ≡ None = weight-none ns ws both.1 in
+      rw (turned, rest) refl
+
+  -- the peer weighs this where it weighed something
+  pub revalued-some : (pool : Pool P) (w v : ℕ) → lookup (is_at (R x)) pool.all ≡ Some w → 0 < w → revalued R x v pool ≡ whole (set_value (is_at (R x)) pool.all v)
+  revalued-some pool w v found some = rw (found, lt-ltb 0 w some) refl
+
+  pub revalued-nothing : (pool : Pool P) (w v : ℕ) → lookup (is_at (R x)) pool.all ≡ Some w → w ≤ 0 → revalued R x v pool ≡ whole pool.all
+  revalued-nothing pool w v found none = rw (found, le-ltb 0 w none) refl
+
+  pub revalued-none : (pool : Pool P) (v : ℕ) → lookup (is_at (R x)) pool.all ≡ None → revalued R x v pool ≡ whole pool.all
+  revalued-none pool v found = rw found refl
+
+-- a weight that becomes another keeps its mark
+pub marks-stay : (ws : List ℕ) (i v : ℕ) → 0 < v → 0 < slice_index ws i → map mark (slice_set ws i v) ≡ map mark ws
+marks-stay [] i v some was = refl
+marks-stay (w ∷ ws) zero v some was = ap (λ m. m ∷ map mark ws) (some-mark v some ∙ sym (some-mark w was))
+marks-stay (w ∷ ws) (suc i) v some was = ap (λ ms. mark w ∷ ms) (marks-stay ws i v some was)
+
 -- what is made of names and weights has them
 pub weighted-apart : {P : Type 0} (ps : List (P × ℕ)) → weighted (keys_of ps) (weights_of ps) ≡ ps
 weighted-apart [] = refl
@@ -298,5 +334,16 @@ module _ {P : Type 0} (R : P → P → Ordering) (ns : List P) (ws cs : List ℕ
         ordered = pool.ordered;
         many = omega (arith, pool.many, same);
         counted = ap (λ (ms : List ℕ). slice_set ms i (mark v)) pool.counted ∙ sym (marks-set ws i v);
+        within = λ k d it. omega (arith, pool.within k d it, same);
+      }
+
+  -- also where the mark stays
+  pub weighs-on : (i v : ℕ) → 0 < v → 0 < slice_index ws i → IsPool R ns (slice_set ws i v) cs taken
+  weighs-on i v some was =
+      let same : length (slice_set ws i v) ≡ length ws = length-set ws i v in
+      record {
+        ordered = pool.ordered;
+        many = omega (arith, pool.many, same);
+        counted = pool.counted ∙ sym (marks-stay ws i v some was);
         within = λ k d it. omega (arith, pool.within k d it, same);
       }

@@ -3,7 +3,7 @@ use Rattle.std.specs.Prelude.{◌≡◌, ℕ, ◌+◌, ◌-◌, ◌<◌, Bool, t
 use Rattle.std.specs.BTreeMap.{is_at}
 use Rattle.std.specs.List.{list_any}
 use Rattle.std.specs.List.Sorted.{IsStrictlySortedBy}
-use Rattle.std.specs.Map.{set_value}
+use Rattle.std.specs.Map.{lookup, set_value}
 use Rattle.std.specs.Ordering.{is_eq}
 use Rattle.std.specs.declared.cmp.Ordering.{Ordering}
 use Rattle.resolver_trees.specs.SumTrees.{mark}
@@ -60,6 +60,11 @@ module _ {P : Type 0} (by_peer : P → P → Ordering) where
   abbrev pub reweighed : P → (weight : Option ℕ) → Pool P → Pool P
   reweighed peer None pool = pool
   reweighed peer (Some weight) pool = whole (set_value (is_at (by_peer peer)) pool.all weight)
+
+  -- all are left, and the peer weighs this, if it is one of them and weighs something
+  abbrev pub revalued : P → (weight : ℕ) → Pool P → Pool P
+  revalued peer weight pool =
+      if weighs (lookup (is_at (by_peer peer)) pool.all) then whole (set_value (is_at (by_peer peer)) pool.all weight) else whole pool.all
 
   -- peers, of which this one has what it weighs now, if it is in the set
   abbrev pub resampled : Known P → Option P → List (P × ℕ) → List (P × ℕ)

@@ -8,7 +8,7 @@ ghost use Rattle.std.specs.Option.{option_copied};
 ghost use Rattle.resolver_base.specs.declared.base.fault.Fault.TheVariants.{OutOfMemory};
 ghost use Rattle.resolver_request.specs.Left.{restored};
 ghost use Rattle.resolver_trees.specs.SumTrees.{mark};
-ghost use Rattle.resolver_trying.specs.Pools.{IsFound, whole};
+ghost use Rattle.resolver_trying.specs.Pools.{IsFound, revalued, whole};
 ghost use Rattle.resolver_trying.specs.Trying.{apart_from, at_place, at_weight, weights_of};
 
 use resolver_base::base::Fault;
@@ -154,6 +154,20 @@ impl<P: Ord + Drop> Pool<P> {
         if let Some(place) = place_of(&self.names, peer) {
             self.weights.set(place, weight);
             remark(&mut self.counts, place, mark(weight));
+        }
+    }
+
+    /// This peer weighs this, if it is one of them and weighs something, and all that weigh
+    /// something are left again.
+    pub fn revalue(&mut self, peer: &P, value: u64)
+        requires some { 0 < value }
+        ensures { self.new ≡ revalued P.cmp peer.now value self.old }
+    {
+        restore(&mut self.weights, &mut self.counts, &mut self.taken);
+        if let Some(place) = place_of(&self.names, peer) {
+            if self.weights.weight(place) > 0 {
+                self.weights.set(place, value);
+            }
         }
     }
 }

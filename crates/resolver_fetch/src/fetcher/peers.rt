@@ -13,7 +13,7 @@ ghost use Rattle.resolver_trying.specs.Peers.{observed, replaced, set_of};
 ghost use Rattle.resolver_request.specs.Scores.{averaged, weight_of};
 ghost use Rattle.resolver_asked.specs.Loads.{counted, fills, frees, is_full, loaded, one_fewer, one_more};
 ghost use Rattle.std.specs.NonZero.{non_zero_u32_get};
-ghost use Rattle.resolver_trying.specs.Pools.{IsWhole, recounted, reweighed, weighs, whole};
+ghost use Rattle.resolver_trying.specs.Pools.{IsWhole, recounted, revalued, reweighed, weighs, whole};
 ghost use Rattle.resolver_trying.specs.Trying.{drawn_from, sampled, weighed};
 
 use resolver_asked::load::Load;
@@ -160,7 +160,18 @@ impl<P: Ord + Drop> Peers<P> {
     }
 
     /// A peer has one request fewer.
+    #[inline]
     pub(super) fn freed(&mut self, peer: &P)
+        ensures { known_by P.cmp self.new
+            ≡ with_load (option_map (one_fewer P.cmp peer.now)) (known_by P.cmp self.old) }
+    {
+        if self.load.is_some() {
+            self.free(peer);
+        }
+    }
+
+    /// The same where requests are counted.
+    fn free(&mut self, peer: &P)
         ensures { known_by P.cmp self.new
             ≡ with_load (option_map (one_fewer P.cmp peer.now)) (known_by P.cmp self.old) }
     {
@@ -361,6 +372,13 @@ impl<P: Ord + Drop> Peers<P> {
         Ok(())
     }
 
+    /// Forgets the peers that have no request, where they are counted.
+    pub(super) fn tidy(&mut self)
+        ensures { known_by P.cmp self.new ≡ known_by P.cmp self.old }
+    {
+        tidy(&mut self.load);
+    }
+
     /// Takes these peers as the ones that are blocked. Where memory is wanting, nothing changes.
     pub(super) fn set_blocked(&mut self, peers: Vec<P>) -> Result<(), Fault>
         ensures ok { OnOk result
@@ -383,10 +401,9 @@ impl<P: Ord + Drop> Peers<P> {
               (record { elapsed = elapsed; bytes = bytes });
         } }
     {
-        self.order();
-        let observed = observe(&mut self.set, peer, elapsed, bytes);
-        let now = weight_if_asked(&self.local, &self.blocked, &self.load, peer, observed);
-        reweigh(&mut self.pool, peer, now);
+        if let Some(value) = observe(&mut self.set, peer, elapsed, bytes) {
+            revalue(&mut self.pool, peer, value);
+        }
     }
 }
 
@@ -508,6 +525,15 @@ fn add_to<P: Ord + Clone + Drop>(load: &mut Option<Load<P>>, peer: &P) -> Result
     }
 }
 
+/// Forgets the peers that have no request, where they are counted.
+fn tidy<P: Ord + Drop>(load: &mut Option<Load<P>>)
+    ensures { option_map (loaded P.cmp) load.new ≡ option_map (loaded P.cmp) load.old }
+{
+    if let Some(load) = load {
+        load.tidy();
+    }
+}
+
 /// A peer has one request fewer, where they are limited. Says whether that frees it.
 fn remove_from<P: Ord + Drop>(load: &mut Option<Load<P>>, peer: &P) -> bool
     ensures fewer { option_map (loaded P.cmp) load.new
@@ -551,6 +577,7 @@ fn observe<P: Ord>(set: &mut BTreeMap<P, Score>, peer: &P, elapsed: u128, bytes:
     ensures weight { result ≡ option_map
         (λ averages. weight_of (averaged averages (record { elapsed = elapsed; bytes = bytes })))
         (lookup (is_at (P.cmp peer.now)) set.old.entries) }
+    ensures some { IfSome result (λ weight. 0 < weight) }
 {
     match set.get_mut(peer) {
         Some(score) => {
@@ -569,6 +596,16 @@ fn reweigh<P: Ord + Drop>(pool: &mut Option<Pool<P>>, peer: &P, weight: Option<u
         if let Some(pool) = pool {
             pool.set(peer, weight);
         }
+    }
+}
+
+/// The peer weighs this, if it is one of those at hand and weighs something.
+fn revalue<P: Ord + Drop>(pool: &mut Option<Pool<P>>, peer: &P, value: u64)
+    requires some { 0 < value }
+    ensures { pool.new ≡ option_map (revalued P.cmp peer.now value) pool.old }
+{
+    if let Some(pool) = pool {
+        pool.revalue(peer, value);
     }
 }
 

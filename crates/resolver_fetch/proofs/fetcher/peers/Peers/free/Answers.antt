@@ -9,7 +9,7 @@ use Rattle.resolver_trying.specs.Pools.{recounted, weighs}
 use Rattle.resolver_fetch.proofs.Filling.{fewer-full, freed, may-same, refits-none, weighs-nothing}
 use Rattle.resolver_fetch.proofs.Recounting.{others-fewer, recounted-then, room-for, some-weighs}
 use Rattle.resolver_fetch.proofs.Refitting.{whole-refitted}
-use Rattle.resolver_fetch.proofs.fetcher.peers.Peers.freed.Goals as goal
+use Rattle.resolver_fetch.proofs.fetcher.peers.Peers.free.Goals as goal
 
 pub recounted-self-inside-requires-clause-room : goal.recounted-self-inside-requires-clause-room
 recounted-self-inside-requires-clause-room g c =
