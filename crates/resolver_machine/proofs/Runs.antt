@@ -10,9 +10,14 @@ ended : {M A : Type 0} (m : M) (b : Bool) (none : List A) → MatchBool b ((none
 ended m true none = (refl, refl)
 ended m false none = refl
 
-goes-on : (a b : Bool) → (a || b) ≡ false → (a ≡ false) × (b ≡ false)
+pub goes-on : (a b : Bool) → (a || b) ≡ false → (a ≡ false) × (b ≡ false)
 goes-on true b is = cc
 goes-on false b is = (refl, is)
+
+-- where the first answer doesn't end a run, a later one does
+ends-later : (a b : Bool) → (a || b) ≡ true → a ≡ false → b ≡ true
+ends-later true b is goes = cc
+ends-later false b is goes = is
 
 module _ {M I E : Type 0} (step : M → I → Result (List E) Fault × M) (MayWant : M → I → Type 0) (HasFailed : M → Type 0) where
   -- a step, and a run from there
@@ -27,7 +32,7 @@ module _ {M I E : Type 0} (step : M → I → Result (List E) Fault × M) (MayWa
   Runs-last old new input inputs answer takes ends = (new, takes, rw ends (refl, refl))
 
   pub runs-join : RunsJoin step MayWant HasFailed
-  runs-join = record { one = once; both = joined }
+  runs-join = record { one = once; both = joined; ends = ended-on }
     where
       once : (old new : M) (input : I) (answer : Result (List E) Fault) → Takes step MayWant HasFailed old input answer new → Runs step MayWant HasFailed old (input ∷ []) (answer ∷ []) new
       once old new input answer takes = (new, takes, ended new (stops answer) [])
@@ -41,3 +46,16 @@ module _ {M I E : Type 0} (step : M → I → Result (List E) Fault × M) (MayWa
           let on = goes-on (stops answer) (list_any stops answers) goes in
           let rest = rw on.0 at runs.2 in
           Runs-step old runs.0 new input (inputs ++ more) answer (answers ++ later) runs.1 on.0 (joined runs.0 mid new inputs more answers later rest on.1 then)
+
+      ended-on : (old new : M) (inputs more : List I) (answers : List (Result (List E) Fault))
+          → Runs step MayWant HasFailed old inputs answers new → list_any stops answers ≡ true → Runs step MayWant HasFailed old (inputs ++ more) answers new
+      ended-on old new [] more [] runs ends = cc
+      ended-on old new [] more (answer ∷ answers) runs ends = absurd runs
+      ended-on old new (input ∷ inputs) more [] runs ends = absurd runs
+      ended-on old new (input ∷ inputs) more (answer ∷ answers) runs ends = at (stops answer) refl runs.2 (λ goes rest. ended-on runs.0 new inputs more answers rest (ends-later (stops answer) (list_any stops answers) ends goes))
+        where
+          at : (b : Bool) → stops answer ≡ b → MatchBool b ((answers ≡ []) × (new ≡ runs.0)) (Runs step MayWant HasFailed runs.0 inputs answers new)
+              → (stops answer ≡ false → Runs step MayWant HasFailed runs.0 inputs answers new → Runs step MayWant HasFailed runs.0 (inputs ++ more) answers new)
+              → Runs step MayWant HasFailed old (input ∷ inputs ++ more) (answer ∷ answers) new
+          at true stops last next = (runs.0, runs.1, rw stops last)
+          at false goes rest next = (runs.0, runs.1, rw goes (next goes rest))

@@ -29,8 +29,10 @@ module _ {M I E : Type 0} (step : M → I → Result (List E) Fault × M) (MayWa
   Runs old (input ∷ inputs) (answer ∷ answers) new =
       (mid : M) × Takes old input answer mid × MatchBool (stops answer) ((answers ≡ []) × (new ≡ mid)) (Runs mid inputs answers new)
 
-  -- A step is a run of one input. A run goes on where no answer ended it, and both are one run then.
+  -- A step is a run of one input. A run goes on where no answer ended it, and both are one run then. A run that an answer ended is the run of more inputs, too.
   pub record RunsJoin : Type 0 where
     pub one : (old new : M) (input : I) (answer : Result (List E) Fault) → Takes old input answer new → Runs old (input ∷ []) (answer ∷ []) new
     pub both : (old mid new : M) (inputs more : List I) (answers later : List (Result (List E) Fault))
         → Runs old inputs answers mid → list_any stops answers ≡ false → Runs mid more later new → Runs old (inputs ++ more) (answers ++ later) new
+    pub ends : (old new : M) (inputs more : List I) (answers : List (Result (List E) Fault))
+        → Runs old inputs answers new → list_any stops answers ≡ true → Runs old (inputs ++ more) answers new

@@ -12,7 +12,9 @@ use Rattle.resolver_stages.specs.declared.effects.Effect.TheVariants.{Deliver}
 use Rattle.resolver_machine.specs.Account.{Change, Adds, Keeps, Judges, Empties, Leaves, Handed, pairs, nothing_asked, account_of}
 use Rattle.resolver_source.specs.Opaque.{Machine, Row, Event, Fetch, Retain, Verdict, End, Running, Failed, opening, row_of, closed, step}
 use Rattle.resolver_stages.specs.OpaquePhases.{Phase, Judged}
+use Rattle.resolver_stages.specs.declared.inputs.Input.{Input as CodeInput}
 use Rattle.resolver_source.specs.OpaqueSteps.{Input, Runs}
+use Rattle.resolver_source.specs.OpaqueInputs.{input_of}
 use Rattle.resolver_machine.specs.Lawful.{Each, IsLawful}
 
 module _ {K V S : Type 0} where
@@ -42,11 +44,14 @@ module _ {K V S : Type 0} where
   demanded rows = map (λ r. (r.0, r.1.subscribers)) rows
 
 module _ {K V S : Type 0} (n : Names K S) where
-  -- Of a run from an opening state, wherever its attempts begin, that did not fail, the rows have the pairs that were fetched and not since retired, by the inputs taken alone.
+  -- The rows have the pairs that were fetched and not since retired, by the inputs taken alone.
+  abbrev pub HasDemand : List (Input K V S) → List (Result (List (Effect K V S)) Fault) → Machine K V S → Type 0
+  HasDemand inputs answers m = IsSameDemand n (all_pairs_of (demanded m.rows)) (account_of (pairs n) (nothing_asked (pairs n)) (taken inputs answers)).demand
+
+  -- So they do after a run from an opening state, wherever its attempts begin, that did not fail.
   abbrev pub KeepsDemand : (old : Machine K V S) → List (Input K V S) → List (Result (List (Effect K V S)) Fault) → (new : Machine K V S) → Type 0
   KeepsDemand old inputs answers new =
-      (delay attempts : ℕ) → old ≡ record (opening delay) { next_attempt = attempts } → new.status ≢ Failed
-      → IsSameDemand n (all_pairs_of (demanded new.rows)) (account_of (pairs n) (nothing_asked (pairs n)) (taken inputs answers)).demand
+      (delay attempts : ℕ) → old ≡ record (opening delay) { next_attempt = attempts } → new.status ≢ Failed → HasDemand inputs answers new
 
   -- inputs as their types have them
   abbrev pub AllLawful : List (Input K V S) → Type 0
@@ -57,6 +62,10 @@ abbrev pub RunsKeepDemand : {K S : Type 0} → Names K S → (V : Type 0) → Ty
 RunsKeepDemand {K} {S} n V =
     (old : Machine K V S) (inputs : List (Input K V S)) (answers : List (Result (List (Effect K V S)) Fault)) (new : Machine K V S)
     → AllLawful n inputs → Runs n old inputs answers new → KeepsDemand n old inputs answers new
+
+-- What the code takes is lawful by its types.
+abbrev pub InputsAreLawful : {K S Q : Type 0} → Names K S → (V : Type 0) → (keeps : Q → K → S → Bool) → Type 0
+InputsAreLawful {K} {S} {Q} n V keeps = (inputs : List (CodeInput K V S Q)) → AllLawful n (map (input_of keeps) inputs)
 
 abbrev pub is_judged_under : {V : Type 0} → (number : ℕ) → Phase V → Bool
 is_judged_under number (Judged j) = number == j.number

@@ -2,9 +2,11 @@
 //! them, and does nothing.
 
 ghost use Rattle.resolver_root.specs.Names.{names};
-ghost use Rattle.resolver_source.specs.OpaqueLaws.{DeadVerdictsPass, RunsKeepDemand};
+ghost use Rattle.resolver_source.specs.OpaqueLaws.{DeadVerdictsPass, InputsAreLawful, RunsKeepDemand};
 ghost use Rattle.resolver_source.specs.OpaqueSteps.{RunsJoin};
 ghost use Rattle.resolver_source.specs.OpaqueRows.{OpaqueFirstRun, OpaqueWaits, OpaqueRetry, LateSubscriber, DroppedThenFetchedAgain, PrunedThenFetchedAgain, Outcomes, Ends};
+
+use resolver_root::Predicate;
 
 /// A fetch, its value, and a verdict that completes it.
 pub fn opaque_first_run()
@@ -57,7 +59,13 @@ pub fn opaque_keeps_demand<K: Ord, V, S: Ord>()
     ensures { RunsKeepDemand (names K.cmp S.cmp) V }
 {}
 
-/// A step of the opaque machine is a run of one input, and a run that goes on is one run.
+/// Inputs of the code are as the laws of demand want them, by their types.
+pub fn opaque_inputs_are_lawful<K: Ord, V, S: Ord, Q: Predicate<K, S>>()
+    ensures { InputsAreLawful (names K.cmp S.cmp) V Q.keeps }
+{}
+
+/// A step of the opaque machine is a run of one input, and a run that goes on is one run. A run that
+/// ended is the run of more inputs, too.
 pub fn opaque_runs_join<K: Ord, V, S: Ord>()
     ensures { RunsJoin (names K.cmp S.cmp) V }
 {}
