@@ -24,7 +24,7 @@ load_of by_peer limit asked = option_map (λ most. record { limit = most; reques
 abbrev pub IsLoadedBy : {K P : Type 0} → (P → P → Ordering) → List (ℕ × Request K P) → Option (Load P) → Type 0
 IsLoadedBy by_peer asked load = IfSome load (λ load. load.requests ≡ requests_to by_peer asked)
 
--- how many requests one peer may have, and the peers that have some, with how many
+-- how many requests one peer may have, and the peers that are counted, with how many each has
 pub record Counts (P : Type 0) : Type 0 where
   pub limit : ℕ
   pub counts : List (P × ℕ)

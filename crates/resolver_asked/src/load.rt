@@ -13,10 +13,12 @@ use std::num::NonZeroU32;
 
 /// How many requests one peer may have, and how many each has.
 ///
-/// A call takes time logarithmic in the number of peers that have one.
+/// A peer is counted from its first request on, and stays so at 0 when its last one ends, until
+/// `tidy`. A call takes one look-up, in time logarithmic in the number of peers that are counted;
+/// where a peer is not counted yet, its first request takes one more.
 pub struct Load<P: Ord> {
     limit: NonZeroU32,
-    /// Of the peers that have one.
+    /// Of the peers that are counted: of some it may be 0.
     counts: BTreeMap<P, u64>,
 }
 
@@ -91,7 +93,7 @@ impl<P: Ord + Drop> Load<P> {
         before == u64::from(self.limit.get())
     }
 
-    /// Forgets the peers that have none.
+    /// Forgets the peers that have none, in time linear in those that are counted. It takes no memory.
     pub fn tidy(&mut self)
         ensures { loaded P.cmp self.new ≡ loaded P.cmp self.old }
     {

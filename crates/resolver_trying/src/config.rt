@@ -11,7 +11,9 @@ pub struct Config<P> {
     pub fetch_timeout: u128,
     /// How long a key waits before it is tried again.
     pub retry_delay: u128,
-    /// How many requests without an answer one peer may have, if that is limited.
+    /// How many requests without an answer one peer may have at once; with none it may have any number.
+    /// A peer that has as many is full: it is asked for no key until one of them is answered, runs out
+    /// of time, or ends with its key.
     pub peer_limit: Option<NonZeroU32>,
     /// Whether requests are sent before other messages.
     pub priority_requests: bool,

@@ -372,7 +372,7 @@ impl<P: Ord + Drop> Peers<P> {
         Ok(())
     }
 
-    /// Forgets the peers that have no request, where they are counted.
+    /// Forgets who has no request, where they are counted, in time linear in the peers that are.
     pub(super) fn tidy(&mut self)
         ensures { known_by P.cmp self.new ≡ known_by P.cmp self.old }
     {
