@@ -1,2 +1,3 @@
+mod Feeding
 mod Lists
 mod SourceRuns

@@ -1,8 +1,9 @@
-//! Loops of a caller's own over the machines, with what holds of them: `source` feeds an actor that
-//! fetches from an opaque source.
+//! Loops of a caller's own over the two machines, with what holds of them: `source` feeds an actor that
+//! fetches from an opaque source, and `peers` an engine's core.
 //!
-//! It takes two lists of inputs one at a time and a third in one call, and says of all inputs that were
-//! taken what the laws of the machine say of one run.
+//! Each takes two lists of inputs one at a time and a third in one call, and says of all inputs that were
+//! taken what the laws of `resolver` say of one run.
 #![tactic(auto)]
 
+pub mod peers;
 pub mod source;

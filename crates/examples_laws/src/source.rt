@@ -9,10 +9,9 @@ ghost use Rattle.resolver_source.specs.OpaqueInputs.{input_of};
 ghost use Rattle.resolver_source.specs.OpaqueLaws.{HasDemand};
 ghost use Rattle.resolver_source.specs.OpaqueSteps.{Runs, answer_of};
 
-use resolver_actor::laws::{opaque_inputs_are_lawful, opaque_keeps_demand, opaque_runs_join};
-use resolver_actor::opaque::{Actor, Effect, Input};
-use resolver_base::base::{Faithful, Fault};
-use resolver_root::Predicate;
+use resolver::base::{Faithful, Fault, Predicate};
+use resolver::opaque::laws::{opaque_inputs_are_lawful, opaque_keeps_demand, opaque_runs_join};
+use resolver::opaque::{Actor, Effect, Input};
 use std::alloc::Global;
 
 /// An actor's answer to one input.

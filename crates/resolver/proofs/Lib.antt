@@ -4,3 +4,5 @@ mod Stepped
 mod Shown
 mod RunLaws
 mod Settled
+mod Asked
+mod Taking

@@ -36,7 +36,7 @@ Answer E = Result (List E) Fault
 
 module _ {K S P : Type 0} (a : Parties K S P) (c : Codec K) where
   -- an answer that was written is a machine's
-  record IsSaid (old : Machine K S P) (fed : Fed K S P) (answer : Answer (Told K P S)) (new : Machine K S P) : Type 0 where
+  pub record IsSaid (old : Machine K S P) (fed : Fed K S P) (answer : Answer (Told K P S)) (new : Machine K S P) : Type 0 where
     pub said : Answer (Effect K S P)
     pub written : answer ≡ written_of a c said
     pub takes : machines.Takes a old fed said new
@@ -44,6 +44,22 @@ module _ {K S P : Type 0} (a : Parties K S P) (c : Codec K) where
 
   of-step : (old : Machine K S P) (fed : Fed K S P) (new : Machine K S P) (answer : Answer (Told K P S)) → step_written a c old fed ≡ (answer, new) → ((s : Answer (Effect K S P)) → (step_on a old fed).0 ≡ s → IsSaid old fed (written_of a c s) new) → IsSaid old fed answer new
   of-step old fed new answer is goes = subst (λ answer. IsSaid old fed answer new) (ap (λ r. r.0) is) (goes (step_on a old fed).0 refl)
+
+  pub stops-written : (s : Answer (Effect K S P)) → stops (written_of a c s) ≡ stops s
+  stops-written (Ok effects) = refl
+  stops-written (Err faults.OutOfMemory) = refl
+  stops-written (Err faults.Exhausted) = refl
+  stops-written (Err faults.Failed) = refl
+  stops-written (Err faults.Ended) = refl
+  stops-written (Err faults.Busy) = refl
+  stops-written (Err faults.Unasked) = refl
+  stops-written (Err faults.OutOfRange) = refl
+  stops-written (Err faults.EndOfBuffer) = refl
+  stops-written (Err faults.InvalidTag) = refl
+  stops-written (Err faults.InvalidVarint) = refl
+  stops-written (Err faults.ExtraData) = refl
+  stops-written (Err faults.Key) = refl
+  stops-written (Err faults.Uneven) = refl
 
   module _ (old : Machine K S P) (fed : Fed K S P) (new : Machine K S P) where
     -- a machine's answer that ends no run
@@ -79,22 +95,6 @@ module _ {K S P : Type 0} (a : Parties K S P) (c : Codec K) where
     takes-plain (Err faults.Key) goes is = is
     takes-plain (Err faults.Uneven) goes is = is
 
-    stops-written : (s : Answer (Effect K S P)) → stops (written_of a c s) ≡ stops s
-    stops-written (Ok effects) = refl
-    stops-written (Err faults.OutOfMemory) = refl
-    stops-written (Err faults.Exhausted) = refl
-    stops-written (Err faults.Failed) = refl
-    stops-written (Err faults.Ended) = refl
-    stops-written (Err faults.Busy) = refl
-    stops-written (Err faults.Unasked) = refl
-    stops-written (Err faults.OutOfRange) = refl
-    stops-written (Err faults.EndOfBuffer) = refl
-    stops-written (Err faults.InvalidTag) = refl
-    stops-written (Err faults.InvalidVarint) = refl
-    stops-written (Err faults.ExtraData) = refl
-    stops-written (Err faults.Key) = refl
-    stops-written (Err faults.Uneven) = refl
-
     -- an answer that ends no run
     going-said : (answer : Answer (Told K P S)) → stops answer ≡ false → step_written a c old fed ≡ (answer, new) → IsSaid old fed answer new
     going-said answer goes is =
@@ -111,7 +111,7 @@ module _ {K S P : Type 0} (a : Parties K S P) (c : Codec K) where
         fails : Fault → Answer (Effect K S P)
         fails fault = Err fault
 
-    takes-said : (answer : Answer (Told K P S)) → Takes a c old fed answer new → IsSaid old fed answer new
+    pub takes-said : (answer : Answer (Told K P S)) → Takes a c old fed answer new → IsSaid old fed answer new
     takes-said (Ok effects) takes = going-said (Ok effects) refl takes
     takes-said (Err faults.OutOfMemory) takes = record { said = Err faults.OutOfMemory; written = refl; takes = takes; ends = refl }
     takes-said (Err faults.Exhausted) takes = record { said = Err faults.Exhausted; written = refl; takes = (exhausted (step_on a old fed).0 takes.0, takes.1); ends = refl }
@@ -174,30 +174,7 @@ module _ {K P S Q : Type 0} (a : Parties K S P) (c : Codec K) (keeps : Q → K �
   event-lawful now events.End = tt
 
   -- what the code takes is lawful by its types
-  all-lawful : (moment : ℕ) (inputs : List (CodeInput K P S Q)) → AllLawful a (all_fed c keeps moment inputs)
+  pub all-lawful : (moment : ℕ) (inputs : List (CodeInput K P S Q)) → AllLawful a (all_fed c keeps moment inputs)
   all-lawful moment [] = tt
   all-lawful moment (inputs.Happens happening ∷ rest) = (event-lawful happening.now happening.event, all-lawful happening.now rest)
   all-lawful moment (inputs.Answers answer ∷ rest) = (tt, all-lawful moment rest)
-
-  -- what holds of a run of the engine
-  pub runs-well : IsTotalOrder a.key → IsTotalOrder a.subscriber → (old : Machine K S P) (moment : ℕ) (inputs : List (CodeInput K P S Q)) (answers : List (Answer (Told K P S))) (machine : Machine K S P) (new : Engine K S P)
-      → Runs a c old (all_fed c keeps moment inputs) answers machine → Matches a new machine → RunsWell a c old (all_fed c keeps moment inputs) answers new
-  runs-well keys subscribers old moment inputs answers machine new runs matches =
-      let feds = all_fed c keeps moment inputs in
-      let s = runs-said a c feds old answers machine runs in
-      record {
-        machine = machine;
-        said = s.said;
-        written = s.written;
-        runs = s.runs;
-        matches = matches;
-        demand = demand_is_kept a (eq_by_cmp_equiv keys) subscribers (eq_by_cmp_equiv subscribers) old feds s.said machine (all-lawful moment inputs) s.runs;
-        account = is_paid_once a old feds s.said machine s.runs;
-        senders = is_paid_to_senders a old feds s.said machine s.runs;
-        eligible = asks_well a old feds s.said machine s.runs;
-        ids = λ configuration priority_responses opens.
-            subst (λ m. AsksNew a m feds s.said) (sym opens)
-            (asks-new a (MayWant a) (λ m. m.status ≡ Failed) (opening configuration priority_responses) feds s.said machine (tt, tt) (subst (λ m. machines.Runs a m feds s.said machine) opens s.runs));
-        awake = keeps-awake a (MayWant a) (λ m. m.status ≡ Failed) keys old feds s.said machine s.runs;
-        once = asked_once a keys;
-      }

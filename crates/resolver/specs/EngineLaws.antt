@@ -1,19 +1,37 @@
 -- What holds of every run of an engine, in the words of its machine.
-use Rattle.std.specs.Prelude.{◌≡◌, Bool, List, map, Result}
+use Rattle.std.specs.Prelude.{◌≡◌, ◌<◌, ◌+◌, Bool, List, ◌∷◌, ◌++◌, length, map, Result, ⊤}
 use Rattle.resolver_base.specs.declared.base.fault.Fault.{Fault}
 use Rattle.resolver_trying.specs.declared.config.Config.{Config}
+use Rattle.resolver_trying.specs.FetcherLaws.{AllAre}
 use Rattle.resolver_machine.specs.Steps as steps
 use Rattle.resolver_peer.specs.Parties.{Parties}
-use Rattle.resolver_peer.specs.Peer.{Machine, Effect, Failed, opening}
-use Rattle.resolver_peer.specs.PeerRun.{Fed}
+use Rattle.resolver_peer.specs.Peer.{Machine, Effect, Failed, opening, step}
+use Rattle.resolver_peer.specs.PeerRun.{Fed, after, effects_of}
 use Rattle.resolver_peer.specs.PeerSteps as machines
-use Rattle.resolver_peer.specs.PeerSteps.{MayWant}
-use Rattle.resolver_peer.specs.PeerLaws.{AskedOnce, AsksWell, KeepsDemand, PaysOnce, PaysRightly}
-use Rattle.resolver_peer.specs.PeerRunLaws.{AsksNew, KeepsAwake}
+use Rattle.resolver_peer.specs.PeerSteps.{MayWant, step_on}
+use Rattle.resolver_peer.specs.PeerLaws.{AcceptsSend, AsksWell, EndsOrRetries, HasNewId, KeepsDemand, PaysOnce, PaysRightly}
+use Rattle.resolver_peer.specs.PeerRunLaws.{KeepsAwake}
 use Rattle.resolver_peer.specs.declared.effects.Effect.{Effect as Told}
 use Rattle.resolver_parts.specs.EngineSteps.{Runs, step_written, written_of}
 use Rattle.resolver.specs.Matching.{Engine, Matches}
 use Rattle.resolver_parts.specs.Said.{Codec}
+
+module _ {K S P : Type 0} (a : Parties K S P) where
+  -- each request among these answers has an id that no request without an answer holds
+  abbrev pub HaveNewIds : Machine K S P → List (Fed K S P) → List (Result (List (Effect K S P)) Fault) → Type 0
+  HaveNewIds m (fed ∷ inputs) (answer ∷ answers) =
+      let n = (step_on a m fed).1 in AllAre (HasNewId a n) (effects_of answer) × HaveNewIds n inputs answers
+  HaveNewIds m inputs answers = ⊤
+
+  -- Of a run from the opening state: between two of its inputs at which a send for one key is accepted, the key has no pair once, or is retried.
+  abbrev pub AsksOnce : (old : Machine K S P) → List (Fed K S P) → List (Result (List (Effect K S P)) Fault) → Type 0
+  AsksOnce old inputs answers =
+      (configuration : Config P) (priority_responses : Bool) → old ≡ opening configuration priority_responses
+      → (before : List (Fed K S P)) (first : Fed K S P) (between : List (Fed K S P)) (second : Fed K S P) (rest : List (Fed K S P)) (key : K)
+      → inputs ≡ before ++ first ∷ (between ++ second ∷ rest) → length before + length between + 1 < length answers
+      → let m = after a old before in
+      let sent = (step a m first.now first.input).1 in
+      AcceptsSend a m first.input key → AcceptsSend a (after a sent between) second.input key → EndsOrRetries a sent between key
 
 module _ {K S P : Type 0} (a : Parties K S P) (c : Codec K) where
   -- Answers with the bytes of their messages are a machine's own answers, written so.
@@ -47,8 +65,8 @@ module _ {K S P : Type 0} (a : Parties K S P) (c : Codec K) where
     -- requests go to eligible peers alone
     pub eligible : AsksWell a old inputs said machine
     -- under ids that no request without an answer holds
-    pub ids : (configuration : Config P) (priority_responses : Bool) → old ≡ opening configuration priority_responses → AsksNew a old inputs said
+    pub ids : HaveNewIds a old inputs said
     -- no due key is left behind a wake-up
     pub awake : KeepsAwake a old inputs said machine
     -- a key that was asked for is not asked for again before it has no pair or is retried
-    pub once : AskedOnce a
+    pub once : AsksOnce a old inputs said

@@ -161,7 +161,7 @@ module _ {K S P : Type 0} (a : Parties K S P) where
   question-new m (Some w) (Some (FirstId peer)) new few = (tt, tt)
   question-new m (Some w) (Some (Sending peer id)) new few = (new few, tt)
 
-  no-question : (n : Machine K S P) (effects : List (Effect K S P)) → AllAre IsNoQuestion effects → AllAre (HasNewId a n) effects
+  pub no-question : (n : Machine K S P) (effects : List (Effect K S P)) → AllAre IsNoQuestion effects → AllAre (HasNewId a n) effects
   no-question n [] none = tt
   no-question n (Ask q ∷ effects) none = absurd none.0
   no-question n (Deliver number handed value ∷ effects) none = (tt, no-question n effects none.1)

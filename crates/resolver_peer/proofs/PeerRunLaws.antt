@@ -20,7 +20,7 @@ module _ {K S P : Type 0} (a : Parties K S P) (MayWant : Machine K S P → Fed K
   Run = Runs (step_on a) MayWant HasFailed
 
   -- a step at which nothing is wanting is the machine's
-  goes-on : (old : Machine K S P) (i : Fed K S P) (answer : Result (List (Effect K S P)) Fault) (mid : Machine K S P) → Takes (step_on a) MayWant HasFailed old i answer mid → stops answer ≡ false
+  pub goes-on : (old : Machine K S P) (i : Fed K S P) (answer : Result (List (Effect K S P)) Fault) (mid : Machine K S P) → Takes (step_on a) MayWant HasFailed old i answer mid → stops answer ≡ false
       → step_on a old i ≡ (answer, mid)
   goes-on old i (Ok effects) mid takes goes = takes
   goes-on old i (Err faults.OutOfMemory) mid takes goes = absurd cc

@@ -10,6 +10,7 @@ ghost use Rattle.resolver_peer.specs.Parties.{parties};
 ghost use Rattle.resolver_peer.specs.Peer as machines;
 ghost use Rattle.resolver_peer.specs.Peer.{Machine, active_deadline, opening, wake_up};
 ghost use Rattle.resolver.specs.EngineLaws.{RunsWell};
+ghost use Rattle.resolver.specs.Taking.{Took};
 ghost use Rattle.resolver_parts.specs.EngineSteps.{Takes, all_fed};
 ghost use Rattle.resolver.specs.Listed.{listed};
 ghost use Rattle.resolver.specs.Matching.{Matches};
@@ -231,6 +232,10 @@ impl<
         requires keys_clone { (x y : K) → K.is_clone x y → y ≡ x }
         requires peers_clone { (x y : P) → P.is_clone x y → y ≡ x }
         requires subscribers_clone { (x y : S) → S.is_clone x y → y ≡ x }
+        ensures took { IfOk result (λ answers. (m : Machine K S P) (moment : ℕ)
+            → Matches (parties K.cmp S.cmp P.cmp) self.old m
+            → Took (parties K.cmp S.cmp P.cmp) (codec K.SIZE K.bytes_of K.read_from) Q.keeps
+            m moment inputs.items answers.items self.new) }
         ensures runs { IfOk result (λ answers. (m : Machine K S P) (moment : ℕ)
             → Matches (parties K.cmp S.cmp P.cmp) self.old m
             → RunsWell (parties K.cmp S.cmp P.cmp) (codec K.SIZE K.bytes_of K.read_from) m

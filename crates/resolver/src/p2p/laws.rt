@@ -10,6 +10,7 @@
 ghost use Rattle.resolver_peer.specs.Parties.{parties};
 ghost use Rattle.resolver_parts.specs.Said.{codec};
 ghost use Rattle.resolver.specs.EngineLaws.{EngineRunsJoin, RunsAreSaid};
+ghost use Rattle.resolver.specs.Taking.{CoresTake};
 
 use resolver_base::base::Span;
 pub use resolver_peer::laws::{
@@ -21,8 +22,16 @@ pub use resolver_peer::laws::{
     replies_once, responses_are_delivered, rests_after_scans, run_laws, runs_join, serving,
     stays_awake, timeout_and_limits, tries_once, verdicts_repeated,
 };
+use resolver_root::Predicate;
 
-/// A step of an engine is a run of one input, and a run that goes on is one run.
+/// Whoever steps a core, or has it run, in any number of calls, has one run of each machine that the
+/// core matched at first, with these answers, bytes included; and what holds of every run holds of it.
+pub fn cores_take<K: Span, P: Ord, S: Ord, Q: Predicate<K, S>>()
+    ensures { CoresTake (parties K.cmp S.cmp P.cmp) (codec K.SIZE K.bytes_of K.read_from) Q.keeps }
+{}
+
+/// A step of an engine is a run of one input, and a run that goes on is one run. A run that ended is the
+/// run of more inputs, too.
 pub fn engine_runs_join<K: Span, S: Ord, P: Ord>()
     ensures { EngineRunsJoin (parties K.cmp S.cmp P.cmp) (codec K.SIZE K.bytes_of K.read_from) }
 {}

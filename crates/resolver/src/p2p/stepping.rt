@@ -12,6 +12,7 @@ ghost use Rattle.resolver_peer.specs.Peer as machines;
 ghost use Rattle.resolver_peer.specs.Peer.{Machine, active_deadline, opening, wake_up};
 ghost use Rattle.resolver.specs.Ending.{is_end, is_end_event};
 ghost use Rattle.resolver.specs.EngineLaws.{RunsWell};
+ghost use Rattle.resolver.specs.Taking.{Took};
 ghost use Rattle.resolver_parts.specs.EngineSteps.{Takes, all_fed};
 ghost use Rattle.resolver.specs.Listed.{listed};
 ghost use Rattle.resolver.specs.Matching.{Matches, UnlessFailed, is_final};
@@ -164,6 +165,10 @@ impl<K: Span + Drop, P: Ord + Clone + Drop, S: Ord + Clone + Drop, Q: Predicate<
         requires keys_clone { (x y : K) → K.is_clone x y → y ≡ x }
         requires peers_clone { (x y : P) → P.is_clone x y → y ≡ x }
         requires subscribers_clone { (x y : S) → S.is_clone x y → y ≡ x }
+        ensures took { IfOk result (λ answers. (m : Machine K S P) (moment : ℕ)
+            → Matches (parties K.cmp S.cmp P.cmp) self.old m
+            → Took (parties K.cmp S.cmp P.cmp) (codec K.SIZE K.bytes_of K.read_from) Q.keeps
+            m moment inputs.items answers.items self.new) }
         ensures runs { IfOk result (λ answers. (m : Machine K S P) (moment : ℕ)
             → Matches (parties K.cmp S.cmp P.cmp) self.old m
             → RunsWell (parties K.cmp S.cmp P.cmp) (codec K.SIZE K.bytes_of K.read_from) m

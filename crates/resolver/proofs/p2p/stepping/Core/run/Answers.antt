@@ -6,8 +6,9 @@ use Rattle.resolver_root.specs.Names.{names}
 use Rattle.resolver_machine.specs.Lawful.{AnswersAlike}
 use Rattle.resolver_peer.specs.Parties.{parties}
 use Rattle.resolver_parts.specs.Said.{codec}
-use Rattle.resolver.proofs.Running.{RunsOn, RunsTo, runs-all, runs-first, runs-last, runs-next}
-use Rattle.resolver.proofs.RunLaws.{runs-well}
+use Rattle.resolver.specs.Taking.{Took, latest}
+use Rattle.resolver.proofs.Running.{TookOn, runs-all, runs-first, runs-last, runs-next}
+use Rattle.resolver.proofs.Taking.{took-well}
 use Rattle.resolver.proofs.p2p.stepping.Core.run.Given as given
 use Rattle.resolver.proofs.p2p.stepping.Core.run.Goals as goal
 
@@ -26,7 +27,7 @@ loop-input-init g c =
     let a = parties g.K.Ord.cmp g.S.Ord.cmp g.P.Ord.cmp in
     let words = codec g.K.Span.SIZE g.K.Span.bytes_of g.K.Span.read_from in
     record {
-      rest = λ m moment matched.
+      took = λ m moment matched.
           runs-first a words g.Q.Predicate.keeps m moment c.args.inputs.items (into_iter_items c.into_iter-input-iterator.result) c.in_ok-answers.answers.items c.args.self.now
           c.into_iter-input-iterator.ensures.into_iter_gives.0 c.in_ok-answers.ensures.items matched;
       room = search rules;
@@ -37,29 +38,39 @@ loop-input-preserved g c =
     let a = parties g.K.Ord.cmp g.S.Ord.cmp g.P.Ord.cmp in
     let words = codec g.K.Span.SIZE g.K.Span.bytes_of g.K.Span.read_from in
     record {
-      rest = λ m moment matched.
-          let on = c.loop-input.invariant.rest m moment matched in
-          subst (λ answers. RunsOn a words g.Q.Predicate.keeps m moment c.args.inputs.items (into_iter_items c.next.new.self) answers c.step-answer.new.self) (sym c.push_reserved.ensures.items)
+      took = λ m moment matched.
+          let on = c.loop-input.invariant.took m moment matched in
+          subst (λ answers. TookOn a words g.Q.Predicate.keeps m moment c.args.inputs.items (into_iter_items c.next.new.self) answers c.step-answer.new.self) (sym c.push_reserved.ensures.items)
           (runs-next a words g.Q.Predicate.keeps m moment c.args.inputs.items (into_iter_items c.loop-input.input-iterator) (into_iter_items c.next.new.self) c.in-Some.input c.loop-input.answers.items
-          c.step-answer.result c.loop-input.self c.step-answer.new.self c.in-Some.ensures.steps.0 on (c.step-answer.ensures on.machine on.last on.matched) (sym c.if-stops.ensures));
+          c.step-answer.result c.loop-input.self c.step-answer.new.self c.in-Some.ensures.steps.0 on (c.step-answer.ensures on.took.machine (latest words g.Q.Predicate.keeps moment on.taken) on.took.matches) (sym c.if-stops.ensures));
       room = search rules;
     }
+
+pub returns-then-stops-clause-took : goal.returns-then-stops-clause-took
+returns-then-stops-clause-took g c = λ m moment matched.
+    let a = parties g.K.Ord.cmp g.S.Ord.cmp g.P.Ord.cmp in
+    let words = codec g.K.Span.SIZE g.K.Span.bytes_of g.K.Span.read_from in
+    let on = c.loop-input.invariant.took m moment matched in
+    subst (λ answers. Took a words g.Q.Predicate.keeps m moment c.args.inputs.items answers c.step-answer.new.self) (sym c.push_reserved.ensures.items)
+    (runs-last a words g.Q.Predicate.keeps m moment c.args.inputs.items (into_iter_items c.loop-input.input-iterator) (into_iter_items c.next.new.self) c.in-Some.input c.loop-input.answers.items
+    c.step-answer.result c.loop-input.self c.step-answer.new.self c.in-Some.ensures.steps.0 on (c.step-answer.ensures on.took.machine (latest words g.Q.Predicate.keeps moment on.taken) on.took.matches) (sym c.if-stops.ensures))
+
+pub returns-clause-took : goal.returns-clause-took
+returns-clause-took g c = λ m moment matched.
+    let a = parties g.K.Ord.cmp g.S.Ord.cmp g.P.Ord.cmp in
+    let words = codec g.K.Span.SIZE g.K.Span.bytes_of g.K.Span.read_from in
+    let nothing : into_iter_items c.loop-input.input-iterator ≡ [] = nil_from_length _ (omega (arith, c.in-None.ensures.steps)) in
+    runs-all a words g.Q.Predicate.keeps m moment c.args.inputs.items (into_iter_items c.loop-input.input-iterator) c.loop-input.answers.items c.loop-input.self nothing
+    (c.loop-input.invariant.took m moment matched)
 
 pub returns-then-stops-clause-runs : goal.returns-then-stops-clause-runs
 returns-then-stops-clause-runs g c = λ m moment matched.
     let a = parties g.K.Ord.cmp g.S.Ord.cmp g.P.Ord.cmp in
     let words = codec g.K.Span.SIZE g.K.Span.bytes_of g.K.Span.read_from in
-    let on = c.loop-input.invariant.rest m moment matched in
-    let runs = subst (λ answers. RunsTo a words g.Q.Predicate.keeps m moment c.args.inputs.items answers c.step-answer.new.self) (sym c.push_reserved.ensures.items)
-    (runs-last a words g.Q.Predicate.keeps m moment c.args.inputs.items (into_iter_items c.loop-input.input-iterator) (into_iter_items c.next.new.self) c.in-Some.input c.loop-input.answers.items
-    c.step-answer.result c.loop-input.self c.step-answer.new.self c.in-Some.ensures.steps.0 on (c.step-answer.ensures on.machine on.last on.matched) (sym c.if-stops.ensures)) in
-    runs-well a words g.Q.Predicate.keeps (alike g) (keys g) g.met.S.Ord.total m moment c.args.inputs.items _ runs.machine _ runs.runs runs.matched
+    took-well a words g.Q.Predicate.keeps (alike g) (keys g) g.met.S.Ord.total m moment c.args.inputs.items _ _ (returns-then-stops-clause-took g c m moment matched)
 
 pub returns-clause-runs : goal.returns-clause-runs
 returns-clause-runs g c = λ m moment matched.
     let a = parties g.K.Ord.cmp g.S.Ord.cmp g.P.Ord.cmp in
     let words = codec g.K.Span.SIZE g.K.Span.bytes_of g.K.Span.read_from in
-    let none : into_iter_items c.loop-input.input-iterator ≡ [] = nil_from_length _ (omega (arith, c.in-None.ensures.steps)) in
-    let runs = runs-all a words g.Q.Predicate.keeps m moment c.args.inputs.items (into_iter_items c.loop-input.input-iterator) c.loop-input.answers.items c.loop-input.self none
-    (c.loop-input.invariant.rest m moment matched) in
-    runs-well a words g.Q.Predicate.keeps (alike g) (keys g) g.met.S.Ord.total m moment c.args.inputs.items _ runs.machine _ runs.runs runs.matched
+    took-well a words g.Q.Predicate.keeps (alike g) (keys g) g.met.S.Ord.total m moment c.args.inputs.items _ _ (returns-clause-took g c m moment matched)

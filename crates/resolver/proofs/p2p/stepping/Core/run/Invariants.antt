@@ -5,16 +5,16 @@ use Rattle.resolver_peer.specs.Parties.{parties}
 use Rattle.resolver_peer.specs.Peer.{Machine}
 use Rattle.resolver.specs.Matching.{Matches}
 use Rattle.resolver_parts.specs.Said.{codec}
-use Rattle.resolver.proofs.Running.{RunsOn}
+use Rattle.resolver.proofs.Running.{TookOn}
 use Rattle.resolver.proofs.p2p.stepping.Core.run.Given as goal
 
--- What answers the inputs that are left, behind the answers so far, answers them all. There is room for the answers.
+-- The inputs that aren't left were taken, with the answers so far. There is room for the answers.
 abbrev pub invariant-loop-input : goal.invariant-loop-input
 invariant-loop-input g l =
     let a = parties g.K.Ord.cmp g.S.Ord.cmp g.P.Ord.cmp in
     let words = codec g.K.Span.SIZE g.K.Span.bytes_of g.K.Span.read_from in
     record {
-      rest : (m : Machine g.row.K.Denot g.row.S.Denot g.row.P.Denot) (moment : ℕ) → Matches a l.fn.self m
-          → RunsOn a words g.Q.Predicate.keeps m moment l.fn.inputs.items (into_iter_items l.input-iterator) l.answers.items l.self;
+      took : (m : Machine g.row.K.Denot g.row.S.Denot g.row.P.Denot) (moment : ℕ) → Matches a l.fn.self m
+          → TookOn a words g.Q.Predicate.keeps m moment l.fn.inputs.items (into_iter_items l.input-iterator) l.answers.items l.self;
       room : vec_len l.answers + length (into_iter_items l.input-iterator) ≤ vec_capacity l.answers;
     }
