@@ -1,5 +1,5 @@
 -- What an engine counts of what happens.
-use Rattle.std.specs.Prelude.{◌≡◌, Bool, true, false, not, Option, None, Some, if◌then◌else◌, ◌==◌, ◌^◌, ℕ, nat_lt, List, length, Unit}
+use Rattle.std.specs.Prelude.{◌≡◌, Bool, true, false, not, Option, None, Some, if◌then◌else◌, ◌==◌, ◌^◌, ℕ, nat_lt, List, length, ⊤}
 use Rattle.resolver.specs.declared.p2p.counting.Noted.{Noted}
 use Rattle.resolver.specs.declared.p2p.counting.Noted.TheVariants.{Served}
 use Rattle.resolver_root.specs.declared.root.Outcome.{Outcome}
@@ -41,7 +41,7 @@ is_answer (Some bytes) = nat_lt (length bytes) (2 ^ 32)
 -- what is noted of the producer's answer says whether it is a response
 abbrev pub NotesAnswer : Bool → Noted → Type 0
 NotesAnswer is (Served is_answered elapsed) = is_answered ≡ is
-NotesAnswer is noted = Unit {0}
+NotesAnswer is noted = ⊤
 
 -- the producer's answer to a peer's request, a response or not
 abbrev pub answered : Bool → Tally → Tally
