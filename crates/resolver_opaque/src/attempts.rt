@@ -1,7 +1,8 @@
 //! Looks for values that are under way.
 
 ghost use Rattle.std.specs.Prelude.{◌≡◌, IfErr};
-ghost use Rattle.std.specs.BTreeMap.{remove_entry};
+ghost use Rattle.std.specs.BTreeMap.{is_at};
+ghost use Rattle.std.specs.Map.{remove_entry};
 ghost use Rattle.std.specs.Ordering.{nat_cmp};
 ghost use Rattle.futures.specs.Poll.{IfReady};
 ghost use Rattle.futures.specs.Task.{Keeps};
@@ -97,7 +98,7 @@ impl<V, F: Future<Output = Option<V>>> Attempts<F> {
     pub(crate) fn poll_any(&mut self, cx: &mut Context<'_>) -> Poll<(u64, Option<V>)>
         requires pollable { (future : F) → F.can_poll future }
         ensures forgets { IfReady result (λ said. self.new.handles.entries
-            ≡ remove_entry nat_cmp said.0 self.old.handles.entries) }
+            ≡ remove_entry (is_at (nat_cmp said.0)) self.old.handles.entries) }
         ensures kept { Keeps cx.old cx.new }
     {
         if self.looks.is_empty() {
