@@ -1,13 +1,13 @@
 -- What the laws of runs say of a run from the opening machine.
 use Rattle.std.proofs.Common.{refl, Bool, List, Result}
-use Rattle.resolver_base.specs.declared.base.fault.Fault.{Fault}
-use Rattle.resolver_trying.specs.declared.config.Config.{Config}
-use Rattle.resolver_peer.specs.Parties.{Parties}
-use Rattle.resolver_peer.specs.Peer.{opening}
-use Rattle.resolver_peer.specs.PeerLaws.{StaysAwake}
-use Rattle.resolver_peer.specs.PeerRun.{Fed}
-use Rattle.resolver_peer.specs.declared.effects.Effect.{Effect as Told}
-use Rattle.resolver_parts.specs.Said.{Codec}
+use Rattle.resolver_base.specs.declared.fault.Fault.{Fault}
+use Rattle.resolver_fetch_scan.specs.declared.config.Config.{Config}
+use Rattle.resolver_model_peer.specs.Parties.{Parties}
+use Rattle.resolver_model_peer.specs.Peer.{opening}
+use Rattle.resolver_model_peer.specs.PeerLaws.{StaysAwake}
+use Rattle.resolver_model_peer.specs.PeerRun.{Fed}
+use Rattle.resolver_model_peer.specs.declared.effects.Effect.{Effect as Told}
+use Rattle.resolver_peer_step.specs.Said.{Codec}
 use Rattle.resolver.specs.EngineLaws.{RunsWell}
 use Rattle.resolver.specs.Matching.{Engine}
 use Rattle.examples_laws.specs.Feeding.{FedWell}

@@ -4,14 +4,14 @@ use Rattle.std.proofs.lemmas.List.{map-append}
 use Rattle.std.specs.List.{list_any}
 use Rattle.std.specs.declared.vec.Vec.{Vec}
 use Rattle.std.specs.declared.alloc.Global.{Global}
-use Rattle.resolver_base.specs.declared.base.fault.Fault.{Fault}
-use Rattle.resolver_root.specs.Names.{Names}
-use Rattle.resolver_machine.specs.Steps.{stops}
-use Rattle.resolver_stages.specs.declared.effects.Effect.{Effect}
-use Rattle.resolver_stages.specs.declared.inputs.Input.{Input}
-use Rattle.resolver_source.specs.Opaque.{Machine}
-use Rattle.resolver_source.specs.OpaqueInputs.{input_of}
-use Rattle.resolver_source.specs.OpaqueSteps.{Runs, RunsJoin, Takes, answer_of}
+use Rattle.resolver_base.specs.declared.fault.Fault.{Fault}
+use Rattle.resolver_types.specs.Names.{Names}
+use Rattle.resolver_model.specs.Steps.{stops}
+use Rattle.resolver_model_opaque.specs.declared.effects.Effect.{Effect}
+use Rattle.resolver_model_opaque.specs.declared.inputs.Input.{Input}
+use Rattle.resolver_model_opaque.specs.Opaque.{Machine}
+use Rattle.resolver_model_opaque.specs.OpaqueInputs.{input_of}
+use Rattle.resolver_model_opaque.specs.OpaqueSteps.{Runs, RunsJoin, Takes, answer_of}
 use Rattle.examples_laws.proofs.Lists.{last-decides}
 
 module _ {K V S Q : Type 0} (n : Names K S) (keeps : Q → K → S → Bool) (join : RunsJoin n V) where

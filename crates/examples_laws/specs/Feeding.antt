@@ -1,20 +1,20 @@
 -- What a caller's loop says of all inputs that its core took.
 use Rattle.std.specs.Prelude.{◌≡◌, ◌≢◌, ◌≤◌, ◌<◌, ◌+◌, ℕ, Bool, false, List, [], ◌∷◌, ◌++◌, length, map, Result}
-use Rattle.resolver_base.specs.declared.base.fault.Fault.{Fault}
-use Rattle.resolver_root.specs.Demand.{all_pairs_of, IsSameDemand}
-use Rattle.resolver_trying.specs.declared.config.Config.{Config}
-use Rattle.resolver_trying.specs.FetcherLaws.{AllAre}
-use Rattle.resolver_machine.specs.Account.{pairs, nothing_asked, account_of}
-use Rattle.resolver_machine.specs.Steps.{stops}
-use Rattle.resolver_peer.specs.Parties.{Parties, names_of}
-use Rattle.resolver_peer.specs.Peer.{Machine, Effect, Failed, opening, step}
-use Rattle.resolver_peer.specs.PeerAccount.{account}
-use Rattle.resolver_peer.specs.PeerAwake.{IsAwake}
-use Rattle.resolver_peer.specs.PeerLaws.{AcceptsSend, AreWellAsked, EndsOrRetries, NeverGoBack, PaySenders, taken}
-use Rattle.resolver_peer.specs.PeerRun.{Fed, after, all_effects, demanded}
-use Rattle.resolver_peer.specs.declared.effects.Effect.{Effect as Told}
-use Rattle.resolver_parts.specs.EngineSteps.{written_of}
-use Rattle.resolver_parts.specs.Said.{Codec}
+use Rattle.resolver_base.specs.declared.fault.Fault.{Fault}
+use Rattle.resolver_types.specs.Demand.{all_pairs_of, IsSameDemand}
+use Rattle.resolver_fetch_scan.specs.declared.config.Config.{Config}
+use Rattle.resolver_fetch_scan.specs.FetcherLaws.{AllAre}
+use Rattle.resolver_model.specs.Account.{pairs, nothing_asked, account_of}
+use Rattle.resolver_model.specs.Steps.{stops}
+use Rattle.resolver_model_peer.specs.Parties.{Parties, names_of}
+use Rattle.resolver_model_peer.specs.Peer.{Machine, Effect, Failed, opening, step}
+use Rattle.resolver_model_peer.specs.PeerAccount.{account}
+use Rattle.resolver_model_peer.specs.PeerAwake.{IsAwake}
+use Rattle.resolver_model_peer.specs.PeerLaws.{AcceptsSend, AreWellAsked, EndsOrRetries, NeverGoBack, PaySenders, taken}
+use Rattle.resolver_model_peer.specs.PeerRun.{Fed, after, all_effects, demanded}
+use Rattle.resolver_model_peer.specs.declared.effects.Effect.{Effect as Told}
+use Rattle.resolver_peer_step.specs.EngineSteps.{written_of}
+use Rattle.resolver_peer_step.specs.Said.{Codec}
 use Rattle.resolver.specs.EngineLaws.{HaveNewIds}
 use Rattle.resolver.specs.Matching.{Engine, Matches}
 

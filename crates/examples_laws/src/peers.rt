@@ -2,12 +2,12 @@
 
 ghost use Rattle.std.specs.Prelude.{◌≡◌, ◌++◌, ℕ, IfOk, map, not};
 ghost use Rattle.std.specs.List.{list_any};
-ghost use Rattle.resolver_machine.specs.Steps.{stops};
-ghost use Rattle.resolver_trying.specs.Fetcher.{IsTimely};
-ghost use Rattle.resolver_peer.specs.Parties.{parties};
-ghost use Rattle.resolver_peer.specs.Peer.{Machine, opening};
-ghost use Rattle.resolver_parts.specs.EngineSteps.{all_fed};
-ghost use Rattle.resolver_parts.specs.Said.{answer_of, codec};
+ghost use Rattle.resolver_model.specs.Steps.{stops};
+ghost use Rattle.resolver_fetch_scan.specs.Fetcher.{IsTimely};
+ghost use Rattle.resolver_model_peer.specs.Parties.{parties};
+ghost use Rattle.resolver_model_peer.specs.Peer.{Machine, opening};
+ghost use Rattle.resolver_peer_step.specs.EngineSteps.{all_fed};
+ghost use Rattle.resolver_peer_step.specs.Said.{answer_of, codec};
 ghost use Rattle.resolver.specs.Matching.{Matches};
 ghost use Rattle.resolver.specs.Taking.{Took};
 ghost use Rattle.examples_laws.specs.Feeding.{FedWell};

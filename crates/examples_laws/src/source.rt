@@ -2,12 +2,12 @@
 
 ghost use Rattle.std.specs.Prelude.{◌≡◌, ◌≢◌, ◌<◌, ◌^◌, ◌++◌, IfOk, map, not};
 ghost use Rattle.std.specs.List.{list_any};
-ghost use Rattle.resolver_machine.specs.Steps.{stops};
-ghost use Rattle.resolver_root.specs.Names.{names};
-ghost use Rattle.resolver_source.specs.Opaque.{Failed, opening};
-ghost use Rattle.resolver_source.specs.OpaqueInputs.{input_of};
-ghost use Rattle.resolver_source.specs.OpaqueLaws.{HasDemand};
-ghost use Rattle.resolver_source.specs.OpaqueSteps.{Runs, answer_of};
+ghost use Rattle.resolver_model.specs.Steps.{stops};
+ghost use Rattle.resolver_types.specs.Names.{names};
+ghost use Rattle.resolver_model_opaque.specs.Opaque.{Failed, opening};
+ghost use Rattle.resolver_model_opaque.specs.OpaqueInputs.{input_of};
+ghost use Rattle.resolver_model_opaque.specs.OpaqueLaws.{HasDemand};
+ghost use Rattle.resolver_model_opaque.specs.OpaqueSteps.{Runs, answer_of};
 
 use resolver::base::{Faithful, Fault, Predicate};
 use resolver::opaque::laws::{opaque_inputs_are_lawful, opaque_keeps_demand, opaque_runs_join};

@@ -2,21 +2,21 @@
 use Rattle.std.proofs.Common.{◌≡◌, refl, ap, sym, ◌∙◌, subst, ℕ, Bool, true, false, List, [], ◌∷◌, Option, None, Some, Result, Ok, Err}
 use Rattle.std.specs.Option.{option_and_then, option_map}
 use Rattle.std.specs.Prelude.{option_to_list, ◌≢◌, ⊤}
-use Rattle.resolver_base.specs.declared.base.fault.Fault.{Fault}
-use Rattle.resolver_trying.specs.declared.scan.Ask.{Ask as Question}
-use Rattle.resolver_trying.specs.declared.scan.Ask.TheVariants as asks
-use Rattle.resolver_trying.specs.Fetcher.{AsksNewId}
-use Rattle.resolver_trying.specs.FetcherLaws.{AllAre}
-use Rattle.resolver_trying.specs.Scan.{Turn, is_over, takes}
-use Rattle.resolver_peer.specs.Parties.{Parties, orders_of}
-use Rattle.resolver_peer.specs.Peer.{Machine, Done, Effect, Ask, Event, Input, Happens, Answers, Status, Running, Ended, Failed, and_then, answer_of, does, is_due, question, scanned, scanned_if, snapshot, step_in, step_of, step_running, turned, wake_up}
-use Rattle.resolver_peer.specs.PeerLaws.{HasNewId}
-use Rattle.resolver_peer.specs.PeerRun.{Fed}
-use Rattle.resolver_peer.specs.PeerSteps.{step_on}
-use Rattle.resolver_peer.proofs.AsksEligible.{IsCalmIfDone, does-calm}
-use Rattle.resolver_peer.proofs.IdsAreNew.{no-question}
-use Rattle.resolver_peer.proofs.Told.{all-append}
-use Rattle.resolver_parts.specs.Tied.{fetcher_of}
+use Rattle.resolver_base.specs.declared.fault.Fault.{Fault}
+use Rattle.resolver_fetch_scan.specs.declared.scan.Ask.{Ask as Question}
+use Rattle.resolver_fetch_scan.specs.declared.scan.Ask.TheVariants as asks
+use Rattle.resolver_fetch_scan.specs.Fetcher.{AsksNewId}
+use Rattle.resolver_fetch_scan.specs.FetcherLaws.{AllAre}
+use Rattle.resolver_fetch_scan.specs.Scan.{Turn, is_over, takes}
+use Rattle.resolver_model_peer.specs.Parties.{Parties, orders_of}
+use Rattle.resolver_model_peer.specs.Peer.{Machine, Done, Effect, Ask, Event, Input, Happens, Answers, Status, Running, Ended, Failed, and_then, answer_of, does, is_due, question, scanned, scanned_if, snapshot, step_in, step_of, step_running, turned, wake_up}
+use Rattle.resolver_model_peer.specs.PeerLaws.{HasNewId}
+use Rattle.resolver_model_peer.specs.PeerRun.{Fed}
+use Rattle.resolver_model_peer.specs.PeerSteps.{step_on}
+use Rattle.resolver_model_peer.proofs.AsksEligible.{IsCalmIfDone, does-calm}
+use Rattle.resolver_model_peer.proofs.IdsAreNew.{no-question}
+use Rattle.resolver_model_peer.proofs.Told.{all-append}
+use Rattle.resolver_peer_step.specs.Tied.{fetcher_of}
 
 module _ {K S P : Type 0} (a : Parties K S P) where
   -- the machine asks under a new id

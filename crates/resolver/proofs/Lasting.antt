@@ -3,24 +3,24 @@ use Rattle.std.proofs.Common.{◌≡◌, refl, ◌∙◌, subst, ℕ, ◌^◌, B
 use Rattle.std.specs.Option.{option_and_then, option_map}
 use Rattle.std.specs.Prelude.{nat_lt, ◌==◌, ⊤}
 use Rattle.std.specs.Map.{lookup}
-use Rattle.resolver_base.specs.declared.base.fault.Fault.{Fault}
-use Rattle.resolver_root.specs.declared.root.Outcome.{Outcome}
-use Rattle.resolver_root.specs.declared.root.Outcome.TheVariants.{Invalid, Resolved, Unresolved, Ignored}
-use Rattle.resolver_root.specs.Subscribers.{without}
-use Rattle.resolver_asked.specs.declared.requests.request.Request.{Request}
-use Rattle.resolver_request.specs.declared.wire.Payload.{Payload}
-use Rattle.resolver_request.specs.declared.wire.Payload.TheVariants as payloads
-use Rattle.resolver_asked.specs.Requests.{overdue}
-use Rattle.resolver_trying.specs.Scan.{Turn, begins, is_over, takes}
-use Rattle.resolver_machine.specs.declared.ruling.Ruling.{Ruling}
-use Rattle.resolver_machine.specs.declared.ruling.Ruling.TheVariants as rulings
-use Rattle.resolver_machine.specs.Verdicts.{ruling}
-use Rattle.resolver_peer.specs.declared.named.Serve.{Serve}
-use Rattle.resolver_peer.specs.Parties.{Parties, orders_of}
-use Rattle.resolver_peer.specs.PeerRows.{Row, Phase, Waits, Asked, Judged}
-use Rattle.resolver_peer.specs.Peer.{Done, Effect, Event, Fetch, Retain, PeerSet, Blocked, ActiveDue, PendingDue, Verdict, Served, Net, End, Input, Happens, Answers, Item, Machine, Open, Status, Ended, account_for, and_then, answer_of, answered, closed, does, fetch, fetch_one, happen, is_due, is_newer, misses, quiet, receive, responds, row_of, ruled, ruled_at, ruled_in, scanned, scanned_if, served_by, serves_rest, snapshot, step_of, step_running, times_out, verdict_on, wake_up, with_sent}
-use Rattle.resolver_peer.specs.PeerRun.{Fed}
-use Rattle.resolver_parts.specs.EngineSteps.{running}
+use Rattle.resolver_base.specs.declared.fault.Fault.{Fault}
+use Rattle.resolver_types.specs.declared.outcome.Outcome.{Outcome}
+use Rattle.resolver_types.specs.declared.outcome.Outcome.TheVariants.{Invalid, Resolved, Unresolved, Ignored}
+use Rattle.resolver_types.specs.Subscribers.{without}
+use Rattle.resolver_fetch_requests.specs.declared.requests.request.Request.{Request}
+use Rattle.resolver_wire.specs.declared.wire.Payload.{Payload}
+use Rattle.resolver_wire.specs.declared.wire.Payload.TheVariants as payloads
+use Rattle.resolver_fetch_requests.specs.Requests.{overdue}
+use Rattle.resolver_fetch_scan.specs.Scan.{Turn, begins, is_over, takes}
+use Rattle.resolver_model.specs.declared.ruling.Ruling.{Ruling}
+use Rattle.resolver_model.specs.declared.ruling.Ruling.TheVariants as rulings
+use Rattle.resolver_model.specs.Verdicts.{ruling}
+use Rattle.resolver_model_peer.specs.declared.named.Serve.{Serve}
+use Rattle.resolver_model_peer.specs.Parties.{Parties, orders_of}
+use Rattle.resolver_model_peer.specs.PeerRows.{Row, Phase, Waits, Asked, Judged}
+use Rattle.resolver_model_peer.specs.Peer.{Done, Effect, Event, Fetch, Retain, PeerSet, Blocked, ActiveDue, PendingDue, Verdict, Served, Net, End, Input, Happens, Answers, Item, Machine, Open, Status, Ended, account_for, and_then, answer_of, answered, closed, does, fetch, fetch_one, happen, is_due, is_newer, misses, quiet, receive, responds, row_of, ruled, ruled_at, ruled_in, scanned, scanned_if, served_by, serves_rest, snapshot, step_of, step_running, times_out, verdict_on, wake_up, with_sent}
+use Rattle.resolver_model_peer.specs.PeerRun.{Fed}
+use Rattle.resolver_peer_step.specs.EngineSteps.{running}
 
 module _ {K S P : Type 0} where
   -- what is done has this status, where it is done

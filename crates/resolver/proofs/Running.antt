@@ -5,13 +5,13 @@ use Rattle.std.proofs.lemmas.List.Folds.{list_any-append}
 use Rattle.std.specs.List.{list_any}
 use Rattle.std.specs.declared.vec.Vec.{Vec}
 use Rattle.std.specs.declared.alloc.Global.{Global}
-use Rattle.resolver_base.specs.declared.base.fault.Fault.{Fault}
-use Rattle.resolver_machine.specs.Steps.{stops}
-use Rattle.resolver_peer.specs.Parties.{Parties}
-use Rattle.resolver_peer.specs.Peer.{Machine}
-use Rattle.resolver_peer.specs.declared.effects.Effect.{Effect as Told}
-use Rattle.resolver_peer.specs.declared.inputs.Input.{Input as CodeInput}
-use Rattle.resolver_parts.specs.Said.{Codec, answer_of, fed_of}
+use Rattle.resolver_base.specs.declared.fault.Fault.{Fault}
+use Rattle.resolver_model.specs.Steps.{stops}
+use Rattle.resolver_model_peer.specs.Parties.{Parties}
+use Rattle.resolver_model_peer.specs.Peer.{Machine}
+use Rattle.resolver_model_peer.specs.declared.effects.Effect.{Effect as Told}
+use Rattle.resolver_model_peer.specs.declared.inputs.Input.{Input as CodeInput}
+use Rattle.resolver_peer_step.specs.Said.{Codec, answer_of, fed_of}
 use Rattle.resolver.specs.Matching.{Engine, Matches}
 use Rattle.resolver.specs.Taking.{Answers, Took, latest}
 use Rattle.resolver.proofs.Stepped.{Becomes}

@@ -4,11 +4,11 @@ use Rattle.std.specs.Map.{lookup, set_value}
 use Rattle.std.specs.BTreeMap.{is_at}
 use Rattle.resolver_delivery.specs.declared.entry.Entry.{Entry}
 use Rattle.resolver_delivery.specs.Entries.{Numbered, changed, changed_at, entry_of, with_state}
-use Rattle.resolver_peer.specs.declared.named.Source.{Source}
-use Rattle.resolver_peer.specs.Parties.{Parties}
-use Rattle.resolver_peer.specs.Peer.{Machine}
-use Rattle.resolver_parts.specs.declared.parts.Parts.{Parts}
-use Rattle.resolver_parts.specs.Tied.{Agrees, Holds, held_of, open_of}
+use Rattle.resolver_model_peer.specs.declared.named.Source.{Source}
+use Rattle.resolver_model_peer.specs.Parties.{Parties}
+use Rattle.resolver_model_peer.specs.Peer.{Machine}
+use Rattle.resolver_peer_step.specs.declared.parts.Parts.{Parts}
+use Rattle.resolver_peer_step.specs.Tied.{Agrees, Holds, held_of, open_of}
 
 some-same : {X : Type 0} (x y : X) → Some x ≡ Some y → x ≡ y
 some-same x y same = cc

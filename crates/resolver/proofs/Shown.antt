@@ -13,26 +13,26 @@ use Rattle.std.specs.Option.{option_and_then, option_map}
 use Rattle.std.specs.Ordering.{is_eq}
 use Rattle.std.specs.declared.cmp.Ordering.{Ordering}
 use Rattle.std.specs.declared.cmp.Ordering.TheVariants.{Less, Equal, Greater}
-use Rattle.resolver_root.specs.Names.{same_key}
-use Rattle.resolver_priorities.specs.Priorities.{is_of}
-use Rattle.resolver_root.specs.Table.{is_asked}
+use Rattle.resolver_types.specs.Names.{same_key}
+use Rattle.resolver_priority_set.specs.Priorities.{is_of}
+use Rattle.resolver_types.specs.Table.{is_asked}
 use Rattle.resolver_delivery.specs.Entries.{Numbered, number_of}
-use Rattle.resolver_asked.specs.declared.requests.request.Request.{Request}
-use Rattle.resolver_asked.specs.Requests.{is_for, request_for}
-use Rattle.resolver_trying.specs.declared.place.Place.{Place}
-use Rattle.resolver_trying.specs.Fetcher as calls
-use Rattle.resolver_machine.proofs.Rows.{each_found}
-use Rattle.resolver_peer.specs.declared.named.Source.{Source}
-use Rattle.resolver_peer.specs.Parties.{Parties, names_of, orders_of}
-use Rattle.resolver_peer.specs.PeerRows.{Row, Phase, Waits, Asked, Judged, request_in, request_of}
-use Rattle.resolver_peer.specs.Peer.{Machine, row_of}
+use Rattle.resolver_fetch_requests.specs.declared.requests.request.Request.{Request}
+use Rattle.resolver_fetch_requests.specs.Requests.{is_for, request_for}
+use Rattle.resolver_fetch_scan.specs.declared.place.Place.{Place}
+use Rattle.resolver_fetch_scan.specs.Fetcher as calls
+use Rattle.resolver_model.proofs.Rows.{each_found}
+use Rattle.resolver_model_peer.specs.declared.named.Source.{Source}
+use Rattle.resolver_model_peer.specs.Parties.{Parties, names_of, orders_of}
+use Rattle.resolver_model_peer.specs.PeerRows.{Row, Phase, Waits, Asked, Judged, request_in, request_of}
+use Rattle.resolver_model_peer.specs.Peer.{Machine, row_of}
 use Rattle.resolver.specs.declared.p2p.rows.Phase.TheVariants as phases
 use Rattle.resolver.specs.declared.p2p.rows.Row.{Row as ListedRow}
 use Rattle.resolver.specs.Listed.{listed, listed_phase}
-use Rattle.resolver_parts.specs.Tied.{IsOwn, IsSound, count_of, demand_of, fetcher_of, held_of, holds_in, holds_of, place_in, place_of}
-use Rattle.resolver_parts.proofs.Keeping.{IsSingle, all-by, all-imply, find-in_turn}
-use Rattle.resolver_parts.proofs.Retained.{apart-ids, apart-places, by_id-turn, number-held, numbers_total, places_total}
-use Rattle.resolver_parts.proofs.Slots.{around-given, around-some, given-slot, lookup-slot, slot}
+use Rattle.resolver_peer_step.specs.Tied.{IsOwn, IsSound, count_of, demand_of, fetcher_of, held_of, holds_in, holds_of, place_in, place_of}
+use Rattle.resolver_peer_step.proofs.Keeping.{IsSingle, all-by, all-imply, find-in_turn}
+use Rattle.resolver_peer_step.proofs.Retained.{apart-ids, apart-places, by_id-turn, number-held, numbers_total, places_total}
+use Rattle.resolver_peer_step.proofs.Slots.{around-given, around-some, given-slot, lookup-slot, slot}
 
 -- a value that is found, with its key
 entry-found : {K X : Type 0} (t : K → Bool) (es : List (K × X)) → lookup t es ≡ option_map (λ e. e.1) (lookup_entry t es)

@@ -1,26 +1,26 @@
 -- What a step is to the machines that the engine's core matches.
 use Rattle.std.proofs.Common.{◌≡◌, ◌≢◌, refl, ap, sym, ◌∙◌, subst, ℕ, Bool, true, false, List, [], ◌++◌, map, Result, Ok, Err, if◌then◌else◌}
-use Rattle.resolver_base.specs.declared.base.fault.Fault.{Fault}
-use Rattle.resolver_base.specs.declared.base.fault.Fault.TheVariants as faults
-use Rattle.resolver_peer.specs.Parties.{Parties}
-use Rattle.resolver_peer.specs.Peer.{Machine, Status, Running, Ended, Failed}
-use Rattle.resolver_peer.specs.Peer as machines
-use Rattle.resolver_peer.specs.PeerRun.{Fed}
-use Rattle.resolver_peer.specs.PeerSteps.{step_on}
-use Rattle.resolver_peer.specs.declared.effects.Effect.{Effect as Told}
+use Rattle.resolver_base.specs.declared.fault.Fault.{Fault}
+use Rattle.resolver_base.specs.declared.fault.Fault.TheVariants as faults
+use Rattle.resolver_model_peer.specs.Parties.{Parties}
+use Rattle.resolver_model_peer.specs.Peer.{Machine, Status, Running, Ended, Failed}
+use Rattle.resolver_model_peer.specs.Peer as machines
+use Rattle.resolver_model_peer.specs.PeerRun.{Fed}
+use Rattle.resolver_model_peer.specs.PeerSteps.{step_on}
+use Rattle.resolver_model_peer.specs.declared.effects.Effect.{Effect as Told}
 use Rattle.resolver.specs.declared.p2p.stepping.Status.{Status as CodeStatus}
 use Rattle.resolver.specs.declared.p2p.stepping.Status.TheVariants as statuses
-use Rattle.resolver_peer.specs.declared.inputs.Event.{Event as CodeEvent}
-use Rattle.resolver_peer.specs.declared.inputs.Event.TheVariants as events
-use Rattle.resolver_peer.specs.declared.inputs.Input.{Input as CodeInput}
-use Rattle.resolver_peer.specs.declared.inputs.Input.TheVariants as inputs
-use Rattle.resolver_parts.specs.declared.parts.Parts.{Parts}
+use Rattle.resolver_model_peer.specs.declared.inputs.Event.{Event as CodeEvent}
+use Rattle.resolver_model_peer.specs.declared.inputs.Event.TheVariants as events
+use Rattle.resolver_model_peer.specs.declared.inputs.Input.{Input as CodeInput}
+use Rattle.resolver_model_peer.specs.declared.inputs.Input.TheVariants as inputs
+use Rattle.resolver_peer_step.specs.declared.parts.Parts.{Parts}
 use Rattle.resolver.specs.Ending.{is_end, is_end_event}
-use Rattle.resolver_parts.specs.Going.{IsTied}
-use Rattle.resolver_parts.specs.EngineSteps.{Stepped, Taken, Takes, running, written_of}
+use Rattle.resolver_peer_step.specs.Going.{IsTied}
+use Rattle.resolver_peer_step.specs.EngineSteps.{Stepped, Taken, Takes, running, written_of}
 use Rattle.resolver.specs.Matching.{Engine, IsOf, IsTiedUnlessFailed, Matches, UnlessFailed, held_by, is_final, status_of}
-use Rattle.resolver_parts.specs.Said.{Codec, event_of, fed_of, written}
-use Rattle.resolver_parts.specs.Tied.{Agrees}
+use Rattle.resolver_peer_step.specs.Said.{Codec, event_of, fed_of, written}
+use Rattle.resolver_peer_step.specs.Tied.{Agrees}
 use Rattle.resolver.proofs.Lasting.{behind, behind_input, status-behind}
 
 module _ {K S P : Type 0} (a : Parties K S P) where

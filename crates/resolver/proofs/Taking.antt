@@ -7,29 +7,29 @@ use Rattle.std.proofs.lemmas.Cmp.{eq_by_cmp_equiv}
 use Rattle.std.proofs.lemmas.List.{map-append}
 use Rattle.std.specs.declared.vec.Vec.{Vec}
 use Rattle.std.specs.declared.alloc.Global.{Global}
-use Rattle.resolver_base.specs.declared.base.fault.Fault.{Fault}
-use Rattle.resolver_base.specs.declared.base.fault.Fault.TheVariants as faults
-use Rattle.resolver_trying.specs.declared.config.Config.{Config}
-use Rattle.resolver_trying.specs.FetcherLaws.{AllAre}
-use Rattle.resolver_machine.specs.Lawful.{AnswersAlike}
-use Rattle.resolver_machine.specs.Steps.{stops}
-use Rattle.resolver_machine.proofs.Runs.{goes-on as none-stops, runs-join}
-use Rattle.resolver_peer.specs.Parties.{Parties, names_of}
-use Rattle.resolver_peer.specs.Peer.{Machine, Effect, Event, Fetch, Retain, PeerSet, Blocked, ActiveDue, PendingDue, Verdict, Served, Net, End, Input, Happens, Answers, Status, Running, Ended, Failed, opening, step, step_in}
-use Rattle.resolver_peer.specs.PeerLaws.{AcceptsSend, EndsOrRetries, HasNewId}
-use Rattle.resolver_peer.specs.PeerRun.{Fed, after, effects_of}
-use Rattle.resolver_peer.specs.PeerSteps as machines
-use Rattle.resolver_peer.specs.PeerSteps.{MayWant, step_on}
-use Rattle.resolver_peer.specs.declared.effects.Effect.{Effect as Told}
-use Rattle.resolver_peer.specs.declared.inputs.Input.{Input as CodeInput}
-use Rattle.resolver_peer.proofs.AskedOnce.{asked_once}
-use Rattle.resolver_peer.proofs.AsksWell.{asks_well}
-use Rattle.resolver_peer.proofs.PaysOnce.{is_paid_once}
-use Rattle.resolver_peer.proofs.PaysSenders.{is_paid_to_senders}
-use Rattle.resolver_peer.proofs.PeerKept.{demand_is_kept}
-use Rattle.resolver_peer.proofs.PeerRunLaws.{goes-on, keeps-awake}
-use Rattle.resolver_parts.specs.EngineSteps.{Takes, all_fed, later, running, written_of}
-use Rattle.resolver_parts.specs.Said.{Codec, answer_of, fed_of}
+use Rattle.resolver_base.specs.declared.fault.Fault.{Fault}
+use Rattle.resolver_base.specs.declared.fault.Fault.TheVariants as faults
+use Rattle.resolver_fetch_scan.specs.declared.config.Config.{Config}
+use Rattle.resolver_fetch_scan.specs.FetcherLaws.{AllAre}
+use Rattle.resolver_model.specs.Lawful.{AnswersAlike}
+use Rattle.resolver_model.specs.Steps.{stops}
+use Rattle.resolver_model.proofs.Runs.{goes-on as none-stops, runs-join}
+use Rattle.resolver_model_peer.specs.Parties.{Parties, names_of}
+use Rattle.resolver_model_peer.specs.Peer.{Machine, Effect, Event, Fetch, Retain, PeerSet, Blocked, ActiveDue, PendingDue, Verdict, Served, Net, End, Input, Happens, Answers, Status, Running, Ended, Failed, opening, step, step_in}
+use Rattle.resolver_model_peer.specs.PeerLaws.{AcceptsSend, EndsOrRetries, HasNewId}
+use Rattle.resolver_model_peer.specs.PeerRun.{Fed, after, effects_of}
+use Rattle.resolver_model_peer.specs.PeerSteps as machines
+use Rattle.resolver_model_peer.specs.PeerSteps.{MayWant, step_on}
+use Rattle.resolver_model_peer.specs.declared.effects.Effect.{Effect as Told}
+use Rattle.resolver_model_peer.specs.declared.inputs.Input.{Input as CodeInput}
+use Rattle.resolver_model_peer.proofs.AskedOnce.{asked_once}
+use Rattle.resolver_model_peer.proofs.AsksWell.{asks_well}
+use Rattle.resolver_model_peer.proofs.PaysOnce.{is_paid_once}
+use Rattle.resolver_model_peer.proofs.PaysSenders.{is_paid_to_senders}
+use Rattle.resolver_model_peer.proofs.PeerKept.{demand_is_kept}
+use Rattle.resolver_model_peer.proofs.PeerRunLaws.{goes-on, keeps-awake}
+use Rattle.resolver_peer_step.specs.EngineSteps.{Takes, all_fed, later, running, written_of}
+use Rattle.resolver_peer_step.specs.Said.{Codec, answer_of, fed_of}
 use Rattle.resolver.specs.EngineLaws.{AsksOnce, HaveNewIds, RunsWell}
 use Rattle.resolver.specs.Matching.{Engine, IsOf, Matches, UnlessFailed}
 use Rattle.resolver.specs.Taking.{CoresTake, Took, latest}

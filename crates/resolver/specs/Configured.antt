@@ -1,5 +1,5 @@
 -- What an engine's configuration says of its fetcher.
-use Rattle.resolver_trying.specs.declared.config.Config.{Config as Fetching}
+use Rattle.resolver_fetch_scan.specs.declared.config.Config.{Config as Fetching}
 use Rattle.resolver.specs.declared.p2p.config.Config.{Config}
 
 -- how requests are made

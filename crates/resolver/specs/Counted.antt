@@ -1,9 +1,9 @@
 -- What an engine counts of what happens.
 use Rattle.std.specs.Prelude.{◌≡◌, Bool, true, false, not, Option, None, Some, if◌then◌else◌, ◌==◌, ◌^◌, ℕ, nat_lt, List, length, ⊤}
-use Rattle.resolver.specs.declared.p2p.counting.Noted.{Noted}
-use Rattle.resolver.specs.declared.p2p.counting.Noted.TheVariants.{Served}
-use Rattle.resolver_root.specs.declared.root.Outcome.{Outcome}
-use Rattle.resolver_root.specs.declared.root.Outcome.TheVariants.{Invalid, Resolved, Unresolved, Ignored}
+use Rattle.resolver.specs.declared.p2p.counts.Noted.{Noted}
+use Rattle.resolver.specs.declared.p2p.counts.Noted.TheVariants.{Served}
+use Rattle.resolver_types.specs.declared.outcome.Outcome.{Outcome}
+use Rattle.resolver_types.specs.declared.outcome.Outcome.TheVariants.{Invalid, Resolved, Unresolved, Ignored}
 use Rattle.resolver_metrics.specs.Counters.{measured, raised}
 use Rattle.resolver_metrics.specs.declared.metrics.Durations.{Durations}
 use Rattle.resolver_metrics.specs.declared.metrics.Tally.{Tally}

@@ -1,20 +1,20 @@
 -- What holds of every run of an engine, in the words of its machine.
 use Rattle.std.specs.Prelude.{◌≡◌, ◌<◌, ◌+◌, Bool, List, ◌∷◌, ◌++◌, length, map, Result, ⊤}
-use Rattle.resolver_base.specs.declared.base.fault.Fault.{Fault}
-use Rattle.resolver_trying.specs.declared.config.Config.{Config}
-use Rattle.resolver_trying.specs.FetcherLaws.{AllAre}
-use Rattle.resolver_machine.specs.Steps as steps
-use Rattle.resolver_peer.specs.Parties.{Parties}
-use Rattle.resolver_peer.specs.Peer.{Machine, Effect, Failed, opening, step}
-use Rattle.resolver_peer.specs.PeerRun.{Fed, after, effects_of}
-use Rattle.resolver_peer.specs.PeerSteps as machines
-use Rattle.resolver_peer.specs.PeerSteps.{MayWant, step_on}
-use Rattle.resolver_peer.specs.PeerLaws.{AcceptsSend, AsksWell, EndsOrRetries, HasNewId, KeepsDemand, PaysOnce, PaysRightly}
-use Rattle.resolver_peer.specs.PeerRunLaws.{KeepsAwake}
-use Rattle.resolver_peer.specs.declared.effects.Effect.{Effect as Told}
-use Rattle.resolver_parts.specs.EngineSteps.{Runs, step_written, written_of}
+use Rattle.resolver_base.specs.declared.fault.Fault.{Fault}
+use Rattle.resolver_fetch_scan.specs.declared.config.Config.{Config}
+use Rattle.resolver_fetch_scan.specs.FetcherLaws.{AllAre}
+use Rattle.resolver_model.specs.Steps as steps
+use Rattle.resolver_model_peer.specs.Parties.{Parties}
+use Rattle.resolver_model_peer.specs.Peer.{Machine, Effect, Failed, opening, step}
+use Rattle.resolver_model_peer.specs.PeerRun.{Fed, after, effects_of}
+use Rattle.resolver_model_peer.specs.PeerSteps as machines
+use Rattle.resolver_model_peer.specs.PeerSteps.{MayWant, step_on}
+use Rattle.resolver_model_peer.specs.PeerLaws.{AcceptsSend, AsksWell, EndsOrRetries, HasNewId, KeepsDemand, PaysOnce, PaysRightly}
+use Rattle.resolver_model_peer.specs.PeerRunLaws.{KeepsAwake}
+use Rattle.resolver_model_peer.specs.declared.effects.Effect.{Effect as Told}
+use Rattle.resolver_peer_step.specs.EngineSteps.{Runs, step_written, written_of}
 use Rattle.resolver.specs.Matching.{Engine, Matches}
-use Rattle.resolver_parts.specs.Said.{Codec}
+use Rattle.resolver_peer_step.specs.Said.{Codec}
 
 module _ {K S P : Type 0} (a : Parties K S P) where
   -- each request among these answers has an id that no request without an answer holds

@@ -1,5 +1,5 @@
 -- The machine's rows as the engine lists them.
-use Rattle.resolver_peer.specs.PeerRows.{Row, Phase, Waits, Asked, Judged}
+use Rattle.resolver_model_peer.specs.PeerRows.{Row, Phase, Waits, Asked, Judged}
 use Rattle.resolver.specs.declared.p2p.rows.Phase.{Phase as ListedPhase}
 use Rattle.resolver.specs.declared.p2p.rows.Phase.TheVariants as phases
 use Rattle.resolver.specs.declared.p2p.rows.Row.{Row as ListedRow}

@@ -1,18 +1,18 @@
 -- What the engine's core is of a peer machine.
 use Rattle.std.specs.Prelude.{◌≡◌, ℕ, Bool, true, false, List, map, Option}
-use Rattle.resolver_base.specs.declared.base.fault.Fault.{Fault}
-use Rattle.resolver_base.specs.declared.base.fault.Fault.TheVariants as faults
+use Rattle.resolver_base.specs.declared.fault.Fault.{Fault}
+use Rattle.resolver_base.specs.declared.fault.Fault.TheVariants as faults
 use Rattle.resolver_delivery.specs.Entries.{Numbered}
-use Rattle.resolver_trying.specs.Fetcher.{Fetcher}
-use Rattle.resolver_peer.specs.declared.named.Serve.{Serve}
-use Rattle.resolver_peer.specs.declared.named.Source.{Source}
-use Rattle.resolver_peer.specs.Parties.{Parties}
-use Rattle.resolver_peer.specs.Peer.{Machine, Status, Running, Ended, Failed}
+use Rattle.resolver_fetch_scan.specs.Fetcher.{Fetcher}
+use Rattle.resolver_model_peer.specs.declared.named.Serve.{Serve}
+use Rattle.resolver_model_peer.specs.declared.named.Source.{Source}
+use Rattle.resolver_model_peer.specs.Parties.{Parties}
+use Rattle.resolver_model_peer.specs.Peer.{Machine, Status, Running, Ended, Failed}
 use Rattle.resolver.specs.declared.p2p.stepping.Status.{Status as CodeStatus}
 use Rattle.resolver.specs.declared.p2p.stepping.Status.TheVariants as statuses
-use Rattle.resolver_parts.specs.declared.parts.Parts.{Parts}
-use Rattle.resolver_parts.specs.Going.{IsTied}
-use Rattle.resolver_parts.specs.Tied.{IsSound, demand_of, fetcher_of, held_of, holds_of, open_of}
+use Rattle.resolver_peer_step.specs.declared.parts.Parts.{Parts}
+use Rattle.resolver_peer_step.specs.Going.{IsTied}
+use Rattle.resolver_peer_step.specs.Tied.{IsSound, demand_of, fetcher_of, held_of, holds_of, open_of}
 
 abbrev pub status_of : CodeStatus → Status
 status_of statuses.Running = Running

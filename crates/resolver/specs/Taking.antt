@@ -3,15 +3,15 @@ use Rattle.std.specs.Prelude.{◌≡◌, ℕ, Bool, true, false, List, [], ◌�
 use Rattle.std.specs.List.{list_any}
 use Rattle.std.specs.declared.vec.Vec.{Vec}
 use Rattle.std.specs.declared.alloc.Global.{Global}
-use Rattle.resolver_base.specs.declared.base.fault.Fault.{Fault}
-use Rattle.resolver_machine.specs.Steps.{stops}
-use Rattle.resolver_peer.specs.Parties.{Parties}
-use Rattle.resolver_peer.specs.Peer.{Machine, Effect}
-use Rattle.resolver_peer.specs.PeerSteps as machines
-use Rattle.resolver_peer.specs.declared.effects.Effect.{Effect as Told}
-use Rattle.resolver_peer.specs.declared.inputs.Input.{Input as CodeInput}
-use Rattle.resolver_parts.specs.EngineSteps.{Takes, all_fed, later, written_of}
-use Rattle.resolver_parts.specs.Said.{Codec, answer_of, fed_of}
+use Rattle.resolver_base.specs.declared.fault.Fault.{Fault}
+use Rattle.resolver_model.specs.Steps.{stops}
+use Rattle.resolver_model_peer.specs.Parties.{Parties}
+use Rattle.resolver_model_peer.specs.Peer.{Machine, Effect}
+use Rattle.resolver_model_peer.specs.PeerSteps as machines
+use Rattle.resolver_model_peer.specs.declared.effects.Effect.{Effect as Told}
+use Rattle.resolver_model_peer.specs.declared.inputs.Input.{Input as CodeInput}
+use Rattle.resolver_peer_step.specs.EngineSteps.{Takes, all_fed, later, written_of}
+use Rattle.resolver_peer_step.specs.Said.{Codec, answer_of, fed_of}
 use Rattle.resolver.specs.EngineLaws.{HaveNewIds, RunsWell}
 use Rattle.resolver.specs.Matching.{Engine, Matches}
 

@@ -6,4 +6,4 @@
 pub use resolver_delivery::{
     Aborted, Completion, Entries, Entry, Open, Response, completion, entries, entry,
 };
-pub use resolver_loop::Tracker;
+pub use resolver_runtime::Tracker;

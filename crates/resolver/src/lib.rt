@@ -6,11 +6,11 @@
 //! `p2p::Engine` is such a core with all that its loop will poll.
 #![tactic(auto)]
 
-pub use resolver_actor::laws;
 pub use resolver_demand::subscribers;
-pub use resolver_loop::{Consumer, Ending, Handle, Resolver, TargetedResolver};
 pub use resolver_mailbox::mailbox;
-pub use resolver_root::{Delivery, Fetch, Outcome, Resolution};
+pub use resolver_opaque_actor::laws;
+pub use resolver_runtime::{Consumer, Ending, Handle, Resolver, TargetedResolver};
+pub use resolver_types::{Delivery, Fetch, Outcome, Resolution};
 
 pub mod backfill;
 pub mod base;

@@ -4,6 +4,5 @@
 //! a handle of the mailbox of its loop, which `init` runs over a `Fetcher` in a thread; `open` gives the loop
 //! itself.
 
-pub use resolver_actor::laws;
-pub use resolver_actor::opaque::{Actor, Effect, Event, Input, Phase, Row};
-pub use resolver_opaque::{Fetcher, Loop, Resolver, init, open};
+pub use resolver_opaque_actor::{Actor, Effect, Event, Input, Phase, Row, laws};
+pub use resolver_opaque_loop::{Fetcher, Loop, Resolver, init, open};

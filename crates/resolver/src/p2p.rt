@@ -5,9 +5,9 @@
 //! them, and answers with effects. `Engine` owns such a core, the end of its mailbox that takes messages,
 //! and what its caller lends. `Mailbox` is a handle of that mailbox.
 
-mod asking;
+mod answers;
 mod config;
-mod counting;
+mod counts;
 mod engine;
 mod hands;
 pub mod laws;
@@ -21,11 +21,12 @@ mod stepping;
 pub use config::Config;
 pub use engine::Engine;
 pub use looping::Loop;
-pub use resolver_asking::mailbox::{FetchKey, Mailbox, Message};
 pub use resolver_fetch::fetcher;
-pub use resolver_loop::Producer;
+pub use resolver_handles::mailbox::{FetchKey, Mailbox, Message};
 pub use resolver_metrics::metrics::{Durations, Metrics, Tally};
-pub use resolver_peer::{effects, inputs, named};
-pub use resolver_request::wire::{MAX_RESPONSE_OVERHEAD, REQUEST_OVERHEAD, max_message_size};
-pub use resolver_request::{sampling, score, wire};
+pub use resolver_model_peer::{effects, inputs, named};
+pub use resolver_runtime::Producer;
+pub use resolver_sampling::{sampling, score};
+pub use resolver_wire::wire;
+pub use resolver_wire::wire::{MAX_RESPONSE_OVERHEAD, REQUEST_OVERHEAD, max_message_size};
 pub use stepping::Core;

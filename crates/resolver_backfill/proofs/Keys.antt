@@ -10,7 +10,7 @@ use Rattle.std.specs.Set.{remove_key}
 use Rattle.std.specs.Ordering.{is_eq, is_lt, match_ordering, ordering_reverse}
 use Rattle.std.specs.declared.cmp.Ordering.{Ordering}
 use Rattle.std.specs.declared.cmp.Ordering.TheVariants.{Less, Equal, Greater}
-use Rattle.resolver_ingress.proofs.Right.{flips-by, follows-by}
+use Rattle.resolver_messages.proofs.Right.{flips-by, follows-by}
 use Rattle.resolver_backfill.specs.Alike.{has_alike}
 use Rattle.resolver_backfill.specs.Plans.{from_bound, has, is_below, lacking, met, unmet, with_keys}
 

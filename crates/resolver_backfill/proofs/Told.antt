@@ -4,10 +4,10 @@ use Rattle.std.specs.declared.cmp.Ordering.{Ordering}
 use Rattle.std.specs.Cmp.{IsTotalOrder}
 use Rattle.std.specs.List.{list_any}
 use Rattle.std.specs.Result.{OnErr}
-use Rattle.resolver_base.specs.declared.base.fault.Fault.{Fault}
-use Rattle.resolver_base.specs.declared.base.fault.Fault.TheVariants.{OutOfMemory}
-use Rattle.resolver_base.specs.declared.base.feedback.Feedback.{Feedback}
-use Rattle.resolver_root.specs.declared.root.Fetch.{Fetch}
+use Rattle.resolver_base.specs.declared.fault.Fault.{Fault}
+use Rattle.resolver_base.specs.declared.fault.Fault.TheVariants.{OutOfMemory}
+use Rattle.resolver_base.specs.declared.feedback.Feedback.{Feedback}
+use Rattle.resolver_types.specs.declared.fetch.Fetch.{Fetch}
 use Rattle.resolver_backfill.specs.Plans.{Plan, fetches_of, is_below, let_go, let_go_below, met, settled, settled_below, without_below, without_keys}
 use Rattle.resolver_backfill.specs.Telling.{AsksNew, CallsOnce}
 use Rattle.resolver_backfill.proofs.Keys.{from-all, unmet-all}

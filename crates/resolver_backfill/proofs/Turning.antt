@@ -2,14 +2,14 @@
 use Rattle.std.proofs.Common.{◌≡◌, ◌∙◌, sym, ap, refl, Bool, true, false, true≢false, not, ◌&&◌, ◌||◌, cond, ℕ, List, [], ◌∷◌, Option, None, Some, filter, map, Result}
 use Rattle.std.specs.List.{list_all, list_any}
 use Rattle.std.specs.Cmp.{IsTotalOrder}
-use Rattle.resolver_base.specs.declared.base.fault.Fault.{Fault}
-use Rattle.resolver_base.specs.declared.base.feedback.Feedback.{Feedback}
-use Rattle.resolver_root.specs.Names.{Names, same_key, same_subscriber}
-use Rattle.resolver_root.specs.Subscribers.{is_among}
-use Rattle.resolver_root.specs.Demand.{Act, Pair, acts, added_all, kept, mark_of, without_named, IsSameDemand}
-use Rattle.resolver_root.specs.declared.root.Fetch.{Fetch}
-use Rattle.resolver_ingress.proofs.Marks.{both-true, or_else, or_else-assoc, mark_of-append, mark_of-added_all}
-use Rattle.resolver_ingress.proofs.Right.{flips-by, follows-by, mark_of-kept}
+use Rattle.resolver_base.specs.declared.fault.Fault.{Fault}
+use Rattle.resolver_base.specs.declared.feedback.Feedback.{Feedback}
+use Rattle.resolver_types.specs.Names.{Names, same_key, same_subscriber}
+use Rattle.resolver_types.specs.Subscribers.{is_among}
+use Rattle.resolver_types.specs.Demand.{Act, Pair, acts, added_all, kept, mark_of, without_named, IsSameDemand}
+use Rattle.resolver_types.specs.declared.fetch.Fetch.{Fetch}
+use Rattle.resolver_messages.proofs.Marks.{both-true, or_else, or_else-assoc, mark_of-append, mark_of-added_all}
+use Rattle.resolver_messages.proofs.Right.{flips-by, follows-by, mark_of-kept}
 use Rattle.resolver_backfill.specs.Plans.{Plan, Without, fetched, fetches_of, has, is_below, is_gone, keeps, lacking, let_go, let_go_below, met, settled, settled_below, wanting, without_below, without_keys}
 use Rattle.resolver_backfill.specs.Given.{Call, Want, Done, DoneBelow, Forget, KeepsGiven, Lacks, Restores, Turns, called, fetch_told, given, is_due, others, pair_of, retain_told, turned, turned_all}
 use Rattle.resolver_backfill.specs.Telling.{TakenTurns, if_taken, is_taken}

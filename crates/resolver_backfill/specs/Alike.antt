@@ -4,7 +4,7 @@ use Rattle.std.specs.Cmp.{IsTotalOrder}
 use Rattle.std.specs.Ordering.{is_eq, is_lt}
 use Rattle.std.specs.declared.cmp.Ordering.{Ordering}
 use Rattle.std.specs.declared.cmp.Ordering.TheVariants.{Less, Equal, Greater}
-use Rattle.resolver_root.specs.Names.{Names, same_key, same_subscriber}
+use Rattle.resolver_types.specs.Names.{Names, same_key, same_subscriber}
 use Rattle.resolver_backfill.specs.Plans.{Without, has, is_below, is_below_any, keeps, is_gone}
 
 equal_by : (o : Ordering) → is_eq o ≡ true → o ≡ Equal

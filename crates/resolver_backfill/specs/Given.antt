@@ -1,10 +1,10 @@
 -- What a plan asks for, on any demand, and that its calls keep to it.
 use Rattle.std.specs.Prelude.{◌≡◌, ℕ, Bool, true, false, List, [], ◌∷◌, ◌++◌, Option, None, Some, map}
 use Rattle.std.specs.List.{list_all, list_any}
-use Rattle.resolver_root.specs.Names.{Names, same_subscriber}
-use Rattle.resolver_root.specs.Subscribers.{is_among}
-use Rattle.resolver_root.specs.Demand.{Act, Adds, Keeps, Pair, acts, without_named, IsSameDemand}
-use Rattle.resolver_root.specs.declared.root.Fetch.{Fetch}
+use Rattle.resolver_types.specs.Names.{Names, same_subscriber}
+use Rattle.resolver_types.specs.Subscribers.{is_among}
+use Rattle.resolver_types.specs.Demand.{Act, Adds, Keeps, Pair, acts, without_named, IsSameDemand}
+use Rattle.resolver_types.specs.declared.fetch.Fetch.{Fetch}
 use Rattle.resolver_backfill.specs.Plans.{Plan, Without, fetched, fetches_of, keeps, let_go, let_go_below, settled, settled_below, wanting}
 
 -- A call of a plan whose answer the resolver is told. `Forget` tells nothing: the key came, for these subscribers.

@@ -5,8 +5,8 @@ use Rattle.std.specs.BTreeMap.{is_at}
 use Rattle.std.specs.BTreeSet.{insert_key}
 use Rattle.std.specs.Ordering.{is_lt}
 use Rattle.std.specs.declared.cmp.Ordering.{Ordering}
-use Rattle.resolver_root.specs.Names.{Names, same_subscriber}
-use Rattle.resolver_root.specs.declared.root.Fetch.{Fetch}
+use Rattle.resolver_types.specs.Names.{Names, same_subscriber}
+use Rattle.resolver_types.specs.declared.fetch.Fetch.{Fetch}
 
 -- who wants keys, with which mark, and the wanted keys in their order
 pub record Plan (K S : Type 0) : Type 0 where

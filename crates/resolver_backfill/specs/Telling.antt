@@ -1,11 +1,11 @@
 -- A plan that has a resolver told: how many calls there are, and what becomes of the plan.
 use Rattle.std.specs.Prelude.{◌≡◌, ◌⊎◌, Bool, true, false, List, [], ◌∷◌, Option, None, Some, Result, Ok, Err, map, if◌then◌else◌}
-use Rattle.resolver_base.specs.declared.base.fault.Fault.{Fault}
-use Rattle.resolver_base.specs.declared.base.fault.Fault.TheVariants.{OutOfMemory}
-use Rattle.resolver_base.specs.declared.base.feedback.Feedback.{Feedback}
-use Rattle.resolver_base.specs.declared.base.feedback.Feedback.TheVariants as feedbacks
-use Rattle.resolver_root.specs.declared.root.Fetch.{Fetch}
-use Rattle.resolver_root.specs.Names.{Names}
+use Rattle.resolver_base.specs.declared.fault.Fault.{Fault}
+use Rattle.resolver_base.specs.declared.fault.Fault.TheVariants.{OutOfMemory}
+use Rattle.resolver_base.specs.declared.feedback.Feedback.{Feedback}
+use Rattle.resolver_base.specs.declared.feedback.Feedback.TheVariants as feedbacks
+use Rattle.resolver_types.specs.declared.fetch.Fetch.{Fetch}
+use Rattle.resolver_types.specs.Names.{Names}
 use Rattle.resolver_backfill.specs.Plans.{Plan, Without, fetched, let_go, let_go_below, settled, settled_below, wanting}
 use Rattle.resolver_backfill.specs.Given.{Turns, fetch_told, retain_told}
 

@@ -1,9 +1,9 @@
 -- A worked plan: what each call answers, and the demand that it comes to.
 use Rattle.std.specs.Prelude.{◌≡◌, ℕ, true, false, List, [], ◌∷◌, Option, None, Some}
 use Rattle.std.specs.Ordering.{nat_cmp}
-use Rattle.resolver_root.specs.Names.{Names, names}
-use Rattle.resolver_root.specs.Demand.{Pair}
-use Rattle.resolver_root.specs.declared.root.Fetch.{Fetch}
+use Rattle.resolver_types.specs.Names.{Names, names}
+use Rattle.resolver_types.specs.Demand.{Pair}
+use Rattle.resolver_types.specs.declared.fetch.Fetch.{Fetch}
 use Rattle.resolver_backfill.specs.Plans.{Plan, Without, fetched, keeps, let_go, let_go_below}
 use Rattle.resolver_backfill.specs.Given.{Call, Want, Done, DoneBelow, Forget, called_all, given, others_all, turned_all}
 

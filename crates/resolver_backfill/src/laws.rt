@@ -1,9 +1,9 @@
 //! What is true of every plan, and a worked one. Each function says one of these, and does nothing.
 
 ghost use Rattle.std.specs.Prelude.{◌≡◌, List, [], ◌∷◌, Result};
-ghost use Rattle.resolver_base.specs.declared.base.fault.Fault.{Fault};
-ghost use Rattle.resolver_base.specs.declared.base.feedback.Feedback.{Feedback};
-ghost use Rattle.resolver_root.specs.Names.{names};
+ghost use Rattle.resolver_base.specs.declared.fault.Fault.{Fault};
+ghost use Rattle.resolver_base.specs.declared.feedback.Feedback.{Feedback};
+ghost use Rattle.resolver_types.specs.Names.{names};
 ghost use Rattle.resolver_backfill.specs.Plans.{Plan, fetches_of, settled};
 ghost use Rattle.resolver_backfill.specs.Given.{Call, KeepsGiven, Restores};
 ghost use Rattle.resolver_backfill.specs.Telling.{TakenTurns};

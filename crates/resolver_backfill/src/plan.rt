@@ -3,14 +3,14 @@
 ghost use Rattle.std.specs.Prelude.{◌≡◌, ◌≢◌, [], ◌∷◌, None, IfOk, IfErr, OnOk, OnErr};
 ghost use Rattle.std.specs.List.{list_any};
 ghost use Rattle.std.specs.List.Sorted.{IsStrictlySortedBy};
-ghost use Rattle.resolver_base.specs.declared.base.fault.Fault.TheVariants.{OutOfMemory};
-ghost use Rattle.resolver_root.specs.Names.{names};
+ghost use Rattle.resolver_base.specs.declared.fault.Fault.TheVariants.{OutOfMemory};
+ghost use Rattle.resolver_types.specs.Names.{names};
 ghost use Rattle.resolver_backfill.specs.Plans.{fetched, fetches_of, from_bound, is_below, lacking, let_go, let_go_below, met, settled, settled_below, unmet, wanting, with_keys};
 ghost use Rattle.resolver_backfill.specs.Given.{Restores, Turns, fetch_told, retain_told};
 
 use crate::without::Without;
-use resolver_base::base::Fault;
-use resolver_root::Fetch;
+use resolver_base::Fault;
+use resolver_types::Fetch;
 use std::alloc::{AllocError, Global};
 use std::collections::BTreeSet;
 use std::marker::Model;

@@ -1,15 +1,15 @@
 //! A plan that has a resolver told, by at most one call of its handle.
 
 ghost use Rattle.std.specs.Prelude.{◌≡◌, ◌≢◌, IfErr, IfOk, map};
-ghost use Rattle.resolver_base.specs.declared.base.fault.Fault.TheVariants.{Exhausted, OutOfMemory};
+ghost use Rattle.resolver_base.specs.declared.fault.Fault.TheVariants.{Exhausted, OutOfMemory};
 ghost use Rattle.resolver_backfill.specs.Plans.{fetched, fetches_of, let_go, let_go_below, settled, settled_below, wanting};
 ghost use Rattle.resolver_backfill.specs.Telling.{AsksNew, AsksOf, CallsOnce, RetainsNew, if_taken, is_taken};
 
 use crate::plan::Plan;
 use crate::without::Without;
-use resolver_base::base::{Fault, Feedback, PublicKey, Span};
-use resolver_loop::{Resolver, TargetedResolver};
-use resolver_root::{Fetch, NonEmptyVec};
+use resolver_base::{Fault, Feedback, PublicKey, Span};
+use resolver_runtime::{Resolver, TargetedResolver};
+use resolver_types::{Fetch, NonEmptyVec};
 use std::alloc::{AllocError, Global};
 
 /// Wants these keys too, and asks the resolver for those that weren't wanted, by one call, of these

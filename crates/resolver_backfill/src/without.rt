@@ -2,13 +2,13 @@
 
 ghost use Rattle.std.specs.Prelude.{◌≡◌, None};
 ghost use Rattle.std.specs.Option.{option_copied};
-ghost use Rattle.resolver_root.specs.Names.{names};
+ghost use Rattle.resolver_types.specs.Names.{names};
 ghost use Rattle.std.proofs.Common.{◌∙◌, sym};
 ghost use Rattle.resolver_backfill.specs.Plans.{is_gone, keeps, without_below};
 ghost use Rattle.resolver_backfill.specs.Alike.{keeps_alike};
 
-use resolver_base::base::Faithful;
-use resolver_root::Predicate;
+use resolver_base::Faithful;
+use resolver_types::Predicate;
 use std::alloc::{AllocError, Global};
 use std::collections::BTreeSet;
 use std::marker::Model;

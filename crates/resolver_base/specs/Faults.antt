@@ -1,7 +1,7 @@
 -- The numbers and the names of the refusals.
 use Rattle.std.specs.Prelude.{ℕ, List, codes}
-use Rattle.resolver_base.specs.declared.base.fault.Fault.{Fault}
-use Rattle.resolver_base.specs.declared.base.fault.Fault.TheVariants as faults
+use Rattle.resolver_base.specs.declared.fault.Fault.{Fault}
+use Rattle.resolver_base.specs.declared.fault.Fault.TheVariants as faults
 
 abbrev pub number_of : Fault → ℕ
 number_of faults.OutOfMemory = 1

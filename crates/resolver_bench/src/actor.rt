@@ -3,8 +3,8 @@
 use crate::fault::Fault;
 use crate::spent::{Driven, Kind, Load, Steps, Times, drive};
 use crate::workload::{All, fetch, listed, scattered};
-use resolver_actor::opaque::{Actor, Event, Input};
-use resolver_root::{Outcome, Resolution};
+use resolver_opaque_actor::{Actor, Event, Input};
+use resolver_types::{Outcome, Resolution};
 use std::alloc::Global;
 use std::rt::Clock;
 

@@ -8,12 +8,12 @@ use bytes::Bytes;
 use resolver::p2p::Core;
 use resolver::p2p::effects::Effect;
 use resolver::p2p::inputs::{Event, Happening, Input};
-use resolver_base::base::Check;
-use resolver_fakes::wide::Name;
+use resolver_base::Check;
 use resolver_fetch::fetcher::{Answer, Ask};
-use resolver_root::{Outcome, Resolution};
+use resolver_types::{Outcome, Resolution};
 use std::alloc::Global;
 use std::rt::Clock;
+use tests_support::wide::Name;
 
 /// The subscribers of each key.
 const SUBSCRIBERS: u16 = 4;

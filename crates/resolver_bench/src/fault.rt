@@ -50,14 +50,14 @@ impl From<io::Error> for Fault {
     }
 }
 
-impl From<resolver_base::base::Fault> for Fault {
-    fn from(_: resolver_base::base::Fault) -> Fault {
+impl From<resolver_base::Fault> for Fault {
+    fn from(_: resolver_base::Fault) -> Fault {
         Fault::Refused
     }
 }
 
 /// The same of what a part answers.
-pub fn done(answered: Result<(), resolver_base::base::Fault>) -> Result<(), Fault> {
+pub fn done(answered: Result<(), resolver_base::Fault>) -> Result<(), Fault> {
     match answered {
         Ok(()) => Ok(()),
         Err(fault) => Err(fault.into()),

@@ -5,10 +5,9 @@
 
 use crate::fault::{Fault, done};
 use crate::workload::{Peer, named, scattered};
-use resolver_base::base;
-use resolver_base::base::Check;
+use resolver_base::Check;
 use resolver_fetch::fetcher::{Answer, Ask, Fetcher};
-use resolver_root::NonEmptyVec;
+use resolver_types::NonEmptyVec;
 use std::alloc::Global;
 
 /// A fetcher of numbered keys, which asks numbered peers.
@@ -91,7 +90,9 @@ pub fn begin(fetcher: &mut Node) -> Result<bool, Fault> {
 }
 
 /// What is asked.
-fn question(answered: Result<Option<Ask<u64, Peer>>, base::Fault>) -> Result<Asked, Fault> {
+fn question(
+    answered: Result<Option<Ask<u64, Peer>>, resolver_base::Fault>,
+) -> Result<Asked, Fault> {
     match answered {
         Ok(None) => Ok(Asked::Nothing),
         Ok(Some(Ask::Draw(bound))) => Ok(Asked::Draw(bound)),

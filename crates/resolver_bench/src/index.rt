@@ -3,7 +3,7 @@
 use crate::fault::Fault;
 use crate::spent::{Driven, Kind, Load, Steps, Times, drive};
 use crate::workload::scattered;
-use resolver_request::sampling::WeightedIndex;
+use resolver_sampling::sampling::WeightedIndex;
 use std::alloc::Global;
 use std::rt::Clock;
 

@@ -5,11 +5,10 @@ use crate::fault::Fault;
 use crate::spent::{Driven, Kind, Load, Steps, Times, take_each, tell};
 use crate::workload::{All, fetch, scattered};
 use futures::{FutureExt, StreamExt};
-use resolver_base::base;
-use resolver_base::base::Feedback;
-use resolver_ingress::ingress::Message;
+use resolver_base::Feedback;
 use resolver_mailbox::mailbox::{self, Naming, Receiver, Sender, Unrecorded};
-use resolver_root::NonEmptyVec;
+use resolver_messages::Message;
+use resolver_types::NonEmptyVec;
 use std::alloc::Global;
 use std::random::RandomSource;
 use std::rt::Clock;
@@ -69,7 +68,7 @@ pub fn put<N: Naming, R: Wait>(
     handle: &mut Putter<N, R>,
     key: u64,
     subscriber: (u16, u64),
-) -> Result<Feedback, base::Fault> {
+) -> Result<Feedback, resolver_base::Fault> {
     let subscribers = NonEmptyVec::new(alloc, subscriber)?;
     let items = fetch(alloc, key, subscribers, ())?;
     handle.enqueue(Message::Fetch(items))
@@ -97,12 +96,12 @@ fn take_waiting<R: AllocGlobal + Wait + RandomSource + Drop>(
 fn taken<R: AllocGlobal + Wait + RandomSource + Drop>(
     rt: &R,
     receiver: &mut Taker<Unrecorded, R>,
-) -> Result<Option<Message<u64, u16, (), All>>, base::Fault> {
+) -> Result<Option<Message<u64, u16, (), All>>, resolver_base::Fault> {
     match receiver.next().now_or_never(rt) {
         Ok(Some(Some(Ok(message)))) => Ok(Some(message)),
         Ok(Some(Some(Err(fault)))) => Err(fault),
         Ok(_) => Ok(None),
-        Err(_) => Err(base::Fault::OutOfMemory),
+        Err(_) => Err(resolver_base::Fault::OutOfMemory),
     }
 }
 

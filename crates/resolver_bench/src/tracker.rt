@@ -4,10 +4,10 @@
 use crate::fault::Fault;
 use crate::spent::{Driven, Kind, Load, Steps, Times, drive};
 use crate::workload::{All, fetch, scattered};
-use resolver_backlog::Pending;
 use resolver_demand::subscribers::Tracker;
-use resolver_ingress::ingress::Message;
-use resolver_root::NonEmptyVec;
+use resolver_desk::Pending;
+use resolver_messages::Message;
+use resolver_types::NonEmptyVec;
 use std::alloc::Global;
 use std::rt::Clock;
 

@@ -4,11 +4,11 @@ ghost use Rattle.std.specs.Prelude.{true};
 ghost use Rattle.std.proofs.Common.{rules};
 
 use crate::fault::Fault;
-use resolver_base::base::{Faithful, PublicKey};
+use resolver_base::{Faithful, PublicKey};
 use resolver_fetch::fetcher::Config;
-use resolver_ingress::ingress::FetchKey;
 use resolver_mailbox::mailbox::Exact;
-use resolver_root::{NonEmptyVec, Predicate};
+use resolver_messages::FetchKey;
+use resolver_types::{NonEmptyVec, Predicate};
 use std::alloc::{AllocError, Global};
 
 /// Keeps every subscriber. No workload has a retain.

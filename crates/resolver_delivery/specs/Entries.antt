@@ -1,14 +1,14 @@
 -- Tracked keys and their deliveries, which are numbered.
 use Rattle.std.specs.Prelude.{ℕ, ◌+◌, Bool, true, false, List, filter, Option, None, Some, is_some, option_map, option_and_then, Result, Ok, Err, if◌then◌else◌, ◌==◌, ◌^◌, nat_lt}
-use Rattle.resolver_base.specs.declared.base.fault.Fault.{Fault}
-use Rattle.resolver_base.specs.declared.base.fault.Fault.TheVariants.{OutOfMemory, Exhausted}
+use Rattle.resolver_base.specs.declared.fault.Fault.{Fault}
+use Rattle.resolver_base.specs.declared.fault.Fault.TheVariants.{OutOfMemory, Exhausted}
 use Rattle.std.specs.Option.{option_map_or}
 use Rattle.std.specs.Map.{lookup, set_value, remove_entry}
 use Rattle.std.specs.BTreeMap.{insert_entry, is_at}
 use Rattle.std.specs.Ordering.{nat_cmp}
 use Rattle.std.specs.declared.cmp.Ordering.{Ordering}
-use Rattle.resolver_root.specs.declared.root.Delivery.{Delivery}
-use Rattle.resolver_root.specs.declared.root.Outcome.{Outcome}
+use Rattle.resolver_types.specs.declared.delivery.Delivery.{Delivery}
+use Rattle.resolver_types.specs.declared.outcome.Outcome.{Outcome}
 use Rattle.resolver_delivery.specs.declared.entry.Response.{Response}
 use Rattle.resolver_delivery.specs.declared.entry.Entry.{Entry}
 use Rattle.resolver_delivery.specs.declared.entry.Open.{Open}

@@ -2,7 +2,7 @@
 
 ghost use Rattle.std.specs.Prelude.{◌≡◌, IfOk};
 
-use resolver_root::{Delivery, Outcome};
+use resolver_types::{Delivery, Outcome};
 use std::alloc::AllocError;
 
 /// A delivery that is over.

@@ -10,12 +10,12 @@ ghost use Rattle.std.specs.Map.Iter.{ShowsInOrder, deref_pair};
 ghost use Rattle.resolver_delivery.specs.declared.entry.Entry.{Entry};
 ghost use Rattle.std.specs.BTreeMap.{get, insert_entry, is_at};
 ghost use Rattle.resolver_delivery.specs.Entries.{accepted, changed_at, ended, is_number, numbered, with_response, with_state};
-ghost use Rattle.resolver_base.specs.declared.base.fault.Fault.TheVariants.{OutOfMemory, Exhausted};
+ghost use Rattle.resolver_base.specs.declared.fault.Fault.TheVariants.{OutOfMemory, Exhausted};
 
 use crate::completion::{Aborted, Completion};
 use crate::entry::{Entry, Open, Response};
-use resolver_base::base::{Fault, Numbers};
-use resolver_root::{Delivery, Outcome};
+use resolver_base::{Fault, Numbers};
+use resolver_types::{Delivery, Outcome};
 use std::alloc::{AllocError, Global};
 use std::collections::BTreeMap;
 use std::collections::btree_map::Iter;

@@ -1,6 +1,6 @@
 //! What is kept of a tracked key, and of an open delivery.
 
-use resolver_root::Delivery;
+use resolver_types::Delivery;
 
 /// A response, as it is kept for the subscribers that come later.
 #[derive(Debug, Drop)]

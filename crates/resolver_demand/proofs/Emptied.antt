@@ -7,8 +7,8 @@ use Rattle.std.specs.declared.cmp.Ordering.TheVariants.{Less}
 use Rattle.std.specs.List.{AllByRecursion, list_any}
 use Rattle.std.specs.Map.{keys_of}
 use Rattle.std.specs.Map.Calls.{RetainsPairs}
-use Rattle.resolver_root.specs.Table.{kept, emptied, has_subscribers, pruned}
-use Rattle.resolver_root.proofs.Filtered.{list_any-filter}
+use Rattle.resolver_types.specs.Table.{kept, emptied, has_subscribers, pruned}
+use Rattle.resolver_types.proofs.Filtered.{list_any-filter}
 
 module _ {K S : Type 0} (keep : K → S → Bool) where
   -- the first key keeps a subscriber

@@ -11,8 +11,8 @@ use Rattle.std.specs.BTreeMap.{insert_entry}
 use Rattle.std.specs.Ordering.{match_ordering, ordering_reverse}
 use Rattle.std.specs.declared.cmp.Ordering.{Ordering}
 use Rattle.std.specs.declared.cmp.Ordering.TheVariants.{Less, Equal, Greater}
-use Rattle.resolver_root.specs.Subscribers.{attached, attached_all, without, is_among}
-use Rattle.resolver_root.specs.Table.{has_subscribers, kept, pruned}
+use Rattle.resolver_types.specs.Subscribers.{attached, attached_all, without, is_among}
+use Rattle.resolver_types.specs.Table.{has_subscribers, kept, pruned}
 use Rattle.resolver_demand.specs.Rows.{IsListed, AreListed}
 
 -- the keys of the entries that pass by their keys

@@ -9,7 +9,7 @@ use Rattle.std.specs.BTreeMap.{insert_entry, is_at}
 use Rattle.std.specs.Ordering.{is_eq, match_ordering, ordering_reverse}
 use Rattle.std.specs.declared.cmp.Ordering.{Ordering}
 use Rattle.std.specs.declared.cmp.Ordering.TheVariants.{Less, Equal, Greater}
-use Rattle.resolver_root.specs.Subscribers.{attached, attached_all}
+use Rattle.resolver_types.specs.Subscribers.{attached, attached_all}
 
 module _ {S : Type 0} (cmp : S → S → Ordering) where
   -- one that isn't there goes to its place

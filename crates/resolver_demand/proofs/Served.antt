@@ -1,9 +1,9 @@
 -- What a key's subscribers are once some of them are served.
 use Rattle.std.proofs.Common.{◌≡◌, ◌∙◌, ◌<◌, ℕ, List, [], ◌∷◌, None, Some, length, arith, refl, ap}
 use Rattle.std.specs.Map.{lookup, remove_entry, set_value}
-use Rattle.resolver_root.specs.Names.{Names, same_key}
-use Rattle.resolver_root.specs.Subscribers.{without}
-use Rattle.resolver_root.specs.Table.{left_with, rest_of, some_of, without_named, without_these}
+use Rattle.resolver_types.specs.Names.{Names, same_key}
+use Rattle.resolver_types.specs.Subscribers.{without}
+use Rattle.resolver_types.specs.Table.{left_with, rest_of, some_of, without_named, without_these}
 
 module _ {K S : Type 0} (n : Names K S) (key : K) where
   left-some : (d : List (K × List (S × ℕ))) (left : List (S × ℕ)) → 0 < length left → left_with n key left d ≡ set_value (same_key n key) d left

@@ -11,10 +11,10 @@ ghost use Rattle.std.specs.Prelude.{◌≡◌, ◌<◌, ◌↔◌, not, [], leng
 ghost use Rattle.std.specs.Option.{option_copied};
 ghost use Rattle.std.specs.Map.Iter.{ShowsInOrder, deref_pair};
 ghost use Rattle.resolver_demand.specs.declared.subscribers.listed.Subscribers.{Subscribers};
-ghost use Rattle.resolver_base.specs.declared.base.fault.Fault.TheVariants.{OutOfMemory};
-ghost use Rattle.resolver_root.specs.Names.{names, same_key};
-ghost use Rattle.resolver_root.specs.Subscribers.{attached_all, without};
-ghost use Rattle.resolver_root.specs.Table.{asked_one, emptied, is_asked, kept, rest_of, subscribers_of, without_key, without_named};
+ghost use Rattle.resolver_base.specs.declared.fault.Fault.TheVariants.{OutOfMemory};
+ghost use Rattle.resolver_types.specs.Names.{names, same_key};
+ghost use Rattle.resolver_types.specs.Subscribers.{attached_all, without};
+ghost use Rattle.resolver_types.specs.Table.{asked_one, emptied, is_asked, kept, rest_of, subscribers_of, without_key, without_named};
 ghost use Rattle.resolver_demand.specs.Rows.{AreListed, IsListed};
 ghost use Rattle.std.specs.List.Sorted.{IsStrictlySortedBy};
 ghost use Rattle.std.specs.Map.{keys_of, set_value};
@@ -22,8 +22,8 @@ ghost use Rattle.std.specs.BTreeMap.{get, is_at};
 
 use crate::subscribers::named::Named;
 pub use listed::Subscribers;
-use resolver_base::base::{Faithful, Fault};
-use resolver_root::{NonEmptyVec, Predicate};
+use resolver_base::{Faithful, Fault};
+use resolver_types::{NonEmptyVec, Predicate};
 use std::alloc::{AllocError, Global};
 use std::collections::BTreeMap;
 use std::collections::btree_map::{Entry, Iter};

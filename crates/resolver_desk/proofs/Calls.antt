@@ -3,13 +3,13 @@ use Rattle.std.proofs.Common.{◌≡◌, ℕ, ◌+◌, ◌≤◌, Bool, true, fa
 use Rattle.std.specs.Prelude.{◌&&◌}
 use Rattle.std.proofs.lemmas.List.{append-nil}
 use Rattle.std.proofs.lemmas.Bool.{eqb-true}
-use Rattle.resolver_root.specs.Names.{Names, same_key, same_subscriber}
-use Rattle.resolver_root.specs.Demand.{IsSameDemand, Pair, acts, added_all, mark_of}
-use Rattle.resolver_ingress.specs.Backlog.{Backlog, Fetches, IsRight, Retains, Told, act_of, asked_by, handled, waiting}
+use Rattle.resolver_types.specs.Names.{Names, same_key, same_subscriber}
+use Rattle.resolver_types.specs.Demand.{IsSameDemand, Pair, acts, added_all, mark_of}
+use Rattle.resolver_messages.specs.Waiting.{Backlog, Fetches, IsRight, Retains, Told, act_of, asked_by, handled, waiting}
 use Rattle.resolver_desk.specs.declared.entry.Entry.{Entry}
 use Rattle.resolver_desk.specs.Book.{Call, Close, IsLegal, Put, Take, all_ok, below, call_of, closes, late, places_of, puts, puts_of, takes}
-use Rattle.resolver_ingress.proofs.Marks.{mark_of-added_all, or_else}
-use Rattle.resolver_ingress.proofs.Right.{acts-told, mark_of-kept}
+use Rattle.resolver_messages.proofs.Marks.{mark_of-added_all, or_else}
+use Rattle.resolver_messages.proofs.Right.{acts-told, mark_of-kept}
 
 and_left : (a b : Bool) → (a && b) ≡ true → a ≡ true
 and_left true b fine = refl

@@ -2,10 +2,10 @@
 use Rattle.std.proofs.Common.{◌≡◌, ◌≤◌, ◌<◌, ℕ, ◌+◌, Bool, true, false, nat_lt, cond, List, [], ◌∷◌, ◌++◌, Option, None, Some, length, map, take, slice_index_or, subst, refl, sym, ◌∙◌, ap, arith, length-append}
 use Rattle.std.specs.Option.{ForSome, option_map}
 use Rattle.std.proofs.lemmas.List.{length-map}
-use Rattle.resolver_root.specs.Names.{Names, same_key, same_subscriber}
-use Rattle.resolver_ingress.specs.declared.ingress.Message.{Message}
+use Rattle.resolver_types.specs.Names.{Names, same_key, same_subscriber}
+use Rattle.resolver_messages.specs.declared.message.Message.{Message}
 use Rattle.resolver_desk.specs.declared.book.Book.{Book as Raw}
-use Rattle.resolver_ingress.specs.Backlog.{Backlog, IsRight, Item, Told, behind_first, handled, no_backlog, told_of, waiting}
+use Rattle.resolver_messages.specs.Waiting.{Backlog, IsRight, Item, Told, behind_first, handled, no_backlog, told_of, waiting}
 use Rattle.resolver_desk.specs.Book.{IsLegal, Close, Take, closes, puts_of}
 use Rattle.resolver_desk.specs.Desk.{Book, Desk, IsKept, book_of, desk_closed, desk_of, desk_put, desk_taken, empty_book, empty_desk, has_room, number_of, placed, with_call, with_put}
 use Rattle.resolver_desk.proofs.Calls.{closes-close, closes-put, closes-take, legal-behind, legal-close, legal-ready, legal-take}

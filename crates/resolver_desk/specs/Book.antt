@@ -1,7 +1,7 @@
 -- The calls on a desk that changed it, in their order.
 use Rattle.std.specs.Prelude.{◌≡◌, ◌≤◌, ℕ, zero, suc, ◌+◌, Bool, true, ◌&&◌, nat_eq, if◌then◌else◌, List, [], ◌∷◌, ◌++◌, length}
-use Rattle.resolver_root.specs.Names.{Names}
-use Rattle.resolver_ingress.specs.Backlog.{IsRight, Told, told_of}
+use Rattle.resolver_types.specs.Names.{Names}
+use Rattle.resolver_messages.specs.Waiting.{IsRight, Told, told_of}
 use Rattle.resolver_desk.specs.declared.entry.Entry.{Entry}
 use Rattle.resolver_desk.specs.declared.entry.Entry.TheVariants as entries
 

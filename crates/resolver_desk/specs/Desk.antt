@@ -1,12 +1,12 @@
 -- A desk: messages that are ready to be taken, and what waits while there is no room for more.
 use Rattle.std.specs.Prelude.{◌≡◌, ◌≤◌, ◌<◌, ℕ, ◌+◌, Bool, false, true, List, [], ◌∷◌, ◌++◌, length, map, take, nat_lt, if◌then◌else◌, Option, None, Some, is_some, unwrap_or}
 use Rattle.std.specs.Option.{ForSome, option_map, option_map_or}
-use Rattle.resolver_base.specs.declared.base.feedback.Feedback.{Feedback}
-use Rattle.resolver_base.specs.declared.base.feedback.Feedback.TheVariants as feedbacks
-use Rattle.resolver_root.specs.Names.{Names}
-use Rattle.resolver_ingress.specs.declared.ingress.Message.{Message}
+use Rattle.resolver_base.specs.declared.feedback.Feedback.{Feedback}
+use Rattle.resolver_base.specs.declared.feedback.Feedback.TheVariants as feedbacks
+use Rattle.resolver_types.specs.Names.{Names}
+use Rattle.resolver_messages.specs.declared.message.Message.{Message}
 use Rattle.resolver_desk.specs.declared.book.Book.{Book as Kept}
-use Rattle.resolver_ingress.specs.Backlog.{Backlog, Told, behind_first, handled, no_backlog, told_of, waiting}
+use Rattle.resolver_messages.specs.Waiting.{Backlog, Told, behind_first, handled, no_backlog, told_of, waiting}
 use Rattle.resolver_desk.specs.Book.{Call, Close, IsLegal, Put, Take, call_of, closes, puts_of}
 
 -- the calls so far, and the number of the next handle

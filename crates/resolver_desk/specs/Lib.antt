@@ -1,4 +1,4 @@
-pub use Rattle.resolver_root.specs.Names
-pub use Rattle.resolver_ingress.specs.Backlog
+pub use Rattle.resolver_types.specs.Names
+pub use Rattle.resolver_messages.specs.Waiting
 pub mod Book
 pub mod Desk

@@ -2,16 +2,16 @@
 
 ghost use Rattle.std.specs.Prelude.{◌≡◌, ◌≤◌, ◌<◌, ◌+◌, ◌^◌, map, length, None, IfOk, IfErr, OnOk, OnErr};
 ghost use Rattle.std.specs.Vec.{vec_len, vec_capacity};
-ghost use Rattle.resolver_base.specs.declared.base.fault.Fault.TheVariants.{Exhausted};
-ghost use Rattle.resolver_ingress.specs.Backlog.{told_of};
+ghost use Rattle.resolver_base.specs.declared.fault.Fault.TheVariants.{Exhausted};
+ghost use Rattle.resolver_messages.specs.Waiting.{told_of};
 ghost use Rattle.resolver_desk.specs.Book.{Close, Take, call_of, closes, puts_of};
 ghost use Rattle.resolver_desk.specs.Desk.{book_of, empty_book, next_of, number_of, with_call, with_put_of};
 ghost use Rattle.std.specs.HashMap.{spare};
 
 use crate::book::Book;
 use crate::entry::{Entry, Posted};
-use resolver_base::base::Fault;
-use resolver_ingress::ingress::Message;
+use resolver_base::Fault;
+use resolver_messages::Message;
 use std::alloc::{AllocError, Global};
 use std::collections::HashMap;
 

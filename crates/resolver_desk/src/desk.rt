@@ -4,19 +4,19 @@ ghost use Rattle.std.specs.Prelude.{◌≡◌, ◌≤◌, ◌<◌, ◌∷◌, �
 ghost use Rattle.std.specs.Option.{ForSome, option_copied, option_map};
 ghost use Rattle.std.specs.Vec.{vec_len, vec_capacity};
 ghost use Rattle.std.specs.VecDeque.{deque_capacity};
-ghost use Rattle.resolver_base.specs.declared.base.fault.Fault.TheVariants.{Exhausted, OutOfMemory};
-ghost use Rattle.resolver_root.specs.Names.{names};
-ghost use Rattle.resolver_ingress.specs.Backlog.{IsRight, behind_first, handled, told_of, waiting};
+ghost use Rattle.resolver_base.specs.declared.fault.Fault.TheVariants.{Exhausted, OutOfMemory};
+ghost use Rattle.resolver_types.specs.Names.{names};
+ghost use Rattle.resolver_messages.specs.Waiting.{IsRight, behind_first, handled, told_of, waiting};
 ghost use Rattle.resolver_desk.specs.Book.{Close, Take, call_of, closes};
 ghost use Rattle.resolver_desk.specs.Desk.{IsKept, IsOver, answered, book_of, calls_of, desk_closed, desk_put, desk_taken, empty_book, empty_desk, feedback_of, has_room, next_of, number_of, with_call, with_put};
 ghost use Rattle.std.specs.HashMap.{spare};
 
+use crate::Pending;
 use crate::book::Book;
 use crate::entry::Entry;
-use resolver_backlog::Pending;
-use resolver_base::base::{Fault, Feedback};
-use resolver_ingress::ingress::{Message, Metadata};
-use resolver_root::Predicate;
+use resolver_base::{Fault, Feedback};
+use resolver_messages::{Message, Metadata};
+use resolver_types::Predicate;
 use std::alloc::{AllocError, Global};
 use std::collections::VecDeque;
 use std::hash::Hash;
@@ -38,7 +38,7 @@ pub struct Desk<K: Ord + Hash, S: Ord, M: Metadata, Q: Predicate<K, S>> {
 impl<K: Ord + Hash, S: Ord, M: Metadata, Q: Predicate<K, S>> Model for Desk<K, S, M, Q> {
     ghost use Rattle.std.specs.Prelude.{◌≤◌};
     ghost use Rattle.std.specs.VecDeque.{deque_capacity};
-    ghost use Rattle.resolver_root.specs.Names.{names};
+    ghost use Rattle.resolver_types.specs.Names.{names};
     ghost use Rattle.resolver_desk.specs.Desk.{Desk, IsKept, desk_of};
 
     ghost Value = { Desk K S M Q };

@@ -1,6 +1,6 @@
 //! The calls on a desk.
 
-use resolver_ingress::ingress::Message;
+use resolver_messages::Message;
 
 /// A put that was answered Ok or Backoff.
 #[derive(Debug, Drop)]

@@ -10,10 +10,10 @@ use Rattle.std.specs.Map.{keys_of, lookup, lookup_key}
 use Rattle.std.specs.Ordering.{is_eq, ordering_reverse}
 use Rattle.std.specs.declared.cmp.Ordering.{Ordering}
 use Rattle.std.specs.declared.cmp.Ordering.TheVariants.{Less, Equal}
-use Rattle.resolver_trying.specs.Orders.{is_one_of}
-use Rattle.resolver_trying.specs.Known.{Known, askable_at, eligible, may_be_asked}
-use Rattle.resolver_request.specs.declared.score.Averages.{Averages}
-use Rattle.resolver_trying.proofs.Tried.{equal-is}
+use Rattle.resolver_fetch_scan.specs.Orders.{is_one_of}
+use Rattle.resolver_fetch_scan.specs.Known.{Known, askable_at, eligible, may_be_asked}
+use Rattle.resolver_sampling.specs.declared.score.Averages.{Averages}
+use Rattle.resolver_fetch_scan.proofs.Tried.{equal-is}
 
 and-true : (b : Bool) → (b && true) ≡ b
 and-true true = refl

@@ -3,16 +3,16 @@ use Rattle.std.proofs.Common.{◌≡◌, refl, ap, ◌∙◌, ℕ, Bool, true, f
 use Rattle.std.proofs.lemmas.Grind.{common_steps}
 use Rattle.std.specs.Prelude.{find, nat_lt}
 use Rattle.std.specs.Map.{set_value}
-use Rattle.resolver_request.specs.declared.score.Averages.{Averages}
-use Rattle.resolver_trying.specs.declared.trail.Try.{Try}
-use Rattle.resolver_trying.specs.Fetcher.{Fetcher, snapshot}
-use Rattle.resolver_trying.specs.Known.{askable, is_target, may_be_asked}
-use Rattle.resolver_trying.specs.Orders.{Orders}
-use Rattle.resolver_trying.specs.Scan.{can_be_tried, is_due, left, was_tried}
+use Rattle.resolver_sampling.specs.declared.score.Averages.{Averages}
+use Rattle.resolver_fetch_scan.specs.declared.trail.Try.{Try}
+use Rattle.resolver_fetch_scan.specs.Fetcher.{Fetcher, snapshot}
+use Rattle.resolver_fetch_scan.specs.Known.{askable, is_target, may_be_asked}
+use Rattle.resolver_fetch_scan.specs.Orders.{Orders}
+use Rattle.resolver_fetch_scan.specs.Scan.{can_be_tried, is_due, left, was_tried}
 use Rattle.resolver_fetch.specs.Seeking.{scan_at, tried_next}
-use Rattle.resolver_trying.specs.Snapshot.{known}
-use Rattle.resolver_trying.specs.Trying.{trying_for}
-use Rattle.resolver_trying.specs.Waiting.{Waiting}
+use Rattle.resolver_fetch_scan.specs.Snapshot.{known}
+use Rattle.resolver_fetch_scan.specs.Trying.{trying_for}
+use Rattle.resolver_fetch_scan.specs.Waiting.{Waiting}
 
 module _ {X : Type 0} (test more : X → Bool) where
   -- where none passes, none passes a further test

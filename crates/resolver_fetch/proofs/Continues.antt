@@ -7,16 +7,16 @@ use Rattle.std.proofs.lemmas.List.{length-map}
 use Rattle.std.specs.Cmp.{IsTotalOrder}
 use Rattle.std.specs.Ordering.{is_eq}
 use Rattle.std.specs.Prelude.{find, nat_lt}
-use Rattle.resolver_request.specs.declared.score.Averages.{Averages}
-use Rattle.resolver_trying.specs.declared.trail.Try.{Try}
-use Rattle.resolver_trying.specs.Orders.{Orders, same_key, same_peer}
-use Rattle.resolver_request.specs.Scores.{weight_of}
+use Rattle.resolver_sampling.specs.declared.score.Averages.{Averages}
+use Rattle.resolver_fetch_scan.specs.declared.trail.Try.{Try}
+use Rattle.resolver_fetch_scan.specs.Orders.{Orders, same_key, same_peer}
+use Rattle.resolver_sampling.specs.Scores.{weight_of}
 use Rattle.resolver_fetch.specs.Seeking.{scan_at}
-use Rattle.resolver_trying.specs.Snapshot.{Snapshot, eligible}
-use Rattle.resolver_trying.specs.Scan.{can_be_tried, is_due, left, was_tried}
-use Rattle.resolver_trying.specs.Trying.{Trying, apart_from, trying, trying_for, weighed}
-use Rattle.resolver_trying.specs.Waiting.{Waiting}
-use Rattle.resolver_trying.proofs.NeedsPairs.{any-append}
+use Rattle.resolver_fetch_scan.specs.Snapshot.{Snapshot, eligible}
+use Rattle.resolver_fetch_scan.specs.Scan.{can_be_tried, is_due, left, was_tried}
+use Rattle.resolver_fetch_scan.specs.Trying.{Trying, apart_from, trying, trying_for, weighed}
+use Rattle.resolver_fetch_scan.specs.Waiting.{Waiting}
+use Rattle.resolver_fetch_scan.proofs.NeedsPairs.{any-append}
 use Rattle.resolver_fetch.proofs.Seeking.{weighed-filter}
 
 -- Who passes two tests passes the one and then the other.

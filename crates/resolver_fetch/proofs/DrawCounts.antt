@@ -9,22 +9,22 @@ use Rattle.std.proofs.lemmas.Bool.{cases_eq, eq-eqb, lt-ltb, ne_eqb}
 use Rattle.std.proofs.lemmas.List.{length-map}
 use Rattle.std.proofs.lemmas.Map.Keys.{IsDistinct-head, IsDistinct-tail}
 use Rattle.std.proofs.lemmas.Map.Made.{IsDistinct-keys_filter}
-use Rattle.resolver_request.specs.declared.score.Averages.{Averages}
-use Rattle.resolver_trees.specs.Choice.{chosen, count_below}
-use Rattle.resolver_request.specs.Modes.{means_weighted}
-use Rattle.resolver_request.specs.Scores.{weight_of}
-use Rattle.resolver_trees.proofs.ChoiceCounts.{chooses_by_weight}
-use Rattle.resolver_request.proofs.Modes.{four_mean_weighted}
-use Rattle.resolver_trees.proofs.Counts.{count_from-same, count_from-one}
-use Rattle.resolver_trying.specs.declared.scan.Answer.TheVariants.{Drawn}
-use Rattle.resolver_trying.specs.declared.trail.Expected.TheVariants.{Mode, ByWeight, ByPlace}
-use Rattle.resolver_trying.specs.declared.trail.Try.{Try}
-use Rattle.resolver_trying.specs.Orders.{Orders}
-use Rattle.resolver_trying.specs.Waiting.{Waiting}
-use Rattle.resolver_trying.specs.Known.{is_eligible}
-use Rattle.resolver_trying.specs.Snapshot.{Snapshot, eligible, known}
-use Rattle.resolver_trying.specs.Scan.{Scan, weights, by_place, by_weight, left, was_tried, draws, answered}
-use Rattle.resolver_trying.specs.FetcherLaws.{IsAmong, DrawCounts, leads_to, is_weighted, is_check}
+use Rattle.resolver_sampling.specs.declared.score.Averages.{Averages}
+use Rattle.resolver_sampling.specs.Choice.{chosen, count_below}
+use Rattle.resolver_sampling.specs.Modes.{means_weighted}
+use Rattle.resolver_sampling.specs.Scores.{weight_of}
+use Rattle.resolver_sampling.proofs.ChoiceCounts.{chooses_by_weight}
+use Rattle.resolver_sampling.proofs.Modes.{four_mean_weighted}
+use Rattle.resolver_sampling.proofs.Counts.{count_from-same, count_from-one}
+use Rattle.resolver_fetch_scan.specs.declared.scan.Answer.TheVariants.{Drawn}
+use Rattle.resolver_fetch_scan.specs.declared.trail.Expected.TheVariants.{Mode, ByWeight, ByPlace}
+use Rattle.resolver_fetch_scan.specs.declared.trail.Try.{Try}
+use Rattle.resolver_fetch_scan.specs.Orders.{Orders}
+use Rattle.resolver_fetch_scan.specs.Waiting.{Waiting}
+use Rattle.resolver_fetch_scan.specs.Known.{is_eligible}
+use Rattle.resolver_fetch_scan.specs.Snapshot.{Snapshot, eligible, known}
+use Rattle.resolver_fetch_scan.specs.Scan.{Scan, weights, by_place, by_weight, left, was_tried, draws, answered}
+use Rattle.resolver_fetch_scan.specs.FetcherLaws.{IsAmong, DrawCounts, leads_to, is_weighted, is_check}
 
 eqb-suc : (m n : ℕ) → (suc m == suc n) ≡ (m == n)
 eqb-suc m n =

@@ -10,14 +10,14 @@ use Rattle.std.specs.Ordering.{is_le, nat_cmp, ordering_then}
 use Rattle.std.specs.Prelude.{find, nat_le, nat_lt}
 use Rattle.std.specs.declared.cmp.Ordering.{Ordering}
 use Rattle.std.specs.declared.cmp.Ordering.TheVariants.{Less}
-use Rattle.resolver_priorities.specs.Priorities.{from, pair_order}
-use Rattle.resolver_trying.specs.declared.place.Place.{Place}
-use Rattle.resolver_trying.specs.declared.trail.Try.{Try}
-use Rattle.resolver_trying.specs.Fetcher.{Fetcher, waiting_of}
-use Rattle.resolver_trying.specs.Orders.{Orders}
-use Rattle.resolver_waiting.specs.Pending.{later_due}
-use Rattle.resolver_waiting.specs.Queues.{placed}
-use Rattle.resolver_trying.specs.Scan.{least, next_due}
+use Rattle.resolver_priority_set.specs.Priorities.{from, pair_order}
+use Rattle.resolver_fetch_scan.specs.declared.place.Place.{Place}
+use Rattle.resolver_fetch_scan.specs.declared.trail.Try.{Try}
+use Rattle.resolver_fetch_scan.specs.Fetcher.{Fetcher, waiting_of}
+use Rattle.resolver_fetch_scan.specs.Orders.{Orders}
+use Rattle.resolver_fetch_waiting.specs.Pending.{later_due}
+use Rattle.resolver_fetch_waiting.specs.Queues.{placed}
+use Rattle.resolver_fetch_scan.specs.Scan.{least, next_due}
 use Rattle.resolver_fetch.specs.Seeking.{first_until, trying_key}
 
 -- what is behind a due past a moment is past it

@@ -1,13 +1,13 @@
 -- A scan that takes one answer more.
 use Rattle.std.proofs.Common.{◌≡◌, refl, ap, sym, subst, ◌∙◌, ℕ, List, [], ◌∷◌, ◌++◌, Option, None, Some}
-use Rattle.resolver_trying.specs.declared.scan.Answer.{Answer}
-use Rattle.resolver_trying.specs.declared.scan.Ask.{Ask}
-use Rattle.resolver_trying.specs.Fetcher.{Fetcher, asked_by, question, scan_begin, snapshot, turned}
+use Rattle.resolver_fetch_scan.specs.declared.scan.Answer.{Answer}
+use Rattle.resolver_fetch_scan.specs.declared.scan.Ask.{Ask}
+use Rattle.resolver_fetch_scan.specs.Fetcher.{Fetcher, asked_by, question, scan_begin, snapshot, turned}
 use Rattle.resolver_fetch.specs.Fetching.{GivesUp, GoesOn, Lent, Outside, Stops, TakesAll, TakesOne, given_up}
-use Rattle.resolver_trying.specs.Orders.{Orders}
+use Rattle.resolver_fetch_scan.specs.Orders.{Orders}
 use Rattle.resolver_fetch.specs.Progress.{Keeps, KeepsWith}
-use Rattle.resolver_trying.specs.Scan.{Scan, goes_on_with, next}
-use Rattle.resolver_trying.specs.Waiting.{Waiting}
+use Rattle.resolver_fetch_scan.specs.Scan.{Scan, goes_on_with, next}
+use Rattle.resolver_fetch_scan.specs.Waiting.{Waiting}
 
 module _ {K P S D : Type 0} (o : Orders K P) (out : Outside K P S D) where
   takes-one-more : (answers : List Answer) (answer : Answer) (before then after : Lent K P S D) → TakesAll o out answers before then → TakesOne o out answer then after

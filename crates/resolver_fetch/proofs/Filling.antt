@@ -8,14 +8,14 @@ use Rattle.std.specs.Ordering.{is_eq}
 use Rattle.std.specs.declared.cmp.Ordering.{Ordering}
 use Rattle.std.proofs.lemmas.Bool.Decides.{nat_tests}
 use Rattle.std.proofs.lemmas.Cmp.{eq_by_cmp_equiv}
-use Rattle.resolver_request.specs.declared.score.Averages.{Averages}
-use Rattle.resolver_request.specs.Scores.{weight_of}
-use Rattle.resolver_asked.specs.Loads.{Counts, counted, fills, frees, is_full, loaded, one_fewer, one_more}
-use Rattle.resolver_asked.proofs.Names.{lookup-same}
-use Rattle.resolver_trying.specs.Known.{Company, askable, is_local, known_by, may_be_asked, weight_in}
-use Rattle.resolver_trying.specs.Orders.{is_one_of}
-use Rattle.resolver_trying.specs.Pools.{IsWhole, Pool, whole}
-use Rattle.resolver_trying.proofs.Tried.{equal-is}
+use Rattle.resolver_sampling.specs.declared.score.Averages.{Averages}
+use Rattle.resolver_sampling.specs.Scores.{weight_of}
+use Rattle.resolver_fetch_requests.specs.Loads.{Counts, counted, fills, frees, is_full, loaded, one_fewer, one_more}
+use Rattle.resolver_fetch_requests.proofs.Names.{lookup-same}
+use Rattle.resolver_fetch_scan.specs.Known.{Company, askable, is_local, known_by, may_be_asked, weight_in}
+use Rattle.resolver_fetch_scan.specs.Orders.{is_one_of}
+use Rattle.resolver_fetch_scan.specs.Pools.{IsWhole, Pool, whole}
+use Rattle.resolver_fetch_scan.proofs.Tried.{equal-is}
 use Rattle.resolver_fetch.proofs.Refitting.{samples}
 
 -- the numbers behind it

@@ -2,11 +2,11 @@
 use Rattle.std.proofs.Common.{◌≡◌, refl, ap, sym, ◌∙◌, ℕ, ◌+◌, ◌-◌, ◌≤◌, Bool, true, false, cond, List, [], ◌∷◌, length, filter, Option, None, Some, option_map, if◌then◌else◌, arith}
 use Rattle.std.specs.BTreeMap.{is_at}
 use Rattle.std.specs.declared.cmp.Ordering.{Ordering}
-use Rattle.resolver_asked.specs.declared.requests.request.Request.{Request}
-use Rattle.resolver_asked.specs.Loads.{IsLoadedBy, Load, load_of, one_fewer}
-use Rattle.resolver_asked.specs.Requests.{is_to, requests_to}
-use Rattle.resolver_trying.specs.Known.{Known, with_load}
-use Rattle.resolver_fetch.specs.Left.{loaded_by, loaded_with}
+use Rattle.resolver_fetch_requests.specs.declared.requests.request.Request.{Request}
+use Rattle.resolver_fetch_requests.specs.Loads.{IsLoadedBy, Load, load_of, one_fewer}
+use Rattle.resolver_fetch_requests.specs.Requests.{is_to, requests_to}
+use Rattle.resolver_fetch_scan.specs.Known.{Known, with_load}
+use Rattle.resolver_fetch.specs.LeftPeers.{loaded_by, loaded_with}
 
 module _ {K P : Type 0} (R : P → P → Ordering) (keep : K → Bool) where
   abbrev pub kept : List (ℕ × Request K P) → List (ℕ × Request K P)

@@ -5,20 +5,20 @@ use Rattle.std.specs.BTreeMap.{insert_entry, is_at}
 use Rattle.std.specs.Cmp.{IsTotalOrder}
 use Rattle.std.specs.Ordering.{nat_cmp}
 use Rattle.std.specs.declared.cmp.Ordering.{Ordering}
-use Rattle.resolver_priorities.specs.Priorities.{priorities_of, put, without}
-use Rattle.resolver_asked.specs.declared.requests.request.Request.{Request}
-use Rattle.resolver_asked.specs.Ids.{is_held}
-use Rattle.resolver_asked.specs.Loads.{Counts, IsLoadedBy, Load, counted, load_of, loaded, one_fewer, one_more}
-use Rattle.resolver_waiting.specs.Pending.{Pending, awake}
-use Rattle.resolver_asked.proofs.Loaded.{load-without, requests-few}
-use Rattle.resolver_asked.specs.Requests.{IsTaken, ids_of, is_asked, matching, overdue, requests_to, taken_if, taken_matching, taken_overdue, taken_soonest, without_request}
-use Rattle.resolver_trying.specs.declared.cursor.Cursor.{Cursor}
-use Rattle.resolver_trying.specs.declared.place.Place.{Place}
+use Rattle.resolver_priority_set.specs.Priorities.{priorities_of, put, without}
+use Rattle.resolver_fetch_requests.specs.declared.requests.request.Request.{Request}
+use Rattle.resolver_fetch_requests.specs.Ids.{is_held}
+use Rattle.resolver_fetch_requests.specs.Loads.{Counts, IsLoadedBy, Load, counted, load_of, loaded, one_fewer, one_more}
+use Rattle.resolver_fetch_waiting.specs.Pending.{Pending, awake}
+use Rattle.resolver_fetch_requests.proofs.Loaded.{load-without, requests-few}
+use Rattle.resolver_fetch_requests.specs.Requests.{IsTaken, ids_of, is_asked, matching, overdue, requests_to, taken_if, taken_matching, taken_overdue, taken_soonest, without_request}
+use Rattle.resolver_fetch_scan.specs.declared.cursor.Cursor.{Cursor}
+use Rattle.resolver_fetch_scan.specs.declared.place.Place.{Place}
 use Rattle.resolver_fetch.specs.Cursor.{IsKept, scan_of}
-use Rattle.resolver_trying.specs.Fetcher.{Fetcher, charge, pop_active, pop_missing, pop_request, popped_active, popped_missing, popped_request}
-use Rattle.resolver_request.specs.Times.{elapsed_since}
-use Rattle.resolver_trying.specs.Orders.{Orders}
-use Rattle.resolver_trying.specs.Waiting.{place_order, waiter_freed}
+use Rattle.resolver_fetch_scan.specs.Fetcher.{Fetcher, charge, pop_active, pop_missing, pop_request, popped_active, popped_missing, popped_request}
+use Rattle.resolver_sampling.specs.Times.{elapsed_since}
+use Rattle.resolver_fetch_scan.specs.Orders.{Orders}
+use Rattle.resolver_fetch_scan.specs.Waiting.{place_order, waiter_freed}
 use Rattle.resolver_fetch.proofs.Phases.{fewer-without, once-put, once-sent}
 
 -- where no scan is open, what is asked of an open one is so

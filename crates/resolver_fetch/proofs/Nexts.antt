@@ -1,18 +1,18 @@
 -- What a scan does next.
 use Rattle.std.proofs.Common.{◌≡◌, refl, ap, ◌∙◌, ℕ, List, Option, None, Some, option_map}
 use Rattle.std.specs.Prelude.{min, unwrap_or}
-use Rattle.resolver_trying.specs.declared.trail.Expected.TheVariants.{Mode}
-use Rattle.resolver_trying.specs.declared.trail.Try.{Try}
-use Rattle.resolver_trying.specs.declared.trying.Next.TheVariants.{Try as Tries, Wait}
-use Rattle.resolver_request.specs.Times.{never}
-use Rattle.resolver_trying.specs.Fetcher.{Fetcher, snapshot, turned}
-use Rattle.resolver_trying.specs.Orders.{Orders}
-use Rattle.resolver_waiting.specs.Pending.{waits_until}
-use Rattle.resolver_trying.specs.Scan.{goes_on_with, least, next}
+use Rattle.resolver_fetch_scan.specs.declared.trail.Expected.TheVariants.{Mode}
+use Rattle.resolver_fetch_scan.specs.declared.trail.Try.{Try}
+use Rattle.resolver_fetch_scan.specs.declared.trying.Next.TheVariants.{Try as Tries, Wait}
+use Rattle.resolver_sampling.specs.Times.{never}
+use Rattle.resolver_fetch_scan.specs.Fetcher.{Fetcher, snapshot, turned}
+use Rattle.resolver_fetch_scan.specs.Orders.{Orders}
+use Rattle.resolver_fetch_waiting.specs.Pending.{waits_until}
+use Rattle.resolver_fetch_scan.specs.Scan.{goes_on_with, least, next}
 use Rattle.resolver_fetch.specs.Seeking.{next_for, next_of, scan_at, tried_again, tried_next}
 use Rattle.resolver_fetch.specs.Stepping.{after_all}
-use Rattle.resolver_trying.specs.Trying.{Trying, trying_for}
-use Rattle.resolver_trying.specs.Waiting.{Waiting}
+use Rattle.resolver_fetch_scan.specs.Trying.{Trying, trying_for}
+use Rattle.resolver_fetch_scan.specs.Waiting.{Waiting}
 use Rattle.resolver_fetch.proofs.Dues.{next-due}
 
 module _ {K P : Type 0} (o : Orders K P) (f : Fetcher K P) (moment : ℕ) (trail : List (Try K P)) where

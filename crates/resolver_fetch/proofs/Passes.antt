@@ -12,16 +12,16 @@ use Rattle.std.specs.Ordering.{is_eq, is_lt}
 use Rattle.std.specs.Prelude.{find}
 use Rattle.std.specs.declared.cmp.Ordering.{Ordering}
 use Rattle.std.specs.declared.cmp.Ordering.TheVariants.{Less}
-use Rattle.resolver_priorities.specs.Priorities.{after, pair_order}
-use Rattle.resolver_trying.specs.declared.place.Place.{Place}
-use Rattle.resolver_trying.specs.declared.trail.Try.{Try}
-use Rattle.resolver_trying.specs.Fetcher.{Fetcher, snapshot, waiting_of}
-use Rattle.resolver_trying.specs.Orders.{Orders, same_key}
-use Rattle.resolver_trying.specs.Scan.{can_be_tried, is_due, left}
-use Rattle.resolver_request.specs.Scores.{weight_of}
+use Rattle.resolver_priority_set.specs.Priorities.{after, pair_order}
+use Rattle.resolver_fetch_scan.specs.declared.place.Place.{Place}
+use Rattle.resolver_fetch_scan.specs.declared.trail.Try.{Try}
+use Rattle.resolver_fetch_scan.specs.Fetcher.{Fetcher, snapshot, waiting_of}
+use Rattle.resolver_fetch_scan.specs.Orders.{Orders, same_key}
+use Rattle.resolver_fetch_scan.specs.Scan.{can_be_tried, is_due, left}
+use Rattle.resolver_sampling.specs.Scores.{weight_of}
 use Rattle.resolver_fetch.specs.Seeking.{scan_at, tried_behind, tried_next}
-use Rattle.resolver_trying.specs.Trying.{Trying, apart_from, trying_for, weighed}
-use Rattle.resolver_trying.specs.Waiting.{place_order}
+use Rattle.resolver_fetch_scan.specs.Trying.{Trying, apart_from, trying_for, weighed}
+use Rattle.resolver_fetch_scan.specs.Waiting.{place_order}
 use Rattle.resolver_fetch.proofs.Continues.{left-same, never-again}
 use Rattle.resolver_fetch.proofs.Seeking.{find-map}
 

@@ -2,10 +2,10 @@
 use Rattle.std.proofs.Common.{◌≡◌, refl, ap, sym, ◌∙◌, ℕ, Bool, true, false, List, [], ◌∷◌, ◌++◌, filter, append_assoc}
 use Rattle.std.proofs.lemmas.List.{map-append}
 use Rattle.std.specs.declared.cmp.Ordering.{Ordering}
-use Rattle.resolver_trying.specs.Known.{Known, askable_at}
-use Rattle.resolver_trying.specs.Trying.{weighed}
-use Rattle.resolver_request.specs.Scores.{weight_of}
-use Rattle.resolver_request.specs.declared.score.Averages.{Averages}
+use Rattle.resolver_fetch_scan.specs.Known.{Known, askable_at}
+use Rattle.resolver_fetch_scan.specs.Trying.{weighed}
+use Rattle.resolver_sampling.specs.Scores.{weight_of}
+use Rattle.resolver_sampling.specs.declared.score.Averages.{Averages}
 use Rattle.resolver_fetch.proofs.Among.{among}
 
 module _ {P : Type 0} (keep : P → Bool) where

@@ -8,19 +8,19 @@ use Rattle.std.specs.BTreeMap.{insert_entry}
 use Rattle.std.specs.Ordering.{is_eq, nat_cmp}
 use Rattle.std.specs.declared.cmp.Ordering.{Ordering}
 use Rattle.std.specs.declared.cmp.Ordering.TheVariants.{Equal}
-use Rattle.resolver_priorities.specs.Priorities.{has_item, is_of, listed, priorities_of, put, retained, without}
-use Rattle.resolver_priorities.proofs.Priorities.{priorities-put, priorities-without}
-use Rattle.resolver_asked.specs.declared.requests.request.Request.{Request}
-use Rattle.resolver_asked.specs.Ids.{is_held}
-use Rattle.resolver_asked.specs.Requests.{ids_of, is_asked, is_for, request_of, without_request}
-use Rattle.resolver_trying.specs.declared.place.Place.{Place}
-use Rattle.resolver_trying.specs.declared.trail.Try.{Try}
-use Rattle.resolver_trying.specs.Fetcher.{EachOnce, Fetcher, snapshot, waiting_of}
-use Rattle.resolver_trying.specs.Orders.{Orders}
-use Rattle.resolver_trying.specs.Scan.{can_be_tried}
+use Rattle.resolver_priority_set.specs.Priorities.{has_item, is_of, listed, priorities_of, put, retained, without}
+use Rattle.resolver_priority_set.proofs.Priorities.{priorities-put, priorities-without}
+use Rattle.resolver_fetch_requests.specs.declared.requests.request.Request.{Request}
+use Rattle.resolver_fetch_requests.specs.Ids.{is_held}
+use Rattle.resolver_fetch_requests.specs.Requests.{ids_of, is_asked, is_for, request_of, without_request}
+use Rattle.resolver_fetch_scan.specs.declared.place.Place.{Place}
+use Rattle.resolver_fetch_scan.specs.declared.trail.Try.{Try}
+use Rattle.resolver_fetch_scan.specs.Fetcher.{EachOnce, Fetcher, snapshot, waiting_of}
+use Rattle.resolver_fetch_scan.specs.Orders.{Orders}
+use Rattle.resolver_fetch_scan.specs.Scan.{can_be_tried}
 use Rattle.resolver_fetch.specs.Seeking.{scan_at, tried_next}
-use Rattle.resolver_trying.specs.Trying.{Trying, trying_for}
-use Rattle.resolver_trying.specs.Waiting.{place_order}
+use Rattle.resolver_fetch_scan.specs.Trying.{Trying, trying_for}
+use Rattle.resolver_fetch_scan.specs.Waiting.{place_order}
 use Rattle.resolver_fetch.proofs.Seeking.{find-map}
 
 place_total : IsTotalOrder place_order

@@ -7,32 +7,32 @@ use Rattle.std.specs.Cmp.{IsTotalOrder}
 use Rattle.std.specs.List.{list_any}
 use Rattle.std.specs.Ordering.{is_eq}
 use Rattle.std.specs.Prelude.{IfErr, find, is_some, nat_lt, sum, ◌≢◌}
-use Rattle.resolver_base.specs.declared.base.check.Check.TheVariants.{Clear, Until}
-use Rattle.resolver_base.specs.declared.base.fault.Fault.{Fault}
-use Rattle.resolver_base.specs.declared.base.fault.Fault.TheVariants as faults
-use Rattle.resolver_base.specs.declared.base.fault.Fault.TheVariants.{OutOfRange}
-use Rattle.resolver_request.specs.declared.score.Averages.{Averages}
-use Rattle.resolver_request.specs.declared.score.Averages.TheVariants.{Unobserved, Observed}
-use Rattle.resolver_trying.specs.declared.scan.Answer.{Answer}
-use Rattle.resolver_trying.specs.declared.scan.Answer.TheVariants.{Drawn, Checked, Sent}
-use Rattle.resolver_trying.specs.declared.scan.Ask.{Ask}
-use Rattle.resolver_trying.specs.declared.trail.Expected.{Expected}
-use Rattle.resolver_trying.specs.declared.trail.Expected.TheVariants.{Mode, ByWeight, ByPlace, Checking, FirstId, Sending}
-use Rattle.resolver_trying.specs.declared.trail.Reason.{Reason}
-use Rattle.resolver_trying.specs.declared.trail.Reason.TheVariants.{Limited, Refused}
-use Rattle.resolver_trying.specs.declared.trail.Try.{Try}
-use Rattle.resolver_trees.specs.Choice.{chosen}
-use Rattle.resolver_request.specs.Modes.{means_weighted}
-use Rattle.resolver_trying.specs.Fetcher.{Fetcher, answered as answered_with, asked_by, question, scan_answer, scan_begin, scan_taken, snapshot, turned}
-use Rattle.resolver_trying.specs.Orders.{Orders, same_key, same_peer}
+use Rattle.resolver_base.specs.declared.check.Check.TheVariants.{Clear, Until}
+use Rattle.resolver_base.specs.declared.fault.Fault.{Fault}
+use Rattle.resolver_base.specs.declared.fault.Fault.TheVariants as faults
+use Rattle.resolver_base.specs.declared.fault.Fault.TheVariants.{OutOfRange}
+use Rattle.resolver_sampling.specs.declared.score.Averages.{Averages}
+use Rattle.resolver_sampling.specs.declared.score.Averages.TheVariants.{Unobserved, Observed}
+use Rattle.resolver_fetch_scan.specs.declared.scan.Answer.{Answer}
+use Rattle.resolver_fetch_scan.specs.declared.scan.Answer.TheVariants.{Drawn, Checked, Sent}
+use Rattle.resolver_fetch_scan.specs.declared.scan.Ask.{Ask}
+use Rattle.resolver_fetch_scan.specs.declared.trail.Expected.{Expected}
+use Rattle.resolver_fetch_scan.specs.declared.trail.Expected.TheVariants.{Mode, ByWeight, ByPlace, Checking, FirstId, Sending}
+use Rattle.resolver_fetch_scan.specs.declared.trail.Reason.{Reason}
+use Rattle.resolver_fetch_scan.specs.declared.trail.Reason.TheVariants.{Limited, Refused}
+use Rattle.resolver_fetch_scan.specs.declared.trail.Try.{Try}
+use Rattle.resolver_sampling.specs.Choice.{chosen}
+use Rattle.resolver_sampling.specs.Modes.{means_weighted}
+use Rattle.resolver_fetch_scan.specs.Fetcher.{Fetcher, answered as answered_with, asked_by, question, scan_answer, scan_begin, scan_taken, snapshot, turned}
+use Rattle.resolver_fetch_scan.specs.Orders.{Orders, same_key, same_peer}
 use Rattle.resolver_fetch.specs.Progress.{ExpectsLeft, Fits, IsAnswerable, IsSound, IsSoundWith, IsTrying, Keeps, answers_left, answers_with, is_left, pairs_left, stage}
-use Rattle.resolver_request.specs.Scores.{weight_of}
-use Rattle.resolver_trying.specs.Snapshot.{Snapshot}
-use Rattle.resolver_trying.specs.Scan.{Scan, Turn, answered, asks_for, by_place, by_weight, can_be_tried, clears, draws, fails, goes_on, goes_on_with, is_due, left, next, question_for, question_of, takes_for, weights}
-use Rattle.resolver_trying.specs.Waiting.{Waiting}
-use Rattle.resolver_trying.proofs.ChoosesBelow.{chooses_below}
+use Rattle.resolver_sampling.specs.Scores.{weight_of}
+use Rattle.resolver_fetch_scan.specs.Snapshot.{Snapshot}
+use Rattle.resolver_fetch_scan.specs.Scan.{Scan, Turn, answered, asks_for, by_place, by_weight, can_be_tried, clears, draws, fails, goes_on, goes_on_with, is_due, left, next, question_for, question_of, takes_for, weights}
+use Rattle.resolver_fetch_scan.specs.Waiting.{Waiting}
+use Rattle.resolver_fetch_scan.proofs.ChoosesBelow.{chooses_below}
 use Rattle.resolver_fetch.proofs.Continues.{left-after}
-use Rattle.resolver_trying.proofs.OneOf.{found-passes}
+use Rattle.resolver_fetch_scan.proofs.OneOf.{found-passes}
 
 module _ {X : Type 0} where
   some-same : (x y : X) → Some x ≡ Some y → x ≡ y

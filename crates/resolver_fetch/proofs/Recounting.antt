@@ -9,13 +9,13 @@ use Rattle.std.specs.Ordering.{is_eq}
 use Rattle.std.specs.declared.cmp.Ordering.{Ordering}
 use Rattle.std.specs.declared.cmp.Ordering.TheVariants.{Equal}
 use Rattle.std.proofs.lemmas.Bool.{lt-ltb}
-use Rattle.resolver_request.specs.declared.score.Averages.{Averages}
-use Rattle.resolver_request.specs.Scores.{weight_of}
-use Rattle.resolver_asked.specs.Loads.{Counts, Load, fills, is_full, loaded, one_fewer, one_more}
-use Rattle.resolver_trying.specs.Known.{Company, Known, askable, known_by, may_be_asked, weight_in, with_load}
-use Rattle.resolver_trying.specs.Pools.{Pool, recounted, resampled, weighs, whole}
-use Rattle.resolver_trying.specs.Trying.{sampled}
-use Rattle.resolver_trying.proofs.Tried.{equal-is}
+use Rattle.resolver_sampling.specs.declared.score.Averages.{Averages}
+use Rattle.resolver_sampling.specs.Scores.{weight_of}
+use Rattle.resolver_fetch_requests.specs.Loads.{Counts, Load, fills, is_full, loaded, one_fewer, one_more}
+use Rattle.resolver_fetch_scan.specs.Known.{Company, Known, askable, known_by, may_be_asked, weight_in, with_load}
+use Rattle.resolver_fetch_scan.specs.Pools.{Pool, recounted, resampled, weighs, whole}
+use Rattle.resolver_fetch_scan.specs.Trying.{sampled}
+use Rattle.resolver_fetch_scan.proofs.Tried.{equal-is}
 use Rattle.resolver_fetch.proofs.Filling.{more-full}
 use Rattle.resolver_fetch.proofs.Refitting.{Counted, counts-then, equal-may, samples, whole-refitted}
 use Rattle.resolver_fetch.proofs.Weighing.{weight-some}

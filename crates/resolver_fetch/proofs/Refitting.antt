@@ -10,19 +10,19 @@ use Rattle.std.specs.declared.cmp.Ordering.{Ordering}
 use Rattle.std.specs.declared.cmp.Ordering.TheVariants.{Less, Equal}
 use Rattle.std.proofs.lemmas.Bool.{lt-ltb}
 use Rattle.std.proofs.lemmas.Map.Keys.{sorted_head, sorted_tail}
-use Rattle.resolver_request.specs.declared.score.Averages.{Averages}
-use Rattle.resolver_request.specs.declared.score.Averages.TheVariants.{Unobserved}
-use Rattle.resolver_request.specs.Scores.{Observation, averaged, weight_of}
+use Rattle.resolver_sampling.specs.declared.score.Averages.{Averages}
+use Rattle.resolver_sampling.specs.declared.score.Averages.TheVariants.{Unobserved}
+use Rattle.resolver_sampling.specs.Scores.{Observation, averaged, weight_of}
 use Rattle.std.specs.Prelude.{nat_le, unwrap_or}
-use Rattle.resolver_asked.specs.Loads.{Counts, is_full, loaded}
-use Rattle.resolver_asked.proofs.Names.{lookup-same}
-use Rattle.resolver_trying.specs.Known.{Company, Known, eligible, is_local, known_by, may_be_asked, sampling_weight, weight_in}
-use Rattle.resolver_trying.specs.Orders.{is_one_of}
-use Rattle.resolver_trying.specs.Pools.{IsWhole, Pool, revalued, reweighed, weighing, whole}
-use Rattle.resolver_trying.specs.Trying.{drawn_from, sampled, weighed}
-use Rattle.resolver_trying.proofs.Entries.{set_value-none}
-use Rattle.resolver_trying.proofs.Pools.{revalued-nothing, revalued-some}
-use Rattle.resolver_trying.proofs.Tried.{equal-back, equal-is}
+use Rattle.resolver_fetch_requests.specs.Loads.{Counts, is_full, loaded}
+use Rattle.resolver_fetch_requests.proofs.Names.{lookup-same}
+use Rattle.resolver_fetch_scan.specs.Known.{Company, Known, eligible, is_local, known_by, may_be_asked, sampling_weight, weight_in}
+use Rattle.resolver_fetch_scan.specs.Orders.{is_one_of}
+use Rattle.resolver_fetch_scan.specs.Pools.{IsWhole, Pool, revalued, reweighed, weighing, whole}
+use Rattle.resolver_fetch_scan.specs.Trying.{drawn_from, sampled, weighed}
+use Rattle.resolver_fetch_scan.proofs.Entries.{set_value-none}
+use Rattle.resolver_fetch_scan.proofs.Pools.{revalued-nothing, revalued-some}
+use Rattle.resolver_fetch_scan.proofs.Tried.{equal-back, equal-is}
 use Rattle.resolver_fetch.proofs.Weighing.{same-filter, unchanged, weight-some}
 
 -- which may be asked, with what they weigh

@@ -7,19 +7,19 @@ use Rattle.std.proofs.lemmas.List.Folds.{find-append}
 use Rattle.std.specs.Option.{option_or}
 use Rattle.std.specs.Ordering.{nat_cmp}
 use Rattle.std.specs.Prelude.{find, nat_le, nat_lt}
-use Rattle.resolver_priorities.specs.Priorities.{after}
-use Rattle.resolver_request.specs.declared.score.Averages.{Averages}
-use Rattle.resolver_trying.specs.declared.place.Place.{Place}
-use Rattle.resolver_trying.specs.declared.trail.Try.{Try}
-use Rattle.resolver_trying.specs.Fetcher.{Fetcher, snapshot, waiting_of}
-use Rattle.resolver_trying.specs.Orders.{Orders}
-use Rattle.resolver_waiting.specs.Queues.{IsQueued, fresh_queue, placed, retry_queue}
-use Rattle.resolver_trying.specs.Scan.{can_be_tried, left}
-use Rattle.resolver_request.specs.Scores.{weight_of}
+use Rattle.resolver_priority_set.specs.Priorities.{after}
+use Rattle.resolver_sampling.specs.declared.score.Averages.{Averages}
+use Rattle.resolver_fetch_scan.specs.declared.place.Place.{Place}
+use Rattle.resolver_fetch_scan.specs.declared.trail.Try.{Try}
+use Rattle.resolver_fetch_scan.specs.Fetcher.{Fetcher, snapshot, waiting_of}
+use Rattle.resolver_fetch_scan.specs.Orders.{Orders}
+use Rattle.resolver_fetch_waiting.specs.Queues.{IsQueued, fresh_queue, placed, retry_queue}
+use Rattle.resolver_fetch_scan.specs.Scan.{can_be_tried, left}
+use Rattle.resolver_sampling.specs.Scores.{weight_of}
 use Rattle.resolver_fetch.specs.Seeking.{first_until, scan_at, tried_behind, tried_next, trying_key}
-use Rattle.resolver_trying.specs.Trying.{Trying, trying_for, weighed}
-use Rattle.resolver_trying.specs.Waiting.{fresh_at, place_order, retry_at}
-use Rattle.resolver_waiting.proofs.Joined.{after-fresh, after-retry}
+use Rattle.resolver_fetch_scan.specs.Trying.{Trying, trying_for, weighed}
+use Rattle.resolver_fetch_scan.specs.Waiting.{fresh_at, place_order, retry_at}
+use Rattle.resolver_fetch_waiting.proofs.Joined.{after-fresh, after-retry}
 
 module _ {P : Type 0} where
   -- a test of names keeps the same peers before and after they are weighed

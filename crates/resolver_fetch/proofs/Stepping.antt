@@ -3,34 +3,34 @@ use Rattle.std.proofs.Common.{◌≡◌, refl, ap, subst, ◌∙◌, sym, ℕ, z
 use Rattle.std.proofs.lemmas.List.{length-map}
 use Rattle.std.specs.List.{slice_get}
 use Rattle.std.specs.Prelude.{IfErr, is_ok, nat_lt, sum}
-use Rattle.resolver_base.specs.declared.base.check.Check.TheVariants.{Clear, Until}
-use Rattle.resolver_base.specs.declared.base.fault.Fault.{Fault}
-use Rattle.resolver_base.specs.declared.base.fault.Fault.TheVariants.{OutOfMemory, OutOfRange, Unasked}
-use Rattle.resolver_request.specs.declared.score.Averages.{Averages}
-use Rattle.resolver_trying.specs.declared.scan.Answer.{Answer}
-use Rattle.resolver_trying.specs.declared.scan.Answer.TheVariants.{Drawn, Checked, Sent}
-use Rattle.resolver_trying.specs.declared.scan.Ask.TheVariants as asks
-use Rattle.resolver_trying.specs.declared.step.Step.{Step}
-use Rattle.resolver_trying.specs.declared.step.Step.TheVariants as steps
-use Rattle.resolver_trying.specs.declared.trail.Reason.{Reason}
-use Rattle.resolver_trying.specs.declared.trail.Try.{Try}
-use Rattle.resolver_trying.specs.declared.trail.Expected.{Expected}
-use Rattle.resolver_trying.specs.declared.trail.Expected.TheVariants.{Mode, ByWeight, ByPlace, Checking, FirstId, Sending}
-use Rattle.resolver_trees.specs.Choice.{chosen}
-use Rattle.resolver_request.specs.Modes.{means_weighted}
-use Rattle.resolver_asked.specs.declared.requests.request.Request.{Request}
-use Rattle.resolver_trying.specs.declared.cursor.Cursor.{Cursor}
+use Rattle.resolver_base.specs.declared.check.Check.TheVariants.{Clear, Until}
+use Rattle.resolver_base.specs.declared.fault.Fault.{Fault}
+use Rattle.resolver_base.specs.declared.fault.Fault.TheVariants.{OutOfMemory, OutOfRange, Unasked}
+use Rattle.resolver_sampling.specs.declared.score.Averages.{Averages}
+use Rattle.resolver_fetch_scan.specs.declared.scan.Answer.{Answer}
+use Rattle.resolver_fetch_scan.specs.declared.scan.Answer.TheVariants.{Drawn, Checked, Sent}
+use Rattle.resolver_fetch_scan.specs.declared.scan.Ask.TheVariants as asks
+use Rattle.resolver_fetch_scan.specs.declared.step.Step.{Step}
+use Rattle.resolver_fetch_scan.specs.declared.step.Step.TheVariants as steps
+use Rattle.resolver_fetch_scan.specs.declared.trail.Reason.{Reason}
+use Rattle.resolver_fetch_scan.specs.declared.trail.Try.{Try}
+use Rattle.resolver_fetch_scan.specs.declared.trail.Expected.{Expected}
+use Rattle.resolver_fetch_scan.specs.declared.trail.Expected.TheVariants.{Mode, ByWeight, ByPlace, Checking, FirstId, Sending}
+use Rattle.resolver_sampling.specs.Choice.{chosen}
+use Rattle.resolver_sampling.specs.Modes.{means_weighted}
+use Rattle.resolver_fetch_requests.specs.declared.requests.request.Request.{Request}
+use Rattle.resolver_fetch_scan.specs.declared.cursor.Cursor.{Cursor}
 use Rattle.resolver_fetch.specs.Cursor.{ExpectsNewId, TakesNewId, scan_of}
-use Rattle.resolver_trying.specs.Fetcher.{AsksNewId, Fetcher, answered as answered_with, asked_by, question, scan_answer, scan_taken, snapshot, turned}
-use Rattle.resolver_trying.specs.Orders.{Orders}
-use Rattle.resolver_request.specs.Scores.{weight_of}
+use Rattle.resolver_fetch_scan.specs.Fetcher.{AsksNewId, Fetcher, answered as answered_with, asked_by, question, scan_answer, scan_taken, snapshot, turned}
+use Rattle.resolver_fetch_scan.specs.Orders.{Orders}
+use Rattle.resolver_sampling.specs.Scores.{weight_of}
 use Rattle.resolver_fetch.specs.Seeking.{scan_at, tried_next}
-use Rattle.resolver_trying.specs.Snapshot.{Snapshot}
-use Rattle.resolver_trying.specs.Scan.{Scan, Turn, answered, by_place, by_weight, draws, left, goes_on_with, mode_of, next, question_for, question_of, sends, takes_for, weights}
+use Rattle.resolver_fetch_scan.specs.Snapshot.{Snapshot}
+use Rattle.resolver_fetch_scan.specs.Scan.{Scan, Turn, answered, by_place, by_weight, draws, left, goes_on_with, mode_of, next, question_for, question_of, sends, takes_for, weights}
 use Rattle.resolver_fetch.specs.Stepping.{after_all, after_step}
-use Rattle.resolver_trying.specs.Steps.{and_then, ask_for, step_chosen, step_of, stepped}
-use Rattle.resolver_trying.specs.Trying.{Trying, at_place, at_weight, trying_for, weighed, weights_of}
-use Rattle.resolver_trying.specs.Waiting.{Waiting}
+use Rattle.resolver_fetch_scan.specs.ScanSteps.{and_then, ask_for, step_chosen, step_of, stepped}
+use Rattle.resolver_fetch_scan.specs.Trying.{Trying, at_place, at_weight, trying_for, weighed, weights_of}
+use Rattle.resolver_fetch_scan.specs.Waiting.{Waiting}
 
 module _ {P : Type 0} where
   get-weighed : (ps : List (P × Averages)) (n : ℕ) → option_map (λ p. p.0) (slice_get (weighed ps) n) ≡ option_map (λ p. p.0) (slice_get ps n)

@@ -9,23 +9,23 @@ use Rattle.std.proofs.lemmas.Bool.Decides.{nat_tests}
 use Rattle.std.proofs.lemmas.Grind.{common_steps}
 use Rattle.std.proofs.lemmas.List.Kept.{IsStrictlySortedBy-filter}
 use Rattle.std.proofs.lemmas.Map.Made.{keys_of-map_values}
-use Rattle.resolver_request.specs.declared.score.Averages.{Averages}
-use Rattle.resolver_request.specs.declared.score.Averages.TheVariants.{Unobserved, Observed}
-use Rattle.resolver_request.specs.Scores.{weight_of}
-use Rattle.resolver_trying.specs.declared.trail.Try.{Try}
-use Rattle.resolver_trying.specs.Fetcher.{Fetcher, snapshot, targets_of}
-use Rattle.resolver_trying.specs.Known.{Known, eligible, is_eligible}
-use Rattle.resolver_trying.specs.Orders.{Orders, is_one_of}
-use Rattle.resolver_trying.specs.Pools.{weighing}
-use Rattle.resolver_trying.specs.Scan.{was_tried}
+use Rattle.resolver_sampling.specs.declared.score.Averages.{Averages}
+use Rattle.resolver_sampling.specs.declared.score.Averages.TheVariants.{Unobserved, Observed}
+use Rattle.resolver_sampling.specs.Scores.{weight_of}
+use Rattle.resolver_fetch_scan.specs.declared.trail.Try.{Try}
+use Rattle.resolver_fetch_scan.specs.Fetcher.{Fetcher, snapshot, targets_of}
+use Rattle.resolver_fetch_scan.specs.Known.{Known, eligible, is_eligible}
+use Rattle.resolver_fetch_scan.specs.Orders.{Orders, is_one_of}
+use Rattle.resolver_fetch_scan.specs.Pools.{weighing}
+use Rattle.resolver_fetch_scan.specs.Scan.{was_tried}
 use Rattle.resolver_fetch.specs.Seeking.{tried_next, trying_key}
-use Rattle.resolver_trying.specs.Snapshot as snapshots
-use Rattle.resolver_trying.specs.Tried.{peers_tried}
-use Rattle.resolver_trying.specs.Trying.{Trying, apart_from, drawn_from, sampled, weighed}
-use Rattle.resolver_trying.specs.declared.place.Place.{Place}
+use Rattle.resolver_fetch_scan.specs.Snapshot as snapshots
+use Rattle.resolver_fetch_scan.specs.Tried.{peers_tried}
+use Rattle.resolver_fetch_scan.specs.Trying.{Trying, apart_from, drawn_from, sampled, weighed}
+use Rattle.resolver_fetch_scan.specs.declared.place.Place.{Place}
 use Rattle.std.proofs.lemmas.Bool.{lt-ltb}
 use Rattle.resolver_fetch.proofs.Seeking.{seeks-in, weighed-filter}
-use Rattle.resolver_trying.proofs.Tried.{tried-one-of}
+use Rattle.resolver_fetch_scan.proofs.Tried.{tried-one-of}
 
 least-some : (x y : ℕ) → 0 < x → 0 < min x (y + 1)
 least-some x y some = grind (arith, nat_tests, some)

@@ -1,17 +1,17 @@
 -- Where an open scan stands.
 use Rattle.std.specs.Prelude.{◌≡◌, ℕ, ◌<◌, ◌^◌, false, List, [], Option, None, Some}
 use Rattle.std.specs.declared.cmp.Ordering.{Ordering}
-use Rattle.resolver_asked.specs.declared.requests.request.Request.{Request}
-use Rattle.resolver_asked.specs.Ids.{is_held}
-use Rattle.resolver_trying.specs.declared.cursor.Cursor.{Cursor}
-use Rattle.resolver_trying.specs.declared.place.Place.{Place}
-use Rattle.resolver_trying.specs.declared.step.Step.{Step}
-use Rattle.resolver_trying.specs.declared.step.Step.TheVariants as steps
-use Rattle.resolver_trying.specs.declared.trail.Expected.{Expected}
-use Rattle.resolver_trying.specs.declared.trail.Expected.TheVariants.{FirstId, Sending}
-use Rattle.resolver_trying.specs.Fetcher.{EachOnce, Fetcher, IsTimely}
-use Rattle.resolver_trying.specs.Orders.{Orders}
-use Rattle.resolver_trying.specs.Scan.{Scan}
+use Rattle.resolver_fetch_requests.specs.declared.requests.request.Request.{Request}
+use Rattle.resolver_fetch_requests.specs.Ids.{is_held}
+use Rattle.resolver_fetch_scan.specs.declared.cursor.Cursor.{Cursor}
+use Rattle.resolver_fetch_scan.specs.declared.place.Place.{Place}
+use Rattle.resolver_fetch_scan.specs.declared.step.Step.{Step}
+use Rattle.resolver_fetch_scan.specs.declared.step.Step.TheVariants as steps
+use Rattle.resolver_fetch_scan.specs.declared.trail.Expected.{Expected}
+use Rattle.resolver_fetch_scan.specs.declared.trail.Expected.TheVariants.{FirstId, Sending}
+use Rattle.resolver_fetch_scan.specs.Fetcher.{EachOnce, Fetcher, IsTimely}
+use Rattle.resolver_fetch_scan.specs.Orders.{Orders}
+use Rattle.resolver_fetch_scan.specs.Scan.{Scan}
 use Rattle.resolver_fetch.specs.Seeking.{tried_next}
 
 module _ {K P : Type 0} where

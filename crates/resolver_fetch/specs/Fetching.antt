@@ -1,17 +1,17 @@
 -- What a whole scan makes of a fetcher that is lent a sender and draws.
 use Rattle.std.specs.Prelude.{◌≡◌, ℕ, ◌⊎◌, Bool, List, [], ◌∷◌, None, Some, Ok}
 use Rattle.resolver_base.specs.Sending.{is_accepted}
-use Rattle.resolver_base.specs.declared.base.check.Check.{Check}
-use Rattle.resolver_base.specs.declared.base.unreliable.Unreliable.{Unreliable}
-use Rattle.resolver_trying.specs.declared.scan.Answer.{Answer}
-use Rattle.resolver_trying.specs.declared.scan.Answer.TheVariants.{Drawn, Checked, Sent}
-use Rattle.resolver_trying.specs.declared.scan.Ask.{Ask}
-use Rattle.resolver_trying.specs.declared.scan.Ask.TheVariants as asks
-use Rattle.resolver_request.specs.declared.wire.Message.{Message}
-use Rattle.resolver_request.specs.declared.wire.Payload.TheVariants.{Request}
-use Rattle.resolver_trying.specs.Fetcher.{Fetcher, question, scan_answer, scan_begin}
-use Rattle.resolver_trying.specs.Orders.{Orders}
-use Rattle.resolver_request.specs.Spelling.{spelling}
+use Rattle.resolver_base.specs.declared.check.Check.{Check}
+use Rattle.resolver_base.specs.declared.unreliable.Unreliable.{Unreliable}
+use Rattle.resolver_fetch_scan.specs.declared.scan.Answer.{Answer}
+use Rattle.resolver_fetch_scan.specs.declared.scan.Answer.TheVariants.{Drawn, Checked, Sent}
+use Rattle.resolver_fetch_scan.specs.declared.scan.Ask.{Ask}
+use Rattle.resolver_fetch_scan.specs.declared.scan.Ask.TheVariants as asks
+use Rattle.resolver_wire.specs.declared.wire.Message.{Message}
+use Rattle.resolver_wire.specs.declared.wire.Payload.TheVariants.{Request}
+use Rattle.resolver_fetch_scan.specs.Fetcher.{Fetcher, question, scan_answer, scan_begin}
+use Rattle.resolver_fetch_scan.specs.Orders.{Orders}
+use Rattle.resolver_wire.specs.Spelling.{spelling}
 
 -- what is outside of a fetcher: how keys are spelled, and what a sender and draws may say, with what they are then
 pub record Outside (K P S D : Type 0) : Type 1 where

@@ -2,6 +2,6 @@ pub mod Seeking
 pub mod Stepping
 pub mod Progress
 pub mod Fetching
-pub mod FetcherRows
+pub mod FetcherWorked
 pub mod Cursor
-pub mod Left
+pub mod LeftPeers

@@ -1,20 +1,20 @@
 -- What holds of every open scan, and how many answers it takes at most.
 use Rattle.std.specs.Prelude.{◌≡◌, ℕ, ◌+◌, ◌*◌, ◌<◌, Bool, true, List, [], ◌∷◌, length, Option, None, Some}
 use Rattle.std.specs.List.{list_any}
-use Rattle.resolver_request.specs.declared.score.Averages.{Averages}
-use Rattle.resolver_trying.specs.declared.scan.Answer.{Answer}
-use Rattle.resolver_trying.specs.declared.scan.Answer.TheVariants.{Drawn, Checked, Sent}
-use Rattle.resolver_trying.specs.declared.scan.Ask.{Ask}
-use Rattle.resolver_trying.specs.declared.scan.Ask.TheVariants as asks
-use Rattle.resolver_trying.specs.declared.trail.Expected.{Expected}
-use Rattle.resolver_trying.specs.declared.trail.Expected.TheVariants.{Mode, ByWeight, ByPlace, Checking, FirstId, Sending}
-use Rattle.resolver_trying.specs.declared.trail.Try.{Try}
-use Rattle.resolver_trying.specs.Fetcher.{Fetcher, snapshot}
+use Rattle.resolver_sampling.specs.declared.score.Averages.{Averages}
+use Rattle.resolver_fetch_scan.specs.declared.scan.Answer.{Answer}
+use Rattle.resolver_fetch_scan.specs.declared.scan.Answer.TheVariants.{Drawn, Checked, Sent}
+use Rattle.resolver_fetch_scan.specs.declared.scan.Ask.{Ask}
+use Rattle.resolver_fetch_scan.specs.declared.scan.Ask.TheVariants as asks
+use Rattle.resolver_fetch_scan.specs.declared.trail.Expected.{Expected}
+use Rattle.resolver_fetch_scan.specs.declared.trail.Expected.TheVariants.{Mode, ByWeight, ByPlace, Checking, FirstId, Sending}
+use Rattle.resolver_fetch_scan.specs.declared.trail.Try.{Try}
+use Rattle.resolver_fetch_scan.specs.Fetcher.{Fetcher, snapshot}
 use Rattle.resolver_fetch.specs.Fetching.{given_up}
-use Rattle.resolver_trying.specs.Orders.{Orders, same_peer}
-use Rattle.resolver_trying.specs.Scan.{Scan, left, next}
-use Rattle.resolver_trying.specs.Snapshot.{Snapshot}
-use Rattle.resolver_trying.specs.Waiting.{Waiting}
+use Rattle.resolver_fetch_scan.specs.Orders.{Orders, same_peer}
+use Rattle.resolver_fetch_scan.specs.Scan.{Scan, left, next}
+use Rattle.resolver_fetch_scan.specs.Snapshot.{Snapshot}
+use Rattle.resolver_fetch_scan.specs.Waiting.{Waiting}
 
 -- how many answers are expected at most until the peer that is drawn next was tried
 abbrev pub stage : {P : Type 0} → Option (Expected P) → ℕ

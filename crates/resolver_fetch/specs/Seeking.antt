@@ -1,19 +1,19 @@
 -- How a fetcher finds what a scan tries next, and when a scan in vain may be begun again.
 use Rattle.std.specs.Prelude.{ℕ, not, nat_le, nat_lt, List, length, map, Option, None, Some, option_map, filter, find}
-use Rattle.resolver_asked.specs.declared.requests.request.Request.{Request}
-use Rattle.resolver_priorities.specs.Priorities.{after}
-use Rattle.resolver_trying.specs.declared.config.Config.{Config}
-use Rattle.resolver_trying.specs.declared.place.Place.{Place}
-use Rattle.resolver_trying.specs.declared.trail.Try.{Try}
-use Rattle.resolver_trying.specs.declared.trying.Next.{Next}
-use Rattle.resolver_trying.specs.declared.trying.Next.TheVariants.{Try as Tries, Wait}
-use Rattle.resolver_trying.specs.Orders.{Orders}
-use Rattle.resolver_trying.specs.Known.{Known}
-use Rattle.resolver_trying.specs.Snapshot.{eligible, known}
-use Rattle.resolver_trying.specs.Scan.{Scan, can_be_tried, trail_moment, was_tried}
-use Rattle.resolver_trying.specs.Trying.{Trying, drawn_from, weighed, trying, trying_for}
-use Rattle.resolver_trying.specs.Waiting.{place_order}
-use Rattle.resolver_trying.specs.Fetcher.{Fetcher, opening, retries_of, snapshot, targets_of, waiting_of}
+use Rattle.resolver_fetch_requests.specs.declared.requests.request.Request.{Request}
+use Rattle.resolver_priority_set.specs.Priorities.{after}
+use Rattle.resolver_fetch_scan.specs.declared.config.Config.{Config}
+use Rattle.resolver_fetch_scan.specs.declared.place.Place.{Place}
+use Rattle.resolver_fetch_scan.specs.declared.trail.Try.{Try}
+use Rattle.resolver_fetch_scan.specs.declared.trying.Next.{Next}
+use Rattle.resolver_fetch_scan.specs.declared.trying.Next.TheVariants.{Try as Tries, Wait}
+use Rattle.resolver_fetch_scan.specs.Orders.{Orders}
+use Rattle.resolver_fetch_scan.specs.Known.{Known}
+use Rattle.resolver_fetch_scan.specs.Snapshot.{eligible, known}
+use Rattle.resolver_fetch_scan.specs.Scan.{Scan, can_be_tried, trail_moment, was_tried}
+use Rattle.resolver_fetch_scan.specs.Trying.{Trying, drawn_from, weighed, trying, trying_for}
+use Rattle.resolver_fetch_scan.specs.Waiting.{place_order}
+use Rattle.resolver_fetch_scan.specs.Fetcher.{Fetcher, opening, retries_of, snapshot, targets_of, waiting_of}
 
 -- a scan that tried this so far
 abbrev pub scan_at : {K P : Type 0} → (moment : ℕ) → List (Try K P) → Scan K P

@@ -1,13 +1,13 @@
 -- What a step of a scan makes of the fetcher.
 use Rattle.std.specs.Prelude.{ℕ, List, Option}
-use Rattle.resolver_trying.specs.declared.step.Step.{Step}
-use Rattle.resolver_trying.specs.declared.trail.Expected.{Expected}
-use Rattle.resolver_trying.specs.declared.trail.Try.{Try}
+use Rattle.resolver_fetch_scan.specs.declared.step.Step.{Step}
+use Rattle.resolver_fetch_scan.specs.declared.trail.Expected.{Expected}
+use Rattle.resolver_fetch_scan.specs.declared.trail.Try.{Try}
 use Rattle.resolver_fetch.specs.Seeking.{scan_at}
-use Rattle.resolver_trying.specs.Orders.{Orders}
-use Rattle.resolver_trying.specs.Scan.{Scan, asks_for, goes_on}
-use Rattle.resolver_trying.specs.Steps.{stepped}
-use Rattle.resolver_trying.specs.Fetcher.{Fetcher, snapshot, turned}
+use Rattle.resolver_fetch_scan.specs.Orders.{Orders}
+use Rattle.resolver_fetch_scan.specs.Scan.{Scan, asks_for, goes_on}
+use Rattle.resolver_fetch_scan.specs.ScanSteps.{stepped}
+use Rattle.resolver_fetch_scan.specs.Fetcher.{Fetcher, snapshot, turned}
 
 module _ {K P : Type 0} (o : Orders K P) where
   -- a scan takes a step

@@ -5,12 +5,12 @@ use Rattle.std.specs.List.{All}
 use Rattle.std.specs.Option.{option_map_or}
 use Rattle.std.proofs.lemmas.List.{append-nil, length-map, length-take-le, map-append, take_more, take_all}
 use Rattle.std.proofs.lemmas.Bool.{eq-eqb, eqb-true, false≢true}
-use Rattle.resolver_ingress.specs.declared.ingress.Message.{Message}
+use Rattle.resolver_messages.specs.declared.message.Message.{Message}
 use Rattle.resolver_desk.specs.declared.entry.Entry.{Entry}
 use Rattle.resolver_desk.specs.declared.entry.Entry.TheVariants as entries
 use Rattle.resolver_desk.specs.declared.entry.Posted.{Posted}
-use Rattle.resolver_root.specs.Names.{Names}
-use Rattle.resolver_ingress.specs.Backlog.{Told, told_of, waiting}
+use Rattle.resolver_types.specs.Names.{Names}
+use Rattle.resolver_messages.specs.Waiting.{Told, told_of, waiting}
 use Rattle.resolver_desk.specs.Book.{Call, IsBook, call_of, closes, puts_of}
 use Rattle.resolver_desk.specs.Desk.{Book, Desk, IsKept, calls_of}
 use Rattle.resolver_mailbox.specs.Shares.{Differs, Share}

@@ -3,8 +3,8 @@ use Rattle.std.proofs.Common.{◌≡◌, ℕ, ◌+◌, ◌-◌, ◌^◌, Bool, t
 use Rattle.std.specs.Prelude.{Result, Ok, Err, IfOk, OnOk, OnErr, ◌-◌, ◌^◌}
 use Rattle.std.specs.Option.{ForSome, option_map, option_map_or, option_to_list}
 use Rattle.std.proofs.lemmas.List.{append-nil}
-use Rattle.resolver_root.specs.Names.{Names}
-use Rattle.resolver_ingress.specs.Backlog.{Told}
+use Rattle.resolver_types.specs.Names.{Names}
+use Rattle.resolver_messages.specs.Waiting.{Told}
 use Rattle.resolver_desk.specs.Book.{Call, Close, Put, Take, puts, puts_of, takes}
 use Rattle.resolver_desk.specs.Desk.{Book, Desk, desk_closed, desk_put, desk_taken, has_room, next_of, number_of, placed, with_call, with_put}
 use Rattle.resolver_mailbox.specs.Shares.{IsCounted}

@@ -2,9 +2,9 @@
 use Rattle.std.specs.Prelude.{ℕ, List, [], ◌∷◌, Option, None, Some, Result, Ok, Err}
 use Rattle.futures.specs.declared.task.Poll.{Poll}
 use Rattle.futures.specs.declared.task.Poll.TheVariants.{Pending, Ready}
-use Rattle.resolver_base.specs.declared.base.fault.Fault.{Fault}
-use Rattle.resolver_ingress.specs.declared.ingress.Message.{Message}
-use Rattle.resolver_ingress.specs.Backlog.{Told, told_of}
+use Rattle.resolver_base.specs.declared.fault.Fault.{Fault}
+use Rattle.resolver_messages.specs.declared.message.Message.{Message}
+use Rattle.resolver_messages.specs.Waiting.{Told, told_of}
 
 -- what a receiver gave, in its order, and where its task is woken
 pub record Inbox (K S M Q : Type 0) : Type 0 where

@@ -1,5 +1,5 @@
-pub use Rattle.resolver_root.specs.Names
-pub use Rattle.resolver_ingress.specs.Backlog
+pub use Rattle.resolver_types.specs.Names
+pub use Rattle.resolver_messages.specs.Waiting
 pub mod Shares
 pub mod Given
 pub mod MockKeys

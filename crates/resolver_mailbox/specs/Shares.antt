@@ -2,7 +2,7 @@
 use Rattle.std.specs.Prelude.{◌≡◌, ◌<◌, ℕ, ◌+◌, ◌-◌, ◌^◌, Bool, false, true, List, [], ◌∷◌, ◌++◌, length, Option, MatchOption}
 use Rattle.std.specs.List.{All}
 use Rattle.std.specs.Option.{option_map_or}
-use Rattle.resolver_ingress.specs.Backlog.{Told}
+use Rattle.resolver_messages.specs.Waiting.{Told}
 use Rattle.resolver_desk.specs.Book.{Call, closes, puts, puts_of, takes}
 use Rattle.resolver_desk.specs.Desk.{Desk, calls_of}
 

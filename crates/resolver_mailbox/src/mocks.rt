@@ -4,7 +4,7 @@ ghost use Rattle.std.proofs.Common.{rules};
 
 use crate::mailbox::Exact;
 use bytes::{BufMut, BytesMut};
-use resolver_base::base::{Faithful, Span};
+use resolver_base::{Faithful, Span};
 use std::alloc::AllocError;
 use std::fmt;
 

@@ -4,7 +4,7 @@ use Rattle.resolver_mailbox.specs.declared.mocks.Key.{Key}
 use Rattle.resolver_script.specs.declared.kept.Kept.{Kept}
 use Rattle.resolver_script.specs.declared.kept.Kept.TheVariants.{Subscriber, AllBut, Without}
 use Rattle.std.specs.Ordering.{nat_cmp}
-use Rattle.resolver_root.specs.Names.{names}
+use Rattle.resolver_types.specs.Names.{names}
 use Rattle.resolver_backfill.specs.Plans.{keeps}
 
 abbrev pub is_kept : Kept → Key → ℕ → Bool

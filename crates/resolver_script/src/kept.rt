@@ -4,9 +4,9 @@ ghost use Rattle.std.proofs.Common.{rules};
 ghost use Rattle.resolver_script.specs.Kept.{is_kept};
 
 use resolver_backfill::Without;
-use resolver_base::base::Faithful;
+use resolver_base::Faithful;
 use resolver_mailbox::mocks::Key;
-use resolver_root::Predicate;
+use resolver_types::Predicate;
 
 /// What a line keeps.
 #[derive(Clone, Drop)]

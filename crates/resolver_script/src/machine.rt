@@ -4,8 +4,8 @@ use crate::endings::Fault;
 use crate::opaque::Opaque;
 use crate::peers::Peers;
 use crate::script::{Said, Why};
+use resolver_base::Moment;
 use resolver_fetch::fetcher::Answer;
-use resolver_moment::Moment;
 use std::io::Write;
 
 /// What became of what a machine was fed.

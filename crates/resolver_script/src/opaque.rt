@@ -7,11 +7,11 @@ use crate::planning::items_of;
 use crate::print;
 use crate::script::{Said, Wish};
 use bytes::Bytes;
-use resolver_actor::opaque::{Actor, Event, Input};
-use resolver_ingress::ingress::FetchKey;
+use resolver_base::Moment;
 use resolver_mailbox::mocks::Key;
-use resolver_moment::Moment;
-use resolver_root::NonEmptyVec;
+use resolver_messages::FetchKey;
+use resolver_opaque_actor::{Actor, Event, Input};
+use resolver_types::NonEmptyVec;
 use std::alloc::Global;
 use std::io::Write;
 

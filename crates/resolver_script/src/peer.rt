@@ -2,7 +2,7 @@
 
 ghost use Rattle.std.proofs.Common.{rules};
 
-use resolver_base::base::{Faithful, PublicKey};
+use resolver_base::{Faithful, PublicKey};
 use std::fmt;
 
 /// A peer, which goes by its number.

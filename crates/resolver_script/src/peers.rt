@@ -8,13 +8,12 @@ use crate::planning::items_of;
 use crate::print;
 use crate::script::{Said, Timing, Wish};
 use resolver::p2p::Core;
-use resolver_base::base;
+use resolver_base::Moment;
 use resolver_fetch::fetcher::{Answer, Config};
-use resolver_ingress::ingress::FetchKey;
 use resolver_mailbox::mocks::Key;
-use resolver_moment::Moment;
-use resolver_peer::inputs::{Event, Happening, Input};
-use resolver_root::NonEmptyVec;
+use resolver_messages::FetchKey;
+use resolver_model_peer::inputs::{Event, Happening, Input};
+use resolver_types::NonEmptyVec;
 use std::alloc::{AllocError, Global};
 use std::io::Write;
 
@@ -85,7 +84,7 @@ impl Peers {
     pub fn show<W: Write>(&self, output: &mut W) -> Result<(), Fault> {
         match self.core.rows() {
             Ok(rows) => print::rows(output, rows, self.core.get_pending_deadline()),
-            Err(base::Fault::Failed) => print::wake(output, None),
+            Err(resolver_base::Fault::Failed) => print::wake(output, None),
             Err(_) => Err(Fault::Memory),
         }
     }

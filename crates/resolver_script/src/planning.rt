@@ -5,10 +5,10 @@ use crate::kept::Kept;
 use crate::machine::{Fed, Machine};
 use crate::script::{Said, Why};
 use resolver_backfill::Plan;
-use resolver_ingress::ingress::FetchKey;
+use resolver_base::Moment;
 use resolver_mailbox::mocks::Key;
-use resolver_moment::Moment;
-use resolver_root::Fetch;
+use resolver_messages::FetchKey;
+use resolver_types::Fetch;
 use std::alloc::{AllocError, Global};
 use std::io::Write;
 

@@ -7,14 +7,13 @@ use crate::endings::{Fault, written};
 use crate::machine::Fed;
 use bytes::Bytes;
 use itoa::Buffer;
-use resolver_base::base;
 use resolver_mailbox::mocks::Key;
-use resolver_root::Delivery;
+use resolver_types::Delivery;
 use std::io;
 use std::io::Write;
 
 /// Prints a refusal as one line.
-fn refusal<W: Write>(output: &mut W, fault: base::Fault) -> Result<(), Fault> {
+fn refusal<W: Write>(output: &mut W, fault: resolver_base::Fault) -> Result<(), Fault> {
     let number = fault.number();
     let name = fault.name();
     written(writeln!(output, "refused {number} {name}"))
@@ -36,7 +35,7 @@ fn each<T: Lined, W: Write>(output: &mut W, lines: &[T]) -> Result<(), Fault> {
 /// Prints the effects of a step, or its refusal.
 pub fn answer<T: Lined + Drop, W: Write>(
     output: &mut W,
-    answered: Result<Vec<T>, base::Fault>,
+    answered: Result<Vec<T>, resolver_base::Fault>,
 ) -> Result<Fed, Fault> {
     let (fed, printed) = match &answered {
         Ok(effects) => (Fed::Taken, each(output, effects.as_slice())),

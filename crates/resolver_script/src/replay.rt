@@ -8,7 +8,7 @@ use crate::planning::Planning;
 use crate::script::{Command, Rejected, Why, Wrong, is_skipped, parse};
 use log::{Log, trace};
 use memchr::memchr;
-use resolver_moment::Moment;
+use resolver_base::Moment;
 use std::alloc::Global;
 use std::io::{BufRead, BufReader, ErrorKind, Read, Write};
 use std::mem;

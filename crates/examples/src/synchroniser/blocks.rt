@@ -1,7 +1,7 @@
 //! What becomes of a block that came.
 
 ghost use Rattle.std.specs.Prelude.{◌≡◌, IfErr};
-ghost use Rattle.resolver_base.specs.declared.base.fault.Fault.TheVariants.{OutOfMemory};
+ghost use Rattle.resolver_base.specs.declared.fault.Fault.TheVariants.{OutOfMemory};
 
 use crate::peers::network::Peer;
 use bytes::Bytes;

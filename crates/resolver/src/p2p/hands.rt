@@ -2,16 +2,16 @@
 
 ghost use Rattle.std.specs.Prelude.{◌≡◌, IfErr};
 ghost use Rattle.futures.specs.Task.{Keeps};
-ghost use Rattle.resolver_base.specs.declared.base.fault.Fault.TheVariants.{OutOfMemory};
+ghost use Rattle.resolver_base.specs.declared.fault.Fault.TheVariants.{OutOfMemory};
 
-use crate::p2p::asking::Asking;
+use crate::p2p::answers::Asking;
 use bytes::Bytes;
 use futures::task::{Context, Poll};
-use resolver_base::base::{Draws, Faithful, Fault, PublicKey, Sender, Span};
+use resolver_base::{Draws, Faithful, Fault, PublicKey, Sender, Span};
 use resolver_fetch::fetcher::Answer;
-use resolver_loop::{Blocker, Consumer, Judging, Peers, Producer, Provider, Serving};
-use resolver_peer::effects::Effect;
-use resolver_peer::inputs::Event;
+use resolver_model_peer::effects::Effect;
+use resolver_model_peer::inputs::Event;
+use resolver_runtime::{Blocker, Consumer, Judging, Peers, Producer, Provider, Serving};
 use std::alloc::Global;
 
 /// What an engine's effects go to: the sources of peers, the consumer, the producer, and the way to

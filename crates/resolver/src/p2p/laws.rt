@@ -7,13 +7,13 @@
 //! calls it came about by (`engine_runs_join`), with these answers, bytes included (`runs_are_said`), and
 //! what is true of every run is true of it.
 
-ghost use Rattle.resolver_peer.specs.Parties.{parties};
-ghost use Rattle.resolver_parts.specs.Said.{codec};
+ghost use Rattle.resolver_model_peer.specs.Parties.{parties};
+ghost use Rattle.resolver_peer_step.specs.Said.{codec};
 ghost use Rattle.resolver.specs.EngineLaws.{EngineRunsJoin, RunsAreSaid};
 ghost use Rattle.resolver.specs.Taking.{CoresTake};
 
-use resolver_base::base::Span;
-pub use resolver_peer::laws::{
+use resolver_base::Span;
+pub use resolver_model_peer::laws::{
     asked_once, asks_eligible, asks_well, blocked_target, dead_verdicts_pass, earns_once,
     foreign_and_broken_messages, ids_are_new, invalid_response, judges_by_the_run, keeps_demand,
     late_and_stale_responses, limit_one_peer, limit_peer_returns, limit_timeout, no_second_reply,
@@ -22,7 +22,7 @@ pub use resolver_peer::laws::{
     replies_once, responses_are_delivered, rests_after_scans, run_laws, runs_join, serving,
     stays_awake, timeout_and_limits, tries_once, verdicts_repeated,
 };
-use resolver_root::Predicate;
+use resolver_types::Predicate;
 
 /// Whoever steps a core, or has it run, in any number of calls, has one run of each machine that the
 /// core matched at first, with these answers, bytes included; and what holds of every run holds of it.

@@ -9,13 +9,13 @@ use crate::p2p::stepping::Core;
 use bytes::Bytes;
 use futures::Future;
 use futures::task::{Context, Poll};
-use resolver_base::base::{Draws, Faithful, PublicKey, Sender, Span};
-use resolver_loop::{
+use resolver_base::{Draws, Faithful, PublicKey, Sender, Span};
+use resolver_model_peer::inputs::{Event, Happening, Input};
+use resolver_runtime::{
     Blocker, Clock, Consumer, Ending, Producer, Provider, Receiver, TURNS, Turn, earlier,
     poll_moment,
 };
-use resolver_peer::inputs::{Event, Happening, Input};
-use resolver_root::Predicate;
+use resolver_types::Predicate;
 use std::hash::Hash;
 use std::sync::Wait;
 

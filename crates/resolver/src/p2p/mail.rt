@@ -5,11 +5,11 @@ ghost use Rattle.futures.specs.Task.{IsArmed, Keeps};
 
 use futures::Stream;
 use futures::task::{Context, Poll};
-use resolver_base::base::Faithful;
-use resolver_ingress::ingress::Message;
+use resolver_base::Faithful;
 use resolver_mailbox::mailbox::{Receiver, Unrecorded};
-use resolver_peer::inputs::Event;
-use resolver_root::{NonEmptyVec, Predicate};
+use resolver_messages::Message;
+use resolver_model_peer::inputs::Event;
+use resolver_types::{NonEmptyVec, Predicate};
 use std::hash::Hash;
 use std::sync::Wait;
 

@@ -4,19 +4,19 @@ ghost use Rattle.std.specs.Prelude.{◌≡◌, ◌<◌, true, length, map, IfErr
 ghost use Rattle.std.specs.List.{IsDistinct};
 ghost use Rattle.std.specs.List.Sorted.{IsStrictlySortedBy};
 ghost use Rattle.std.specs.Ordering.{is_eq};
-ghost use Rattle.resolver_root.specs.Names.{names};
-ghost use Rattle.resolver_root.specs.Table.{is_asked};
-ghost use Rattle.resolver_base.specs.declared.base.fault.Fault.TheVariants.{OutOfMemory};
-ghost use Rattle.resolver_peer.specs.Parties.{parties};
-ghost use Rattle.resolver_peer.specs.Peer.{Machine, row_of};
-ghost use Rattle.resolver_parts.specs.Going.{IsTied};
+ghost use Rattle.resolver_types.specs.Names.{names};
+ghost use Rattle.resolver_types.specs.Table.{is_asked};
+ghost use Rattle.resolver_base.specs.declared.fault.Fault.TheVariants.{OutOfMemory};
+ghost use Rattle.resolver_model_peer.specs.Parties.{parties};
+ghost use Rattle.resolver_model_peer.specs.Peer.{Machine, row_of};
+ghost use Rattle.resolver_peer_step.specs.Going.{IsTied};
 ghost use Rattle.resolver.specs.Listed.{listed, listed_phase};
-ghost use Rattle.resolver_parts.specs.Tied.{Agrees};
+ghost use Rattle.resolver_peer_step.specs.Tied.{Agrees};
 
-use resolver_base::base::Fault;
+use resolver_base::Fault;
 use resolver_demand::subscribers::Subscribers;
-use resolver_parts::parts::Parts;
-use resolver_root::NonEmptyVec;
+use resolver_peer_step::parts::Parts;
+use resolver_types::NonEmptyVec;
 use std::marker::Model;
 
 /// What is being done for a demanded key.

@@ -1,16 +1,16 @@
 //! An engine that runs.
 
 ghost use Rattle.std.specs.Prelude.{◌≡◌, IfErr, IfOk};
-ghost use Rattle.resolver_base.specs.declared.base.fault.Fault.TheVariants.{OutOfMemory};
+ghost use Rattle.resolver_base.specs.declared.fault.Fault.TheVariants.{OutOfMemory};
 
 use crate::p2p::engine::Engine;
 use bytes::Bytes;
 use futures::Future;
-use resolver_base::base::{Draws, Faithful, Fault, PublicKey, Sender, Span};
-use resolver_loop::{
+use resolver_base::{Draws, Faithful, Fault, PublicKey, Sender, Span};
+use resolver_runtime::{
     Blocker, Clock, Consumer, Ending, Handle, Producer, Provider, Receiver, start,
 };
-use resolver_root::Predicate;
+use resolver_types::Predicate;
 use std::alloc::AllocGlobal;
 use std::random::RandomSource;
 use std::sync::Wait;

@@ -4,30 +4,31 @@ ghost use Rattle.std.specs.Prelude.{◌≡◌, ◌≢◌, ◌⊎◌, ℕ, length
 ghost use Rattle.std.specs.List.{IsDistinct};
 ghost use Rattle.std.specs.List.Sorted.{IsStrictlySortedBy};
 ghost use Rattle.std.specs.Ordering.{is_eq};
-ghost use Rattle.resolver_base.specs.declared.base.fault.Fault.TheVariants.{OutOfMemory};
-ghost use Rattle.resolver_trying.specs.Fetcher.{IsTimely};
-ghost use Rattle.resolver_machine.specs.Steps.{stops};
-ghost use Rattle.resolver_peer.specs.Parties.{parties};
-ghost use Rattle.resolver_peer.specs.Peer as machines;
-ghost use Rattle.resolver_peer.specs.Peer.{Machine, active_deadline, opening, wake_up};
+ghost use Rattle.resolver_base.specs.declared.fault.Fault.TheVariants.{OutOfMemory};
+ghost use Rattle.resolver_fetch_scan.specs.Fetcher.{IsTimely};
+ghost use Rattle.resolver_model.specs.Steps.{stops};
+ghost use Rattle.resolver_model_peer.specs.Parties.{parties};
+ghost use Rattle.resolver_model_peer.specs.Peer as machines;
+ghost use Rattle.resolver_model_peer.specs.Peer.{Machine, active_deadline, opening, wake_up};
 ghost use Rattle.resolver.specs.Ending.{is_end, is_end_event};
 ghost use Rattle.resolver.specs.EngineLaws.{RunsWell};
 ghost use Rattle.resolver.specs.Taking.{Took};
-ghost use Rattle.resolver_parts.specs.EngineSteps.{Takes, all_fed};
+ghost use Rattle.resolver_peer_step.specs.EngineSteps.{Takes, all_fed};
 ghost use Rattle.resolver.specs.Listed.{listed};
 ghost use Rattle.resolver.specs.Matching.{Matches, UnlessFailed, is_final};
-ghost use Rattle.resolver_parts.specs.Said.{answer_of, codec, fed_of};
-ghost use Rattle.resolver_parts.specs.Tied.{fetcher_of};
+ghost use Rattle.resolver_peer_step.specs.Said.{answer_of, codec, fed_of};
+ghost use Rattle.resolver_peer_step.specs.Tied.{fetcher_of};
 
-use crate::p2p::counting::{metrics, take_and_count};
-use crate::p2p::rows::{self, Row};
-use resolver_base::base::{Fault, Span};
+use crate::p2p::counts::{metrics, take_and_count};
+use crate::p2p::rows;
+use crate::p2p::rows::Row;
+use resolver_base::{Fault, Span};
 use resolver_fetch::fetcher::Config;
 use resolver_metrics::metrics::Metrics;
-use resolver_parts::parts::Parts;
-use resolver_peer::effects::Effect;
-use resolver_peer::inputs::{Event, Input};
-use resolver_root::Predicate;
+use resolver_model_peer::effects::Effect;
+use resolver_model_peer::inputs::{Event, Input};
+use resolver_peer_step::parts::Parts;
+use resolver_types::Predicate;
 use std::alloc::Global;
 use std::marker::{Model, PhantomData};
 
@@ -50,7 +51,7 @@ pub struct Core<K: Ord, P: Ord, S: Ord, Q> {
 }
 
 impl<K: Ord, P: Ord, S: Ord, Q> Model for Core<K, P, S, Q> {
-    ghost use Rattle.resolver_peer.specs.Parties.{parties};
+    ghost use Rattle.resolver_model_peer.specs.Parties.{parties};
     ghost use Rattle.resolver.specs.Listed.{listed};
     ghost use Rattle.resolver.specs.Matching.{Engine, IsTiedUnlessFailed, held_by, status_of};
 

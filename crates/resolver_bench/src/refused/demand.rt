@@ -4,9 +4,9 @@ ghost use Rattle.std.specs.Prelude.{◌==◌, ◌%◌};
 ghost use Rattle.std.proofs.Common.{rules};
 
 use crate::refused::part::{Fresh, Notes, Part, Way, done};
-use resolver_base::base::Fault;
+use resolver_base::Fault;
 use resolver_demand::subscribers::Tracker;
-use resolver_root::{NonEmptyVec, Predicate};
+use resolver_types::{NonEmptyVec, Predicate};
 use std::alloc::Global;
 
 /// Keeps the subscribers with even names.

@@ -2,9 +2,9 @@
 
 use crate::refused::demand::listed;
 use crate::refused::part::{Fresh, Notes, Part, Way, done};
-use resolver_base::base::Fault;
+use resolver_base::Fault;
 use resolver_delivery::Entries;
-use resolver_root::{Delivery, Outcome};
+use resolver_types::{Delivery, Outcome};
 use std::alloc::Global;
 
 /// Who wants each key, with their marks.

@@ -3,11 +3,11 @@
 use crate::refused::part::{Fresh, Notes, Part, Way};
 use crate::workload::Peer;
 use bytes::Bytes;
-use resolver_base::base::{Check, Draws, Fault, Feedback, Sender, Unreliable};
-use resolver_fakes::wide::Name;
+use resolver_base::{Check, Draws, Fault, Feedback, Sender, Unreliable};
 use resolver_fetch::fetcher::{Config, Fetcher};
 use std::alloc::Global;
 use std::num::NonZeroU32;
+use tests_support::wide::Name;
 
 /// Draws nothing but zeros.
 #[derive(Drop)]

@@ -1,8 +1,8 @@
 //! A weighted index.
 
 use crate::refused::part::{Fresh, Notes, Part, Way};
-use resolver_base::base::Fault;
-use resolver_request::sampling::WeightedIndex;
+use resolver_base::Fault;
+use resolver_sampling::sampling::WeightedIndex;
 use std::alloc::Global;
 
 /// A call of an index.

@@ -5,10 +5,10 @@ ghost use Rattle.std.proofs.Common.{rules};
 
 use crate::refused::part::{Ending, Fresh, Notes, Part, Way, taken};
 use crate::workload;
-use resolver_backlog::Pending;
-use resolver_base::base::Fault;
-use resolver_ingress::ingress::{Message, Metadata, Predicate};
-use resolver_root::NonEmptyVec;
+use resolver_base::Fault;
+use resolver_desk::Pending;
+use resolver_messages::{Message, Metadata, Predicate};
+use resolver_types::NonEmptyVec;
 use std::alloc::Global;
 
 type Targets = Option<NonEmptyVec<u16>>;

@@ -1,6 +1,6 @@
 //! A part, and the calls of a row.
 
-use resolver_base::base::Fault;
+use resolver_base::Fault;
 use std::alloc::Global;
 use std::fmt::{Debug, Write};
 

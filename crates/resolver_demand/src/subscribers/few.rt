@@ -4,10 +4,10 @@ ghost use Rattle.std.specs.Prelude.{◌≡◌, ◌≤◌, nat_lt, filter, insert
 ghost use Rattle.std.specs.List.Sorted.{IsStrictlySortedBy};
 ghost use Rattle.std.specs.Map.{keys_of};
 ghost use Rattle.std.specs.List.{list_any};
-ghost use Rattle.resolver_root.specs.Subscribers.{attached, attached_all, without};
+ghost use Rattle.resolver_types.specs.Subscribers.{attached, attached_all, without};
 
 use crate::subscribers::named::Named;
-use resolver_root::Predicate;
+use resolver_types::Predicate;
 use std::alloc::{AllocError, Global};
 use std::cmp::Ordering;
 

@@ -4,11 +4,11 @@ ghost use Rattle.std.specs.Prelude.{◌≡◌, nat_lt, [], filter, length, IfOk,
 ghost use Rattle.std.specs.List.{list_any};
 ghost use Rattle.std.specs.List.Sorted.{IsStrictlySortedBy};
 ghost use Rattle.std.specs.Map.{keys_of};
-ghost use Rattle.resolver_root.specs.Subscribers.{attached_all, without};
+ghost use Rattle.resolver_types.specs.Subscribers.{attached_all, without};
 
 use crate::subscribers::named::Named;
 use crate::subscribers::{few, many};
-use resolver_root::Predicate;
+use resolver_types::Predicate;
 use std::alloc::{AllocError, Global};
 use std::collections::BTreeMap;
 use std::marker::Model;

@@ -5,11 +5,11 @@ ghost use Rattle.std.specs.List.{list_any};
 ghost use Rattle.std.specs.List.Sorted.{IsStrictlySortedBy};
 ghost use Rattle.std.specs.Map.{keys_of};
 ghost use Rattle.std.specs.BTreeMap.{insert_entry};
-ghost use Rattle.resolver_root.specs.Subscribers.{attached_all, without};
-ghost use Rattle.resolver_root.specs.Undone.{without_each};
+ghost use Rattle.resolver_types.specs.Subscribers.{attached_all, without};
+ghost use Rattle.resolver_types.specs.Undone.{without_each};
 
 use crate::subscribers::named::Named;
-use resolver_root::Predicate;
+use resolver_types::Predicate;
 use std::alloc::{AllocError, Global};
 use std::collections::BTreeMap;
 

@@ -3,7 +3,7 @@
 ghost use Rattle.std.specs.Prelude.{◌≡◌, IfOk};
 ghost use Rattle.std.specs.Option.{ForSome};
 ghost use Rattle.std.specs.BTreeSet.{contains};
-ghost use Rattle.resolver_root.specs.Subscribers.{is_among};
+ghost use Rattle.resolver_types.specs.Subscribers.{is_among};
 
 use std::alloc::{AllocError, Global};
 use std::cmp::Ordering;

@@ -1,17 +1,17 @@
 //! A whole scan, with a sender and draws that are lent to it.
 
 ghost use Rattle.std.specs.Prelude.{◌≡◌, ◌<◌, ◌^◌, false, Some, None, is_some, IfErr, IfOk, OnErr, OnOk};
-ghost use Rattle.resolver_base.specs.declared.base.fault.Fault.TheVariants.{OutOfMemory};
-ghost use Rattle.resolver_trying.specs.Fetcher.{question};
+ghost use Rattle.resolver_base.specs.declared.fault.Fault.TheVariants.{OutOfMemory};
+ghost use Rattle.resolver_fetch_scan.specs.Fetcher.{question};
 ghost use Rattle.resolver_fetch.specs.Fetching.{Fetches, GoesOn, MaySay, Says, Stops, TakesOne, Wants, given_up, lent, outside, request_of};
-ghost use Rattle.resolver_trying.specs.Orders.{orders};
+ghost use Rattle.resolver_fetch_scan.specs.Orders.{orders};
 ghost use Rattle.resolver_fetch.specs.Progress.{Fits, IsAnswerable, IsSound, Keeps, answers_left};
-ghost use Rattle.resolver_request.specs.Spelling.{spelling};
+ghost use Rattle.resolver_wire.specs.Spelling.{spelling};
 
 use crate::fetcher::{Answer, Ask, Fetcher, ID};
 use bytes::{Bytes, BytesMut};
-use resolver_base::base::{Draws, Fault, PublicKey, Sender, Span};
-use resolver_request::wire::{Message, Payload};
+use resolver_base::{Draws, Fault, PublicKey, Sender, Span};
+use resolver_wire::wire::{Message, Payload};
 use std::alloc::{AllocError, Global};
 
 impl<K: Span + Drop, P: PublicKey + Drop> Fetcher<K, P> {

@@ -1,10 +1,10 @@
 //! Worked runs of a fetcher's definition, and how many numbers choose what a scan draws. Each function says
 //! one of them, and does nothing. They are no part of the surface.
 
-ghost use Rattle.resolver_fetch.specs.FetcherRows.{BlockedTarget, FirstRequest, MissingAndRetry, NextIds, RefusedSends, TwoQueues, WakeUp};
-ghost use Rattle.resolver_trying.specs.FetcherLaws.{DrawCounts};
-ghost use Rattle.resolver_trying.specs.Fetcher.{snapshot};
-ghost use Rattle.resolver_trying.specs.Orders.{orders};
+ghost use Rattle.resolver_fetch.specs.FetcherWorked.{BlockedTarget, FirstRequest, MissingAndRetry, NextIds, RefusedSends, TwoQueues, WakeUp};
+ghost use Rattle.resolver_fetch_scan.specs.FetcherLaws.{DrawCounts};
+ghost use Rattle.resolver_fetch_scan.specs.Fetcher.{snapshot};
+ghost use Rattle.resolver_fetch_scan.specs.Orders.{orders};
 
 use crate::fetcher::Fetcher;
 

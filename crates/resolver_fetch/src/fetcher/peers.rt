@@ -7,20 +7,20 @@ ghost use Rattle.std.specs.BTreeMap.{is_at};
 ghost use Rattle.std.specs.Map.{keys_of, lookup};
 ghost use Rattle.std.specs.Option.{option_copied};
 ghost use Rattle.std.specs.Ordering.{eq_by_cmp};
-ghost use Rattle.resolver_base.specs.declared.base.fault.Fault.TheVariants.{OutOfMemory};
-ghost use Rattle.resolver_trying.specs.Known.{known_by, with_load, askable, askable_at, eligible, is_eligible, is_local, is_target, may_be_asked, weight_in};
-ghost use Rattle.resolver_trying.specs.Peers.{observed, replaced, set_of};
-ghost use Rattle.resolver_request.specs.Scores.{averaged, weight_of};
-ghost use Rattle.resolver_asked.specs.Loads.{counted, fills, frees, is_full, loaded, one_fewer, one_more};
+ghost use Rattle.resolver_base.specs.declared.fault.Fault.TheVariants.{OutOfMemory};
+ghost use Rattle.resolver_fetch_scan.specs.Known.{known_by, with_load, askable, askable_at, eligible, is_eligible, is_local, is_target, may_be_asked, weight_in};
+ghost use Rattle.resolver_fetch_scan.specs.Peers.{observed, replaced, set_of};
+ghost use Rattle.resolver_sampling.specs.Scores.{averaged, weight_of};
+ghost use Rattle.resolver_fetch_requests.specs.Loads.{counted, fills, frees, is_full, loaded, one_fewer, one_more};
 ghost use Rattle.std.specs.NonZero.{non_zero_u32_get};
-ghost use Rattle.resolver_trying.specs.Pools.{IsWhole, recounted, revalued, reweighed, weighs, whole};
-ghost use Rattle.resolver_trying.specs.Trying.{drawn_from, sampled, weighed};
+ghost use Rattle.resolver_fetch_scan.specs.Pools.{IsWhole, recounted, revalued, reweighed, weighs, whole};
+ghost use Rattle.resolver_fetch_scan.specs.Trying.{drawn_from, sampled, weighed};
 
-use resolver_asked::load::Load;
-use resolver_base::base::Fault;
-use resolver_request::score::Score;
-use resolver_trying::pool::Pool;
-use resolver_trying::targets::Targets;
+use resolver_base::Fault;
+use resolver_fetch_requests::load::Load;
+use resolver_fetch_scan::pool::Pool;
+use resolver_fetch_scan::targets::Targets;
+use resolver_sampling::score::Score;
 use std::alloc::{AllocError, Global};
 use std::collections::{BTreeMap, BTreeSet};
 use std::marker::Model;
@@ -45,8 +45,8 @@ pub(super) struct Peers<P: Ord> {
 
 impl<P: Ord> Model for Peers<P> {
     ghost use Rattle.std.specs.Prelude.{◌≡◌};
-    ghost use Rattle.resolver_trying.specs.Known.{Company, askable, known_by};
-    ghost use Rattle.resolver_trying.specs.Pools.{IsWhole};
+    ghost use Rattle.resolver_fetch_scan.specs.Known.{Company, askable, known_by};
+    ghost use Rattle.resolver_fetch_scan.specs.Pools.{IsWhole};
 
     ghost Value = { Company P };
 

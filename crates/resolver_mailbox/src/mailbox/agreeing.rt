@@ -1,17 +1,17 @@
 //! Whether a book says what handles and the receiver say.
 
 ghost use Rattle.std.specs.Prelude.{◌≡◌, ◌<◌, ◌↔◌, map, IfOk, IfErr, IsTrue, OnErr};
-ghost use Rattle.resolver_ingress.specs.Backlog.{item_of, told_of};
+ghost use Rattle.resolver_messages.specs.Waiting.{item_of, told_of};
 ghost use Rattle.resolver_desk.specs.Book.{call_of, closes, puts_of, takes};
-ghost use Rattle.resolver_base.specs.declared.base.fault.Fault.TheVariants.{Uneven};
+ghost use Rattle.resolver_base.specs.declared.fault.Fault.TheVariants.{Uneven};
 ghost use Rattle.resolver_mailbox.specs.Shares.{Agrees, AgreesWith, Differs};
 
 use crate::mailbox::exact::Exact;
 use crate::mailbox::naming::Names;
 use crate::mailbox::share::Share;
-use resolver_base::base::{Faithful, Fault};
+use resolver_base::{Faithful, Fault};
 use resolver_desk::entry::{Entry, Posted};
-use resolver_ingress::ingress::{FetchKey, Message, Metadata};
+use resolver_messages::{FetchKey, Message, Metadata};
 use std::alloc::{AllocError, Global};
 
 /// Whether both fetches are the same.

@@ -3,8 +3,8 @@
 ghost use Rattle.std.specs.Prelude.{◌≡◌, ◌↔◌, IsTrue};
 
 use bytes::Bytes;
-use resolver_ingress::ingress::Kept;
-use resolver_root::NonEmptyVec;
+use resolver_messages::Kept;
+use resolver_types::NonEmptyVec;
 
 /// A type whose values are said to be the same exactly where they are.
 pub trait Exact {

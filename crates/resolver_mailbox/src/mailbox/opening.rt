@@ -1,7 +1,7 @@
 //! Mailboxes that are opened.
 
 ghost use Rattle.std.specs.Prelude.{◌≡◌, ◌<◌, [], false, true, None, IfOk, IfErr};
-ghost use Rattle.resolver_base.specs.declared.base.fault.Fault.TheVariants.{OutOfMemory};
+ghost use Rattle.resolver_base.specs.declared.fault.Fault.TheVariants.{OutOfMemory};
 
 use crate::mailbox::counted::{Counted, Seat};
 use crate::mailbox::naming::{Naming, Pages, Unrecorded};
@@ -9,9 +9,9 @@ use crate::mailbox::receiver::Receiver;
 use crate::mailbox::sender::{Sender, Shared};
 use crate::mailbox::taken::Taken;
 use futures::task::Source;
-use resolver_base::base::{Faithful, Fault};
-use resolver_ingress::ingress::Metadata;
-use resolver_root::Predicate;
+use resolver_base::{Faithful, Fault};
+use resolver_messages::Metadata;
+use resolver_types::Predicate;
 use std::alloc::Global;
 use std::hash::Hash;
 use std::sync::{Arc, Mutex};

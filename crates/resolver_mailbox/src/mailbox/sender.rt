@@ -2,18 +2,18 @@
 
 ghost use Rattle.std.specs.Prelude.{◌≡◌, ◌≢◌, false, true, None, Ok, IfOk, IfErr, IfSome, OnErr};
 ghost use Rattle.std.specs.Option.{option_copied, option_map};
-ghost use Rattle.resolver_base.specs.declared.base.fault.Fault.TheVariants.{Exhausted, OutOfMemory};
-ghost use Rattle.resolver_base.specs.declared.base.feedback.Feedback.TheVariants.{Closed};
-ghost use Rattle.resolver_ingress.specs.Backlog.{told_of};
+ghost use Rattle.resolver_base.specs.declared.fault.Fault.TheVariants.{Exhausted, OutOfMemory};
+ghost use Rattle.resolver_base.specs.declared.feedback.Feedback.TheVariants.{Closed};
+ghost use Rattle.resolver_messages.specs.Waiting.{told_of};
 ghost use Rattle.resolver_mailbox.specs.Shares.{IsAdded, marked};
 
 use crate::mailbox::counted::{Counted, Seat};
 use crate::mailbox::naming::Naming;
 use crate::mailbox::share::Share;
 use futures::task::Source;
-use resolver_base::base::{Faithful, Fault, Feedback};
-use resolver_ingress::ingress::{Message, Metadata};
-use resolver_root::Predicate;
+use resolver_base::{Faithful, Fault, Feedback};
+use resolver_messages::{Message, Metadata};
+use resolver_types::Predicate;
 use std::alloc::{AllocError, Global};
 use std::hash::Hash;
 use std::marker::Model;

@@ -2,17 +2,17 @@
 
 ghost use Rattle.std.specs.Prelude.{◌≡◌, ◌≢◌, ◌≤◌, ◌<◌, ◌+◌, ◌^◌, ◌-◌, ◌∷◌, [], false, true, is_some, map, None, Some, IfOk, IfErr, OnOk, OnErr};
 ghost use Rattle.std.specs.Vec.{vec_len, vec_capacity};
-ghost use Rattle.resolver_base.specs.declared.base.fault.Fault.TheVariants.{Exhausted, OutOfMemory};
-ghost use Rattle.resolver_root.specs.Names.{names};
-ghost use Rattle.resolver_ingress.specs.Backlog.{told_of};
+ghost use Rattle.resolver_base.specs.declared.fault.Fault.TheVariants.{Exhausted, OutOfMemory};
+ghost use Rattle.resolver_types.specs.Names.{names};
+ghost use Rattle.resolver_messages.specs.Waiting.{told_of};
 ghost use Rattle.resolver_desk.specs.Desk.{desk_put, feedback_of};
 ghost use Rattle.resolver_mailbox.specs.Shares.{first_share, marked, numbered, with_message};
 
 use crate::mailbox::naming::{Names, Puts};
-use resolver_base::base::{Faithful, Fault, Feedback};
+use resolver_base::{Faithful, Fault, Feedback};
 use resolver_desk::desk::Desk;
-use resolver_ingress::ingress::{Message, Metadata};
-use resolver_root::Predicate;
+use resolver_messages::{Message, Metadata};
+use resolver_types::Predicate;
 use std::alloc::{AllocError, Global};
 use std::hash::Hash;
 use std::marker::Model;
@@ -33,7 +33,7 @@ pub struct Share<K, S, M, Q, N: Names> {
 impl<K, S, M, Q, N: Names> Model for Share<K, S, M, Q, N> {
     ghost use Rattle.std.specs.Prelude.{◌≡◌, ◌<◌, map};
     ghost use Rattle.std.specs.Vec.{vec_len};
-    ghost use Rattle.resolver_ingress.specs.Backlog.{told_of};
+    ghost use Rattle.resolver_messages.specs.Waiting.{told_of};
     ghost use Rattle.resolver_mailbox.specs.Shares.{Share};
 
     ghost Value = { Share K S M Q };

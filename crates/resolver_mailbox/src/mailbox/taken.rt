@@ -2,16 +2,16 @@
 
 ghost use Rattle.std.specs.Prelude.{◌≡◌, ◌+◌, ◌++◌, [], false, true, is_some, length, map, IfOk, IfErr, OnErr};
 ghost use Rattle.std.specs.Option.{option_map, option_to_list};
-ghost use Rattle.resolver_base.specs.declared.base.fault.Fault.TheVariants.{OutOfMemory};
-ghost use Rattle.resolver_ingress.specs.Backlog.{told_of};
+ghost use Rattle.resolver_base.specs.declared.fault.Fault.TheVariants.{OutOfMemory};
+ghost use Rattle.resolver_messages.specs.Waiting.{told_of};
 ghost use Rattle.resolver_desk.specs.Desk.{desk_taken};
 
 use crate::mailbox::naming::{Naming, Takes};
 use crate::mailbox::share::ready_copy;
-use resolver_base::base::{Faithful, Fault};
+use resolver_base::{Faithful, Fault};
 use resolver_desk::desk::Desk;
-use resolver_ingress::ingress::{Message, Metadata};
-use resolver_root::Predicate;
+use resolver_messages::{Message, Metadata};
+use resolver_types::Predicate;
 use std::alloc::Global;
 use std::hash::Hash;
 use std::marker::Model;
@@ -28,7 +28,7 @@ pub(super) struct Taken<K, S, M, Q, N: Naming> {
 impl<K, S, M, Q, N: Naming> Model for Taken<K, S, M, Q, N> {
     ghost use Rattle.std.specs.Prelude.{List, ◌≡◌, [], is_some, map, MatchOption};
     ghost use Rattle.std.specs.Vec.{vec_len};
-    ghost use Rattle.resolver_ingress.specs.Backlog.{Told, told_of};
+    ghost use Rattle.resolver_messages.specs.Waiting.{Told, told_of};
 
     ghost Value = { List (Told K S M Q) };
 

@@ -2,8 +2,8 @@
 
 use crate::print::{Lined, deliver, demand, line_of_number, line_of_numbers, word_and_number};
 use bytes::Bytes;
-use resolver_actor::opaque::{Effect, Phase, Row};
 use resolver_mailbox::mocks::Key;
+use resolver_opaque_actor::{Effect, Phase, Row};
 use std::io;
 use std::io::Write;
 

@@ -7,8 +7,8 @@ use crate::print::{
 use resolver::p2p::rows::{Phase, Row};
 use resolver_fetch::fetcher::Ask;
 use resolver_mailbox::mocks::Key;
-use resolver_peer::effects::Effect;
-use resolver_peer::named::Source;
+use resolver_model_peer::effects::Effect;
+use resolver_model_peer::named::Source;
 use std::io;
 use std::io::Write;
 

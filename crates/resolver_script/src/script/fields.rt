@@ -12,8 +12,8 @@ ghost use Rattle.resolver_script.specs.Numbers.{begins_plainly, list_of, number_
 use crate::script::{Unread, Why};
 use bytes::Bytes;
 use memchr::memchr;
-use resolver_moment::Moment;
-use resolver_root::NonEmptyVec;
+use resolver_base::Moment;
+use resolver_types::NonEmptyVec;
 use std::alloc::{AllocError, Global};
 use std::num::NonZeroU32;
 

@@ -8,9 +8,9 @@ use crate::script::fields::{
 };
 use crate::script::{Said, Unread, Why, Wish};
 use bytes::Bytes;
-use resolver_base::base::Check;
+use resolver_base::Check;
 use resolver_fetch::fetcher::Answer;
-use resolver_root::{Outcome, Resolution};
+use resolver_types::{Outcome, Resolution};
 use std::alloc::Global;
 
 /// What both machines are told.

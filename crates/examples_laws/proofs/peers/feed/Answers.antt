@@ -1,9 +1,9 @@
 use Rattle.std.proofs.Common.{◌≡◌, ap, sym, ◌∙◌, subst, not, ◌++◌, map}
 use Rattle.std.proofs.lemmas.List.{append_assoc}
-use Rattle.resolver_peer.specs.Parties.{parties}
-use Rattle.resolver_peer.specs.Peer.{opening}
-use Rattle.resolver_parts.specs.EngineSteps.{all_fed}
-use Rattle.resolver_parts.specs.Said.{answer_of, codec}
+use Rattle.resolver_model_peer.specs.Parties.{parties}
+use Rattle.resolver_model_peer.specs.Peer.{opening}
+use Rattle.resolver_peer_step.specs.EngineSteps.{all_fed}
+use Rattle.resolver_peer_step.specs.Said.{answer_of, codec}
 use Rattle.resolver.specs.Taking.{Took, latest}
 use Rattle.examples_laws.proofs.Feeding.{fed-well}
 use Rattle.examples_laws.proofs.peers.feed.Goals as goal

@@ -2,9 +2,9 @@ use Rattle.std.proofs.Common.{◌≡◌, ap, sym, ◌∙◌, subst, arith, true,
 use Rattle.std.proofs.lemmas.List.{append_assoc, nil_from_length}
 use Rattle.std.specs.List.{list_any}
 use Rattle.std.specs.Vec.Iter.{into_iter_items}
-use Rattle.resolver_machine.specs.Steps.{stops}
-use Rattle.resolver_peer.specs.Parties.{parties}
-use Rattle.resolver_parts.specs.Said.{codec}
+use Rattle.resolver_model.specs.Steps.{stops}
+use Rattle.resolver_model_peer.specs.Parties.{parties}
+use Rattle.resolver_peer_step.specs.Said.{codec}
 use Rattle.resolver.specs.Taking.{Took, latest}
 use Rattle.examples_laws.proofs.Lists.{last-decides}
 use Rattle.examples_laws.proofs.peers.step_each.Goals as goal

@@ -1,11 +1,11 @@
 use Rattle.std.proofs.Common.{◌≡◌, ◌++◌, ℕ, List, false}
 use Rattle.std.specs.List.{list_any}
 use Rattle.std.specs.Vec.Iter.{into_iter_items}
-use Rattle.resolver_machine.specs.Steps.{stops}
-use Rattle.resolver_peer.specs.Parties.{parties}
-use Rattle.resolver_peer.specs.Peer.{Machine}
-use Rattle.resolver_peer.specs.declared.inputs.Input.{Input}
-use Rattle.resolver_parts.specs.Said.{codec}
+use Rattle.resolver_model.specs.Steps.{stops}
+use Rattle.resolver_model_peer.specs.Parties.{parties}
+use Rattle.resolver_model_peer.specs.Peer.{Machine}
+use Rattle.resolver_model_peer.specs.declared.inputs.Input.{Input}
+use Rattle.resolver_peer_step.specs.Said.{codec}
 use Rattle.resolver.specs.Matching.{Matches}
 use Rattle.resolver.specs.Taking.{Took}
 use Rattle.examples_laws.proofs.peers.step_each.Given as goal

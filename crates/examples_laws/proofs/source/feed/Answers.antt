@@ -1,8 +1,8 @@
 use Rattle.std.proofs.Common.{ap, sym, ◌∙◌, subst, not, ◌++◌, map}
 use Rattle.std.proofs.lemmas.List.{append_assoc}
-use Rattle.resolver_root.specs.Names.{names}
-use Rattle.resolver_source.specs.OpaqueInputs.{input_of}
-use Rattle.resolver_source.specs.OpaqueSteps.{answer_of}
+use Rattle.resolver_types.specs.Names.{names}
+use Rattle.resolver_model_opaque.specs.OpaqueInputs.{input_of}
+use Rattle.resolver_model_opaque.specs.OpaqueSteps.{answer_of}
 use Rattle.examples_laws.proofs.SourceRuns.{Answered, run-ended, run-on}
 use Rattle.examples_laws.proofs.source.feed.Goals as goal
 use Rattle.examples_laws.proofs.source.feed.Goals.{then-goes+in_ok-more+in_ok-append, else-goes}

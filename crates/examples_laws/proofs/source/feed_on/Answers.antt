@@ -1,5 +1,5 @@
 use Rattle.std.proofs.Common.{ap, ◌∙◌, not}
-use Rattle.resolver_root.specs.Names.{names}
+use Rattle.resolver_types.specs.Names.{names}
 use Rattle.examples_laws.proofs.SourceRuns.{run-ended, run-on}
 use Rattle.examples_laws.proofs.source.feed_on.Goals as goal
 use Rattle.examples_laws.proofs.source.feed_on.Goals.{then-goes+in_ok-last+in_ok-append, else-goes}

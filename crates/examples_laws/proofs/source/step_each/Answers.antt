@@ -1,7 +1,7 @@
 use Rattle.std.proofs.Common.{ap, sym, ◌∙◌, subst, true, false, [], ◌∷◌, ◌++◌}
 use Rattle.std.proofs.lemmas.List.{append_assoc}
 use Rattle.std.specs.Vec.Iter.{into_iter_items}
-use Rattle.resolver_root.specs.Names.{names}
+use Rattle.resolver_types.specs.Names.{names}
 use Rattle.examples_laws.proofs.SourceRuns.{Answered, GoesOn, last-ends, run-ended, step-on}
 use Rattle.examples_laws.proofs.source.step_each.Goals as goal
 

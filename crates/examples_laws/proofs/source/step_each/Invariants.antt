@@ -1,11 +1,11 @@
 use Rattle.std.proofs.Common.{◌≡◌, ◌++◌, List, map, false}
 use Rattle.std.specs.List.{list_any}
 use Rattle.std.specs.Vec.Iter.{into_iter_items}
-use Rattle.resolver_machine.specs.Steps.{stops}
-use Rattle.resolver_root.specs.Names.{names}
-use Rattle.resolver_stages.specs.declared.inputs.Input.{Input}
-use Rattle.resolver_source.specs.OpaqueInputs.{input_of}
-use Rattle.resolver_source.specs.OpaqueSteps.{Runs, answer_of}
+use Rattle.resolver_model.specs.Steps.{stops}
+use Rattle.resolver_types.specs.Names.{names}
+use Rattle.resolver_model_opaque.specs.declared.inputs.Input.{Input}
+use Rattle.resolver_model_opaque.specs.OpaqueInputs.{input_of}
+use Rattle.resolver_model_opaque.specs.OpaqueSteps.{Runs, answer_of}
 use Rattle.examples_laws.proofs.source.step_each.Given as goal
 
 -- The inputs that aren't left were taken, with the answers so far, of which none ended the run.

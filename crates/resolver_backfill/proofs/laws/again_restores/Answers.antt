@@ -1,4 +1,4 @@
-use Rattle.resolver_root.specs.Names.{names}
+use Rattle.resolver_types.specs.Names.{names}
 use Rattle.resolver_backfill.proofs.Turning.{again-restores}
 use Rattle.resolver_backfill.proofs.laws.again_restores.Goals as goal
 

@@ -1,4 +1,4 @@
-use Rattle.resolver_root.specs.Names.{names}
+use Rattle.resolver_types.specs.Names.{names}
 use Rattle.resolver_backfill.proofs.Turning.{calls-keep}
 use Rattle.resolver_backfill.proofs.laws.calls_keep_demand.Goals as goal
 

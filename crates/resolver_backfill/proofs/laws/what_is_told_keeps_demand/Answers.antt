@@ -1,4 +1,4 @@
-use Rattle.resolver_root.specs.Names.{names}
+use Rattle.resolver_types.specs.Names.{names}
 use Rattle.resolver_backfill.proofs.Turning.{told-turns}
 use Rattle.resolver_backfill.proofs.laws.what_is_told_keeps_demand.Goals as goal
 

@@ -1,5 +1,5 @@
 use Rattle.std.proofs.Common.{◌≡◌, ◌∙◌, sym, ap, true, false, Err, rules, cond}
-use Rattle.resolver_base.specs.declared.base.fault.Fault.TheVariants.{OutOfMemory}
+use Rattle.resolver_base.specs.declared.fault.Fault.TheVariants.{OutOfMemory}
 use Rattle.resolver_backfill.specs.Plans.{Plan, lacking, met, settled, wanting}
 use Rattle.resolver_backfill.specs.Telling.{AsksOf, is_taken}
 use Rattle.resolver_backfill.proofs.Told.{asks-wanting}

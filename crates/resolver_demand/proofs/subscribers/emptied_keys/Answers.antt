@@ -2,7 +2,7 @@ use Rattle.std.proofs.Common.{◌≡◌, ◌∙◌, sym, ap, true, false, ◌∷
 use Rattle.std.specs.List.{list_any}
 use Rattle.std.specs.List.Sorted.{IsStrictlySortedBy}
 use Rattle.std.specs.Map.{keys_of}
-use Rattle.resolver_root.specs.Table.{emptied}
+use Rattle.resolver_types.specs.Table.{emptied}
 use Rattle.resolver_demand.proofs.Emptied.{emptied-gone, emptied-kept, emptied-ordered}
 use Rattle.resolver_demand.proofs.subscribers.emptied_keys.Goals as goal
 

@@ -1,5 +1,5 @@
 use Rattle.std.proofs.Common.{◌≡◌, ◌++◌}
-use Rattle.resolver_root.specs.Table.{emptied}
+use Rattle.resolver_types.specs.Table.{emptied}
 use Rattle.resolver_demand.proofs.subscribers.emptied_keys.Given as goal
 
 -- the keys so far, with those of the entries that are left

@@ -2,9 +2,9 @@ use Rattle.std.proofs.Common.{◌≡◌, ◌∙◌, ◌<◌, None, Some, [], len
 use Rattle.std.specs.Map.{lookup, remove_entry, set_value}
 use Rattle.std.specs.BTreeMap.{insert_entry, is_at}
 use Rattle.std.specs.BTreeMap.Entry.{entry_value}
-use Rattle.resolver_root.specs.Names.{names}
-use Rattle.resolver_root.specs.Subscribers.{without}
-use Rattle.resolver_root.specs.Table.{without_named}
+use Rattle.resolver_types.specs.Names.{names}
+use Rattle.resolver_types.specs.Subscribers.{without}
+use Rattle.resolver_types.specs.Table.{without_named}
 use Rattle.resolver_demand.specs.Rows.{AreListed, IsListed}
 use Rattle.resolver_demand.proofs.Held.{insert_entry-there, remove_entry-absent}
 use Rattle.resolver_demand.proofs.ListedRows.{all-remove, all-set, listed-of, without-listed}

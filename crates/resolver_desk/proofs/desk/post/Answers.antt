@@ -1,6 +1,6 @@
 use Rattle.std.proofs.Common.{◌≡◌, ◌∙◌, ℕ, ◌+◌, ◌^◌, Bool, Option, None, Some, is_some, map, MatchOption, refl, sym, ap, rules, subst}
 use Rattle.std.specs.Option.{ForSome, option_map}
-use Rattle.resolver_ingress.specs.Backlog.{Told, told_of}
+use Rattle.resolver_messages.specs.Waiting.{Told, told_of}
 use Rattle.resolver_desk.specs.declared.book.Book.{Book as Kept}
 use Rattle.resolver_desk.specs.Desk.{Book, book_of, next_of, number_of, with_put, with_put_of}
 use Rattle.resolver_desk.proofs.desk.post.Goals as goal

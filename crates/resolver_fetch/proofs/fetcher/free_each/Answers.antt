@@ -1,7 +1,7 @@
 use Rattle.std.proofs.Common.{◌≡◌, ◌∙◌, refl, sym, ℕ, false, true, rules}
 use Rattle.std.proofs.lemmas.Fn.{says_at}
-use Rattle.resolver_asked.specs.declared.requests.request.Request.{Request}
-use Rattle.resolver_trying.specs.Known.{known_by}
+use Rattle.resolver_fetch_requests.specs.declared.requests.request.Request.{Request}
+use Rattle.resolver_fetch_scan.specs.Known.{known_by}
 use Rattle.resolver_fetch.proofs.Freeing.{freed-first, freed-kept, freed-last, freed-off}
 use Rattle.resolver_fetch.proofs.fetcher.free_each.Goals as goal
 

@@ -1,6 +1,6 @@
 use Rattle.std.proofs.Common.{Bool}
 use Rattle.resolver_base.specs.Answering.{AnswersBy}
-use Rattle.resolver_trying.specs.Known.{known_by}
+use Rattle.resolver_fetch_scan.specs.Known.{known_by}
 use Rattle.resolver_fetch.proofs.Freeing.{IsFreed}
 use Rattle.resolver_fetch.proofs.fetcher.free_each.Given as goal
 

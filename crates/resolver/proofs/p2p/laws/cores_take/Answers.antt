@@ -1,6 +1,6 @@
 use Rattle.std.proofs.Common.{sym, ◌∙◌}
-use Rattle.resolver_peer.specs.Parties.{parties}
-use Rattle.resolver_parts.specs.Said.{codec}
+use Rattle.resolver_model_peer.specs.Parties.{parties}
+use Rattle.resolver_peer_step.specs.Said.{codec}
 use Rattle.resolver.proofs.Taking.{cores_take}
 use Rattle.resolver.proofs.p2p.laws.cores_take.Goals as goal
 

@@ -1,10 +1,10 @@
 use Rattle.std.proofs.Common.{◌≡◌}
-use Rattle.resolver_machine.proofs.Runs.{runs-join}
-use Rattle.resolver_peer.specs.Parties.{parties}
-use Rattle.resolver_peer.specs.Peer.{Failed}
-use Rattle.resolver_peer.specs.PeerSteps.{MayWant}
-use Rattle.resolver_parts.specs.EngineSteps.{step_written}
-use Rattle.resolver_parts.specs.Said.{codec}
+use Rattle.resolver_model.proofs.Runs.{runs-join}
+use Rattle.resolver_model_peer.specs.Parties.{parties}
+use Rattle.resolver_model_peer.specs.Peer.{Failed}
+use Rattle.resolver_model_peer.specs.PeerSteps.{MayWant}
+use Rattle.resolver_peer_step.specs.EngineSteps.{step_written}
+use Rattle.resolver_peer_step.specs.Said.{codec}
 use Rattle.resolver.proofs.p2p.laws.engine_runs_join.Goals as goal
 
 pub returns : goal.returns

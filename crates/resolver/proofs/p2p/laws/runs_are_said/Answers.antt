@@ -1,5 +1,5 @@
-use Rattle.resolver_peer.specs.Parties.{parties}
-use Rattle.resolver_parts.specs.Said.{codec}
+use Rattle.resolver_model_peer.specs.Parties.{parties}
+use Rattle.resolver_peer_step.specs.Said.{codec}
 use Rattle.resolver.proofs.RunLaws.{runs-said}
 use Rattle.resolver.proofs.p2p.laws.runs_are_said.Goals as goal
 

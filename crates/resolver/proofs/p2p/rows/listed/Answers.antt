@@ -1,10 +1,10 @@
 use Rattle.std.proofs.Common.{◌≡◌, ap, ◌∙◌, refl}
-use Rattle.resolver_trying.specs.Fetcher as calls
-use Rattle.resolver_peer.specs.Parties.{orders_of, parties}
-use Rattle.resolver_peer.specs.Peer.{row_of}
+use Rattle.resolver_fetch_scan.specs.Fetcher as calls
+use Rattle.resolver_model_peer.specs.Parties.{orders_of, parties}
+use Rattle.resolver_model_peer.specs.Peer.{row_of}
 use Rattle.resolver.specs.declared.p2p.rows.Row.{Row as ListedRow}
 use Rattle.resolver.specs.Listed.{listed, listed_phase}
-use Rattle.resolver_peer.proofs.Refusals.{refused, refused-as}
+use Rattle.resolver_model_peer.proofs.Refusals.{refused, refused-as}
 use Rattle.resolver.proofs.Shown.{if-some, retries-shown, some-at}
 use Rattle.resolver.proofs.p2p.rows.listed.Goals as goal
 

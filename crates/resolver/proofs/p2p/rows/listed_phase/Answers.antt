@@ -1,7 +1,7 @@
 use Rattle.std.proofs.Common.{ap, sym, ◌∙◌}
-use Rattle.resolver_trying.specs.Fetcher as calls
-use Rattle.resolver_asked.specs.Requests.{request_for}
-use Rattle.resolver_peer.specs.Parties.{orders_of, parties}
+use Rattle.resolver_fetch_scan.specs.Fetcher as calls
+use Rattle.resolver_fetch_requests.specs.Requests.{request_for}
+use Rattle.resolver_model_peer.specs.Parties.{orders_of, parties}
 use Rattle.resolver.proofs.Shown.{number-shown, place-shown, request-shown, some-shown, there-wanted}
 use Rattle.resolver.proofs.p2p.rows.listed_phase.Goals as goal
 

@@ -1,7 +1,7 @@
 use Rattle.std.proofs.Common.{◌≡◌, ap, ◌∙◌, None, Some}
-use Rattle.resolver_trying.specs.Fetcher as calls
-use Rattle.resolver_peer.specs.Parties.{orders_of, parties}
-use Rattle.resolver_peer.specs.Peer.{row_of}
+use Rattle.resolver_fetch_scan.specs.Fetcher as calls
+use Rattle.resolver_model_peer.specs.Parties.{orders_of, parties}
+use Rattle.resolver_model_peer.specs.Peer.{row_of}
 use Rattle.resolver.proofs.Shown.{if-some, targets-shown}
 use Rattle.resolver.proofs.p2p.rows.listed_targets.Goals as goal
 

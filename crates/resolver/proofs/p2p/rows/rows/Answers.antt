@@ -1,9 +1,9 @@
 use Rattle.std.proofs.Common.{◌≡◌, ap, ◌∙◌, subst, is_some}
 use Rattle.resolver_demand.specs.Rows.{AreListed}
-use Rattle.resolver_peer.specs.Parties.{parties}
-use Rattle.resolver_peer.specs.Peer.{row_of}
+use Rattle.resolver_model_peer.specs.Parties.{parties}
+use Rattle.resolver_model_peer.specs.Peer.{row_of}
 use Rattle.resolver.specs.Listed.{listed}
-use Rattle.resolver_peer.proofs.Refusals.{refused, refused-as}
+use Rattle.resolver_model_peer.proofs.Refusals.{refused, refused-as}
 use Rattle.resolver.proofs.Shown.{Lists, listed-once, listed-ordered, lists-all, lists-none, next-of, some-at, there-wanted}
 use Rattle.resolver.proofs.p2p.rows.rows.Goals as goal
 

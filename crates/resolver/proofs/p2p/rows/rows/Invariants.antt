@@ -1,7 +1,7 @@
 use Rattle.resolver_demand.specs.Rows.{AreListed}
-use Rattle.resolver_peer.specs.Parties.{parties}
-use Rattle.resolver_peer.specs.Peer.{Machine}
-use Rattle.resolver_parts.specs.Tied.{Agrees}
+use Rattle.resolver_model_peer.specs.Parties.{parties}
+use Rattle.resolver_model_peer.specs.Peer.{Machine}
+use Rattle.resolver_peer_step.specs.Tied.{Agrees}
 use Rattle.resolver.proofs.Shown.{Lists}
 use Rattle.resolver.proofs.p2p.rows.rows.Given as goal
 

@@ -1,5 +1,5 @@
 use Rattle.std.proofs.Common.{◌≡◌, rules}
-use Rattle.resolver_root.specs.Names.{names}
+use Rattle.resolver_types.specs.Names.{names}
 use Rattle.resolver_backfill.specs.Plans.{fetches_of}
 use Rattle.resolver_backfill.proofs.Turning.{again-restores}
 use Rattle.resolver_backfill.proofs.plan.Plan.again.Goals as goal

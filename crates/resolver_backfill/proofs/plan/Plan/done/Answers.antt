@@ -1,4 +1,4 @@
-use Rattle.resolver_root.specs.Names.{names}
+use Rattle.resolver_types.specs.Names.{names}
 use Rattle.resolver_backfill.proofs.Turning.{done-turns}
 use Rattle.resolver_backfill.proofs.plan.Plan.done.Goals as goal
 

@@ -1,5 +1,5 @@
 use Rattle.std.proofs.Common.{rules, ◌≡◌, ◌∙◌, ap}
-use Rattle.resolver_root.specs.Names.{names}
+use Rattle.resolver_types.specs.Names.{names}
 use Rattle.resolver_backfill.specs.Plans.{fetched, lacking, met, wanting}
 use Rattle.resolver_backfill.proofs.Keys.{lacking-new}
 use Rattle.resolver_backfill.proofs.Turning.{want-turns}

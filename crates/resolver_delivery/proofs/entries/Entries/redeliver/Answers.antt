@@ -2,7 +2,7 @@ use Rattle.std.proofs.Common.{◌≡◌, ◌∙◌, ◌+◌, refl, sym, ap, rule
 use Rattle.std.specs.Ordering.{nat_cmp}
 use Rattle.std.specs.BTreeMap.{insert_entry, is_at}
 use Rattle.std.specs.declared.cmp.Ordering.{Ordering}
-use Rattle.resolver_root.specs.declared.root.Delivery.{Delivery}
+use Rattle.resolver_types.specs.declared.delivery.Delivery.{Delivery}
 use Rattle.resolver_delivery.specs.declared.entry.Entry.{Entry}
 use Rattle.resolver_delivery.specs.declared.entry.Open.{Open}
 use Rattle.resolver_delivery.specs.declared.entry.Response.{Response}

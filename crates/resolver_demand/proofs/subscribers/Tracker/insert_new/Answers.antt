@@ -1,8 +1,8 @@
 use Rattle.std.proofs.Common.{◌≡◌, ◌∙◌, sym, ap, ℕ, List, [], Option, None, Some, false, is_some, refl}
 use Rattle.std.specs.BTreeMap.{insert_entry}
-use Rattle.resolver_root.specs.Names.{Names, names}
-use Rattle.resolver_root.specs.Subscribers.{attached_all}
-use Rattle.resolver_root.specs.Table.{asked_beside, asked_one, is_asked, subscribers_of}
+use Rattle.resolver_types.specs.Names.{Names, names}
+use Rattle.resolver_types.specs.Subscribers.{attached_all}
+use Rattle.resolver_types.specs.Table.{asked_beside, asked_one, is_asked, subscribers_of}
 use Rattle.resolver_demand.specs.Rows.{IsListed}
 use Rattle.resolver_demand.proofs.ListedRows.{attached_all-listed-new, all-insert}
 use Rattle.resolver_demand.proofs.subscribers.Tracker.insert_new.Goals as goal

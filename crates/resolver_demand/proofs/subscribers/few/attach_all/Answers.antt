@@ -1,7 +1,7 @@
 use Rattle.std.proofs.Common.{◌≡◌, ◌∙◌, ◌+◌, sym, ap, arith, rules, insert, length}
 use Rattle.std.specs.Vec.{vec_len}
 use Rattle.std.specs.Vec.Iter.{into_iter_items}
-use Rattle.resolver_root.specs.Subscribers.{attached_all}
+use Rattle.resolver_types.specs.Subscribers.{attached_all}
 use Rattle.resolver_demand.proofs.subscribers.few.attach_all.Goals as goal
 
 pub loop-one-preserved : goal.loop-one-preserved

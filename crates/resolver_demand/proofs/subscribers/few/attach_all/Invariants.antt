@@ -1,7 +1,7 @@
 use Rattle.std.proofs.Common.{◌≡◌, ◌+◌, ◌≤◌, length}
 use Rattle.std.specs.Vec.{vec_len, vec_capacity}
 use Rattle.std.specs.Vec.Iter.{into_iter_items}
-use Rattle.resolver_root.specs.Subscribers.{attached_all}
+use Rattle.resolver_types.specs.Subscribers.{attached_all}
 use Rattle.resolver_demand.proofs.subscribers.few.attach_all.Given as goal
 
 -- There is room for those that are left, and attaching them makes what all made.

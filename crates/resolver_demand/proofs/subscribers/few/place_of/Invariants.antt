@@ -1,5 +1,5 @@
 use Rattle.std.proofs.Common.{◌≡◌, ◌++◌, take, drop}
-use Rattle.resolver_root.specs.Subscribers.{attached}
+use Rattle.resolver_types.specs.Subscribers.{attached}
 use Rattle.resolver_demand.proofs.subscribers.few.place_of.Given as goal
 
 -- the subscriber goes behind those so far

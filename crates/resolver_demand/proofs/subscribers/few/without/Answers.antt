@@ -1,6 +1,6 @@
 use Rattle.std.proofs.Common.{◌≡◌, ◌∙◌, ◌+◌, sym, ap, cond, not, ◌∷◌, ◌++◌, drop, rules}
 use Rattle.std.proofs.lemmas.List.{drop_more}
-use Rattle.resolver_root.specs.Subscribers.{without}
+use Rattle.resolver_types.specs.Subscribers.{without}
 use Rattle.resolver_demand.proofs.Copied.{one-more}
 use Rattle.resolver_demand.proofs.subscribers.few.without.Goals as goal
 use Rattle.resolver_demand.proofs.subscribers.few.without.Goals.{then-not-has+in_ok-clone+in_ok-push, else-not-has}

@@ -2,10 +2,10 @@ use Rattle.std.proofs.Common.{◌≡◌, ◌∙◌, sym, ap, arith, true, false,
 use Rattle.std.specs.Map.{lookup, remove_entry}
 use Rattle.std.specs.BTreeMap.{insert_entry, is_at}
 use Rattle.std.specs.Vec.Iter.{into_iter_items}
-use Rattle.resolver_root.specs.Subscribers.{attached_all}
-use Rattle.resolver_root.specs.Undone.{without_each}
+use Rattle.resolver_types.specs.Subscribers.{attached_all}
+use Rattle.resolver_types.specs.Undone.{without_each}
 use Rattle.resolver_demand.proofs.Placed.{attached-absent, attached-present}
-use Rattle.resolver_root.proofs.Undone.{removed-inserted, without_each-last}
+use Rattle.resolver_types.proofs.Undone.{removed-inserted, without_each-last}
 use Rattle.resolver_demand.proofs.subscribers.many.attach_all.Goals as goal
 
 pub loop-one-preserved-then-contains_key : goal.loop-one-preserved-then-contains_key

@@ -3,8 +3,8 @@ use Rattle.std.specs.Vec.{vec_len, vec_capacity}
 use Rattle.std.specs.Vec.Iter.{into_iter_items}
 use Rattle.std.specs.List.Sorted.{IsStrictlySortedBy}
 use Rattle.std.specs.Map.{keys_of}
-use Rattle.resolver_root.specs.Subscribers.{attached_all}
-use Rattle.resolver_root.specs.Undone.{without_each}
+use Rattle.resolver_types.specs.Subscribers.{attached_all}
+use Rattle.resolver_types.specs.Undone.{without_each}
 use Rattle.resolver_demand.proofs.subscribers.many.attach_all.Given as goal
 
 -- There is room for those that are left, attaching them makes what all made, and without those

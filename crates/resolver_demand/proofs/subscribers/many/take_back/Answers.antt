@@ -1,6 +1,6 @@
 use Rattle.std.proofs.Common.{◌≡◌, ◌∙◌, sym, ap, rules, ◌∷◌, ◌++◌, []}
-use Rattle.resolver_root.specs.Undone.{without_each}
-use Rattle.resolver_root.proofs.Undone.{without_each-last}
+use Rattle.resolver_types.specs.Undone.{without_each}
+use Rattle.resolver_types.proofs.Undone.{without_each-last}
 use Rattle.resolver_demand.proofs.subscribers.many.take_back.Goals as goal
 
 pub loop-one-preserved : goal.loop-one-preserved

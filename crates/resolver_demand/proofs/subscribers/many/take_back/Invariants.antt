@@ -1,5 +1,5 @@
 use Rattle.std.proofs.Common.{◌≡◌, length}
-use Rattle.resolver_root.specs.Undone.{without_each}
+use Rattle.resolver_types.specs.Undone.{without_each}
 use Rattle.resolver_demand.proofs.subscribers.many.take_back.Given as goal
 
 -- without those that are left, it is what it is without all

@@ -1,5 +1,5 @@
 use Rattle.std.proofs.Common.{◌≡◌, ◌∙◌, sym, ap, refl, rules, false, ℕ, ◌∷◌, ◌++◌}
-use Rattle.resolver_root.specs.Subscribers.{without}
+use Rattle.resolver_types.specs.Subscribers.{without}
 use Rattle.resolver_demand.proofs.Copied.{one-more}
 use Rattle.resolver_demand.proofs.subscribers.many.without.Goals as goal
 

@@ -1,5 +1,5 @@
 use Rattle.std.proofs.Common.{◌≡◌, ◌++◌}
-use Rattle.resolver_root.specs.Subscribers.{without}
+use Rattle.resolver_types.specs.Subscribers.{without}
 use Rattle.resolver_demand.proofs.subscribers.many.without.Given as goal
 
 -- the rest so far, with what is kept of those that are left

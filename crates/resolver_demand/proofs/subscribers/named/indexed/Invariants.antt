@@ -1,6 +1,6 @@
 use Rattle.std.proofs.Common.{◌≡◌, ◌||◌, drop}
 use Rattle.std.specs.BTreeSet.{contains}
-use Rattle.resolver_root.specs.Subscribers.{is_among}
+use Rattle.resolver_types.specs.Subscribers.{is_among}
 use Rattle.resolver_demand.proofs.subscribers.named.indexed.Given as goal
 
 -- a subscriber is in the index or among those that are left, where it is named

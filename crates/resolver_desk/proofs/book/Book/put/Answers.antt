@@ -2,7 +2,7 @@ use Rattle.std.proofs.Common.{rules, refl, ◌≡◌, ◌∙◌, ◌∷◌, ◌+
 use Rattle.std.specs.Option.{unwrap_or}
 use Rattle.std.specs.HashMap.{Updates, get}
 use Rattle.resolver_desk.specs.declared.entry.Entry.TheVariants as entries
-use Rattle.resolver_ingress.specs.Backlog.{told_of}
+use Rattle.resolver_messages.specs.Waiting.{told_of}
 use Rattle.resolver_desk.specs.Book.{call_of, puts_of}
 use Rattle.resolver_desk.proofs.Calls.{calls-append, count-put}
 use Rattle.resolver_desk.proofs.book.Book.put.Goals as goal

@@ -1,6 +1,6 @@
 use Rattle.std.proofs.Common.{rules, refl, ◌≡◌, ◌∙◌, ◌∷◌, ◌++◌, [], sym, ap, length, map}
 use Rattle.resolver_desk.specs.declared.entry.Entry.TheVariants as entries
-use Rattle.resolver_ingress.specs.Backlog.{told_of}
+use Rattle.resolver_messages.specs.Waiting.{told_of}
 use Rattle.resolver_desk.specs.Book.{Take, call_of, puts_of}
 use Rattle.resolver_desk.proofs.Calls.{calls-append, count-other}
 use Rattle.resolver_desk.proofs.book.Book.take.Goals as goal

@@ -1,5 +1,5 @@
 use Rattle.std.proofs.Common.{refl, sym, false, Bool, subst}
-use Rattle.resolver_root.specs.Names.{names}
+use Rattle.resolver_types.specs.Names.{names}
 use Rattle.resolver_desk.specs.Desk.{IsKept, desk_of}
 use Rattle.resolver_desk.proofs.Desks.{closed-is, kept-closed}
 use Rattle.resolver_desk.proofs.desk.Desk.close.Goals as goal

@@ -1,10 +1,10 @@
 use Rattle.std.proofs.Common.{rules, ◌≡◌, ◌<◌, ◌+◌, ◌^◌, ◌∙◌, ◌∷◌, ◌++◌, [], false, nat_lt, cond, sym, ap, refl, Bool, ℕ, subst}
 use Rattle.std.specs.Option.{ForSome}
 use Rattle.std.proofs.lemmas.List.{length-map}
-use Rattle.resolver_root.specs.Names.{names}
-use Rattle.resolver_ingress.specs.Backlog.{Backlog, IsRight, handled, told_of, waiting}
+use Rattle.resolver_types.specs.Names.{names}
+use Rattle.resolver_messages.specs.Waiting.{Backlog, IsRight, handled, told_of, waiting}
 use Rattle.resolver_desk.specs.Desk.{Desk, IsKept, desk_of, desk_put, has_room}
-use Rattle.resolver_ingress.proofs.Right.{follows-by}
+use Rattle.resolver_messages.proofs.Right.{follows-by}
 use Rattle.resolver_desk.proofs.Desks.{kept-put, put-is}
 use Rattle.resolver_desk.proofs.desk.Desk.put.Goals as goal
 

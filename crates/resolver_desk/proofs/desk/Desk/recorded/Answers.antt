@@ -1,5 +1,5 @@
 use Rattle.std.proofs.Common.{rules, sym, subst}
-use Rattle.resolver_root.specs.Names.{names}
+use Rattle.resolver_types.specs.Names.{names}
 use Rattle.resolver_desk.specs.Desk.{IsKept}
 use Rattle.resolver_desk.proofs.Desks.{empty-is, kept-empty}
 use Rattle.resolver_desk.proofs.desk.Desk.recorded.Goals as goal

@@ -1,5 +1,5 @@
 use Rattle.std.proofs.Common.{rules, ◌≡◌, ◌∙◌, ◌<◌, length, sym, ap, slice_index_or, subst}
-use Rattle.resolver_root.specs.Names.{names}
+use Rattle.resolver_types.specs.Names.{names}
 use Rattle.resolver_desk.specs.Desk.{IsKept, desk_of, desk_taken}
 use Rattle.resolver_desk.proofs.Desks.{kept-taken, taken-is}
 use Rattle.resolver_desk.proofs.desk.Desk.take.Goals as goal

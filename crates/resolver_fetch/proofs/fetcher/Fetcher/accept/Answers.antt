@@ -1,14 +1,14 @@
 use Rattle.std.proofs.Common.{ap, sym, ◌∙◌, ◌+◌, Option, is_some, option_map}
 use Rattle.std.specs.NonZero.{non_zero_u32_get}
-use Rattle.resolver_asked.specs.Loads.{Load, one_more}
-use Rattle.resolver_asked.proofs.Loaded.{load-put}
-use Rattle.resolver_trying.specs.Known.{Company, Known, known_by}
-use Rattle.resolver_trying.specs.Pools.{resampled}
-use Rattle.resolver_asked.specs.declared.requests.request.Request.{Request}
-use Rattle.resolver_trying.specs.Fetcher.{Fetcher}
-use Rattle.resolver_trying.specs.Orders.{orders}
-use Rattle.resolver_trying.specs.Trying.{Trying, sampled}
-use Rattle.resolver_trying.specs.declared.step.Step.TheVariants.{Accept}
+use Rattle.resolver_fetch_requests.specs.Loads.{Load, one_more}
+use Rattle.resolver_fetch_requests.proofs.Loaded.{load-put}
+use Rattle.resolver_fetch_scan.specs.Known.{Company, Known, known_by}
+use Rattle.resolver_fetch_scan.specs.Pools.{resampled}
+use Rattle.resolver_fetch_requests.specs.declared.requests.request.Request.{Request}
+use Rattle.resolver_fetch_scan.specs.Fetcher.{Fetcher}
+use Rattle.resolver_fetch_scan.specs.Orders.{orders}
+use Rattle.resolver_fetch_scan.specs.Trying.{Trying, sampled}
+use Rattle.resolver_fetch_scan.specs.declared.step.Step.TheVariants.{Accept}
 use Rattle.resolver_fetch.specs.Cursor.{opened, scan_of}
 use Rattle.resolver_fetch.specs.Stepping.{after_step}
 use Rattle.resolver_fetch.proofs.Kept.{closed-any, closed-none, kept-sent, loaded-by}

@@ -1,8 +1,8 @@
 use Rattle.std.proofs.Common.{ap, ◌∙◌, is_some}
-use Rattle.resolver_asked.specs.Requests.{is_asked}
-use Rattle.resolver_trying.specs.Fetcher.{Fetcher}
+use Rattle.resolver_fetch_requests.specs.Requests.{is_asked}
+use Rattle.resolver_fetch_scan.specs.Fetcher.{Fetcher}
 use Rattle.resolver_fetch.proofs.Kept.{closed-any, kept-put}
-use Rattle.resolver_waiting.proofs.Bounds.{either_way}
+use Rattle.resolver_fetch_waiting.proofs.Bounds.{either_way}
 use Rattle.resolver_fetch.proofs.fetcher.Fetcher.add_retry.Goals as goal
 
 pub invariant_of-self : goal.invariant_of-self

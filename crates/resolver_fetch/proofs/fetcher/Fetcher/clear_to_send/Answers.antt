@@ -1,11 +1,11 @@
 use Rattle.std.proofs.Common.{◌≡◌, refl, ap, sym, ◌∙◌, None, Some}
-use Rattle.resolver_asked.specs.Ids.{next_id}
-use Rattle.resolver_trying.specs.declared.trail.Expected.TheVariants.{FirstId}
-use Rattle.resolver_trying.specs.Orders.{orders}
-use Rattle.resolver_trying.specs.Scan.{clears}
-use Rattle.resolver_trying.proofs.Outcomes.{onto-ok}
+use Rattle.resolver_fetch_requests.specs.Ids.{next_id}
+use Rattle.resolver_fetch_scan.specs.declared.trail.Expected.TheVariants.{FirstId}
+use Rattle.resolver_fetch_scan.specs.Orders.{orders}
+use Rattle.resolver_fetch_scan.specs.Scan.{clears}
+use Rattle.resolver_fetch_scan.proofs.Outcomes.{onto-ok}
 use Rattle.resolver_fetch.specs.Cursor.{scan_of}
-use Rattle.resolver_trying.specs.Fetcher.{Fetcher, snapshot, turned}
+use Rattle.resolver_fetch_scan.specs.Fetcher.{Fetcher, snapshot, turned}
 use Rattle.resolver_fetch.specs.Stepping.{expecting}
 use Rattle.resolver_fetch.proofs.fetcher.Fetcher.clear_to_send.Goals as goal
 

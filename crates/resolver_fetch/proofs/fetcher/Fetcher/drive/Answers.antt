@@ -1,7 +1,7 @@
 use Rattle.std.proofs.Common.{◌∙◌, sym}
 use Rattle.resolver_fetch.specs.Fetching.{lent, outside}
-use Rattle.resolver_trying.specs.Orders.{orders}
-use Rattle.resolver_trying.proofs.Outcomes.{on-err}
+use Rattle.resolver_fetch_scan.specs.Orders.{orders}
+use Rattle.resolver_fetch_scan.proofs.Outcomes.{on-err}
 use Rattle.resolver_fetch.proofs.Fetching.{goes-one-more, keeps-on}
 use Rattle.resolver_fetch.proofs.fetcher.Fetcher.drive.Goals as goal
 

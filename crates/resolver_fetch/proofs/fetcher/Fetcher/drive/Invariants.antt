@@ -1,7 +1,7 @@
 use Rattle.std.proofs.Common.{◌≡◌}
-use Rattle.resolver_trying.specs.Fetcher.{question}
+use Rattle.resolver_fetch_scan.specs.Fetcher.{question}
 use Rattle.resolver_fetch.specs.Fetching.{GoesOn, lent, outside}
-use Rattle.resolver_trying.specs.Orders.{orders}
+use Rattle.resolver_fetch_scan.specs.Orders.{orders}
 use Rattle.resolver_fetch.specs.Progress.{IsSound, Keeps, answers_left}
 use Rattle.resolver_fetch.proofs.fetcher.Fetcher.drive.Given as goal
 

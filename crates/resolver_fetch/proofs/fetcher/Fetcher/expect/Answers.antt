@@ -1,5 +1,5 @@
 use Rattle.std.proofs.Common.{ap, None}
-use Rattle.resolver_trying.specs.Orders.{orders}
+use Rattle.resolver_fetch_scan.specs.Orders.{orders}
 use Rattle.resolver_fetch.specs.Cursor.{opened, scan_of}
 use Rattle.resolver_fetch.specs.Stepping.{expecting}
 use Rattle.resolver_fetch.proofs.Stepping.{asks-kept, asks-new}

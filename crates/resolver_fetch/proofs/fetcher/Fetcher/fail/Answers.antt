@@ -1,10 +1,10 @@
 use Rattle.std.proofs.Common.{refl, ap, ◌∙◌, sym, ◌<◌, [], ◌∷◌, ◌++◌, length, arith}
 use Rattle.std.proofs.lemmas.Bool.{eqb-true, eqb-false}
-use Rattle.resolver_trying.specs.declared.trail.Try.{Try}
+use Rattle.resolver_fetch_scan.specs.declared.trail.Try.{Try}
 use Rattle.resolver_fetch.specs.Cursor.{opened}
-use Rattle.resolver_trying.specs.Fetcher.{snapshot}
-use Rattle.resolver_trying.specs.Orders.{orders}
-use Rattle.resolver_trying.specs.Trying.{apart_from}
+use Rattle.resolver_fetch_scan.specs.Fetcher.{snapshot}
+use Rattle.resolver_fetch_scan.specs.Orders.{orders}
+use Rattle.resolver_fetch_scan.specs.Trying.{apart_from}
 use Rattle.resolver_fetch.proofs.Continues.{goes-on-with-key}
 use Rattle.resolver_fetch.proofs.Nexts.{tries-next}
 use Rattle.resolver_fetch.proofs.fetcher.Fetcher.fail.Goals as goal

@@ -1,10 +1,10 @@
 use Rattle.std.proofs.Common.{inl, inr, refl, subst, sym}
-use Rattle.resolver_trying.specs.Fetcher.{Fetcher}
-use Rattle.resolver_trying.specs.Orders.{orders}
+use Rattle.resolver_fetch_scan.specs.Fetcher.{Fetcher}
+use Rattle.resolver_fetch_scan.specs.Orders.{orders}
 use Rattle.resolver_fetch.specs.Fetching.{lent, outside}
 use Rattle.resolver_fetch.specs.Progress.{IsSound}
 use Rattle.resolver_fetch.proofs.Fetching.{gives-up}
-use Rattle.resolver_trying.proofs.Outcomes.{err-both, on-both, on-err}
+use Rattle.resolver_fetch_scan.proofs.Outcomes.{err-both, on-both, on-err}
 use Rattle.resolver_fetch.proofs.Progress.{begins-sound}
 use Rattle.resolver_fetch.proofs.fetcher.Fetcher.fetch.Goals as goal
 

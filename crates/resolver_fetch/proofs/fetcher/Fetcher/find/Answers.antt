@@ -1,7 +1,7 @@
 use Rattle.std.proofs.Common.{Option, subst, sym}
-use Rattle.resolver_asked.specs.Loads.{Load}
-use Rattle.resolver_trying.specs.Known.{known_by}
-use Rattle.resolver_trying.specs.Pools.{IsWhole}
+use Rattle.resolver_fetch_requests.specs.Loads.{Load}
+use Rattle.resolver_fetch_scan.specs.Known.{known_by}
+use Rattle.resolver_fetch_scan.specs.Pools.{IsWhole}
 use Rattle.resolver_fetch.proofs.fetcher.Fetcher.find.Goals as goal
 
 pub next_of-found-requires-clause-at_hand : goal.next_of-found-requires-clause-at_hand

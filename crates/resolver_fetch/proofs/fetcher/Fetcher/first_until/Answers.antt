@@ -3,13 +3,13 @@ use Rattle.std.proofs.lemmas.Bool.Decides.{nat_tests}
 use Rattle.std.proofs.lemmas.Map.Keys.{sorted_tail}
 use Rattle.std.specs.Ordering.{nat_cmp}
 use Rattle.std.specs.Prelude.{nat_le}
-use Rattle.resolver_priorities.specs.Priorities.{pair_order}
-use Rattle.resolver_trying.specs.Orders.{orders}
-use Rattle.resolver_waiting.specs.Queues.{placed}
+use Rattle.resolver_priority_set.specs.Priorities.{pair_order}
+use Rattle.resolver_fetch_scan.specs.Orders.{orders}
+use Rattle.resolver_fetch_waiting.specs.Queues.{placed}
 use Rattle.resolver_fetch.specs.Seeking.{first_until, trying_key}
-use Rattle.resolver_trying.specs.Trying.{Trying}
+use Rattle.resolver_fetch_scan.specs.Trying.{Trying}
 use Rattle.resolver_fetch.proofs.Dues.{until-here, until-none, until-past}
-use Rattle.resolver_trying.proofs.Outcomes.{refused, refused-as}
+use Rattle.resolver_fetch_scan.proofs.Outcomes.{refused, refused-as}
 use Rattle.resolver_fetch.proofs.fetcher.Fetcher.first_until.Goals as goal
 
 past : (x y : ℕ) → y < x → nat_le x y ≡ false

@@ -1,10 +1,10 @@
 use Rattle.std.proofs.Common.{◌≡◌}
 use Rattle.std.specs.List.Sorted.{IsStrictlySortedBy}
 use Rattle.std.specs.Ordering.{nat_cmp}
-use Rattle.resolver_priorities.specs.Priorities.{pair_order}
-use Rattle.resolver_fetch.specs.Left.{IsAtHand}
-use Rattle.resolver_trying.specs.Orders.{orders}
-use Rattle.resolver_waiting.specs.Queues.{placed}
+use Rattle.resolver_priority_set.specs.Priorities.{pair_order}
+use Rattle.resolver_fetch.specs.LeftPeers.{IsAtHand}
+use Rattle.resolver_fetch_scan.specs.Orders.{orders}
+use Rattle.resolver_fetch_waiting.specs.Queues.{placed}
 use Rattle.resolver_fetch.specs.Seeking.{first_until}
 use Rattle.resolver_fetch.proofs.fetcher.Fetcher.first_until.Given as goal
 

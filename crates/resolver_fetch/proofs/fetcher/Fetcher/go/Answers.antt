@@ -1,8 +1,8 @@
 use Rattle.std.proofs.Common.{refl, ap, sym, ◌∙◌}
 use Rattle.std.proofs.lemmas.Result.{IfOk-weaker}
-use Rattle.resolver_trying.specs.Orders.{orders}
-use Rattle.resolver_trying.specs.Fetcher.{question}
-use Rattle.resolver_trying.proofs.Outcomes.{if-both}
+use Rattle.resolver_fetch_scan.specs.Orders.{orders}
+use Rattle.resolver_fetch_scan.specs.Fetcher.{question}
+use Rattle.resolver_fetch_scan.proofs.Outcomes.{if-both}
 use Rattle.resolver_fetch.proofs.fetcher.Fetcher.go.Goals as goal
 
 pub expect-requires-clause-none_yet : goal.expect-requires-clause-none_yet

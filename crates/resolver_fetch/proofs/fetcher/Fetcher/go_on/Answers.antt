@@ -1,11 +1,11 @@
 use Rattle.std.proofs.Common.{◌≡◌, refl, ap, ◌∙◌, sym, is_some, None, Some}
-use Rattle.resolver_trying.specs.Fetcher.{Fetcher}
-use Rattle.resolver_waiting.specs.Pending.{waits_until}
-use Rattle.resolver_trying.specs.Orders.{orders}
+use Rattle.resolver_fetch_scan.specs.Fetcher.{Fetcher}
+use Rattle.resolver_fetch_waiting.specs.Pending.{waits_until}
+use Rattle.resolver_fetch_scan.specs.Orders.{orders}
 use Rattle.resolver_fetch.specs.Seeking.{next_of}
-use Rattle.resolver_trying.specs.declared.trail.Expected.TheVariants.{Mode}
-use Rattle.resolver_trying.specs.declared.trying.Next.TheVariants.{Try as Tries, Wait}
-use Rattle.resolver_trying.specs.Trying.{Trying}
+use Rattle.resolver_fetch_scan.specs.declared.trail.Expected.TheVariants.{Mode}
+use Rattle.resolver_fetch_scan.specs.declared.trying.Next.TheVariants.{Try as Tries, Wait}
+use Rattle.resolver_fetch_scan.specs.Trying.{Trying}
 use Rattle.resolver_fetch.proofs.Kept.{closed-any, closed-none}
 use Rattle.resolver_fetch.proofs.Nexts.{next-tries, tries-after, waits-after}
 use Rattle.resolver_fetch.proofs.Stepping.{asks-kept}

@@ -1,7 +1,7 @@
 use Rattle.std.proofs.Common.{ap, sym, ◌∙◌}
-use Rattle.resolver_trying.specs.Orders.{orders}
-use Rattle.resolver_trying.specs.declared.trying.Next.TheVariants.{Wait}
-use Rattle.resolver_trying.specs.Fetcher.{Fetcher}
+use Rattle.resolver_fetch_scan.specs.Orders.{orders}
+use Rattle.resolver_fetch_scan.specs.declared.trying.Next.TheVariants.{Wait}
+use Rattle.resolver_fetch_scan.specs.Fetcher.{Fetcher}
 use Rattle.resolver_fetch.specs.Seeking.{next_for, scan_at, tried_again}
 use Rattle.resolver_fetch.proofs.fetcher.Fetcher.next_of.Goals as goal
 

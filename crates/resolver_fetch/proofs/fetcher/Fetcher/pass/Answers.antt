@@ -1,8 +1,8 @@
 use Rattle.std.proofs.Common.{refl, ap, ◌∙◌, sym, [], ◌∷◌, ◌++◌}
-use Rattle.resolver_trying.specs.declared.cursor.Cursor.{Cursor}
-use Rattle.resolver_trying.specs.declared.trail.Try.{Try}
+use Rattle.resolver_fetch_scan.specs.declared.cursor.Cursor.{Cursor}
+use Rattle.resolver_fetch_scan.specs.declared.trail.Try.{Try}
 use Rattle.resolver_fetch.specs.Cursor.{opened}
-use Rattle.resolver_trying.specs.Orders.{orders}
+use Rattle.resolver_fetch_scan.specs.Orders.{orders}
 use Rattle.resolver_fetch.specs.Seeking.{next_for, scan_at, tried_again}
 use Rattle.resolver_fetch.proofs.Passes.{passes}
 use Rattle.resolver_fetch.proofs.fetcher.Fetcher.pass.Goals as goal

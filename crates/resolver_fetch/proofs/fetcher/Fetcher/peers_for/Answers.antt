@@ -2,12 +2,12 @@ use Rattle.std.proofs.Common.{◌≡◌, ap, sym, subst, ◌∙◌}
 use Rattle.std.proofs.lemmas.Result.{IfOk-weaker}
 use Rattle.std.specs.BTreeMap.{is_at}
 use Rattle.std.specs.Map.{lookup}
-use Rattle.resolver_fetch.specs.Left.{whole_for}
-use Rattle.resolver_trying.specs.Fetcher.{Fetcher, targets_of}
-use Rattle.resolver_trying.specs.Known.{Known, known_by}
-use Rattle.resolver_trying.specs.Orders.{orders}
-use Rattle.resolver_trying.specs.Pools.{IsWhole, whole}
-use Rattle.resolver_trying.specs.Trying.{drawn_from}
+use Rattle.resolver_fetch.specs.LeftPeers.{whole_for}
+use Rattle.resolver_fetch_scan.specs.Fetcher.{Fetcher, targets_of}
+use Rattle.resolver_fetch_scan.specs.Known.{Known, known_by}
+use Rattle.resolver_fetch_scan.specs.Orders.{orders}
+use Rattle.resolver_fetch_scan.specs.Pools.{IsWhole, whole}
+use Rattle.resolver_fetch_scan.specs.Trying.{drawn_from}
 use Rattle.resolver_fetch.proofs.fetcher.Fetcher.peers_for.Goals as goal
 
 pub pool_for-requires-clause-whole : goal.pool_for-requires-clause-whole

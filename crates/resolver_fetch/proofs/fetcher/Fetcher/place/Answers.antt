@@ -1,7 +1,7 @@
 use Rattle.std.proofs.Common.{◌≡◌, ap, ◌∙◌, List, option_map, find}
-use Rattle.resolver_priorities.specs.Priorities.{is_of}
-use Rattle.resolver_trying.specs.declared.place.Place.{Place}
-use Rattle.resolver_trying.specs.Fetcher.{Fetcher}
+use Rattle.resolver_priority_set.specs.Priorities.{is_of}
+use Rattle.resolver_fetch_scan.specs.declared.place.Place.{Place}
+use Rattle.resolver_fetch_scan.specs.Fetcher.{Fetcher}
 use Rattle.resolver_fetch.proofs.fetcher.Fetcher.place.Goals as goal
 
 pub returns-clause-value : goal.returns-clause-value

@@ -1,12 +1,12 @@
 use Rattle.std.proofs.Common.{◌≡◌, ◌+◌, ◌∷◌, ◌∙◌, ap, sym, drop, [], ℕ, List}
-use Rattle.resolver_fetch.specs.Left.{pool_for, whole_for}
-use Rattle.resolver_trying.specs.Orders.{orders}
-use Rattle.resolver_trying.specs.Pools.{Pool}
-use Rattle.resolver_trying.specs.Fetcher.{snapshot, targets_of}
-use Rattle.resolver_trying.specs.Snapshot.{eligible, known}
-use Rattle.resolver_trying.specs.Tried.{peers_tried}
+use Rattle.resolver_fetch.specs.LeftPeers.{pool_for, whole_for}
+use Rattle.resolver_fetch_scan.specs.Orders.{orders}
+use Rattle.resolver_fetch_scan.specs.Pools.{Pool}
+use Rattle.resolver_fetch_scan.specs.Fetcher.{snapshot, targets_of}
+use Rattle.resolver_fetch_scan.specs.Snapshot.{eligible, known}
+use Rattle.resolver_fetch_scan.specs.Tried.{peers_tried}
 use Rattle.resolver_fetch.proofs.Refitting.{drawn-left}
-use Rattle.resolver_trying.proofs.Outcomes.{refused, refused-as}
+use Rattle.resolver_fetch_scan.proofs.Outcomes.{refused, refused-as}
 use Rattle.resolver_fetch.proofs.Weighing.{drop-all, drop-first, untried, untried-left, untried-more, untried-none}
 use Rattle.resolver_fetch.proofs.fetcher.Fetcher.pool_for.Goals as goal
 

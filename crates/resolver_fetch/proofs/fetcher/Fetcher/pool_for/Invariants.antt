@@ -1,6 +1,6 @@
 use Rattle.std.proofs.Common.{◌≡◌, drop}
-use Rattle.resolver_fetch.specs.Left.{IsAtHand, pool_for}
-use Rattle.resolver_trying.specs.Orders.{orders}
+use Rattle.resolver_fetch.specs.LeftPeers.{IsAtHand, pool_for}
+use Rattle.resolver_fetch_scan.specs.Orders.{orders}
 use Rattle.resolver_fetch.proofs.Weighing.{untried}
 use Rattle.resolver_fetch.proofs.fetcher.Fetcher.pool_for.Given as goal
 

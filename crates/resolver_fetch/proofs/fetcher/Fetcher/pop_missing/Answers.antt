@@ -1,9 +1,9 @@
 use Rattle.std.proofs.Common.{ap, sym, ◌∙◌, is_some, option_map, rules}
-use Rattle.resolver_asked.specs.Requests.{IsTaken}
+use Rattle.resolver_fetch_requests.specs.Requests.{IsTaken}
 use Rattle.std.specs.NonZero.{non_zero_u32_get}
-use Rattle.resolver_trying.specs.Known.{Company, Known, known_by}
-use Rattle.resolver_trying.specs.Orders.{orders}
-use Rattle.resolver_trying.specs.Fetcher.{Fetcher, pop_missing}
+use Rattle.resolver_fetch_scan.specs.Known.{Company, Known, known_by}
+use Rattle.resolver_fetch_scan.specs.Orders.{orders}
+use Rattle.resolver_fetch_scan.specs.Fetcher.{Fetcher, pop_missing}
 use Rattle.resolver_fetch.proofs.Kept.{closed-any, kept-taken, load-taken, missing-none, missing-popped}
 use Rattle.resolver_fetch.proofs.Phases.{idle-then}
 use Rattle.resolver_fetch.proofs.fetcher.Fetcher.pop_missing.Goals as goal

@@ -1,11 +1,11 @@
 use Rattle.std.proofs.Common.{◌≡◌, ap, sym, ◌∙◌, Bool, if◌then◌else◌, is_some, option_map, rules}
 use Rattle.std.specs.NonZero.{non_zero_u32_get}
-use Rattle.resolver_asked.specs.Requests.{IsTaken}
-use Rattle.resolver_trying.specs.Fetcher.{Fetcher, pop_request}
-use Rattle.resolver_trying.specs.Known.{Known, known_by}
-use Rattle.resolver_trying.specs.Orders.{orders}
-use Rattle.resolver_trying.specs.Waiting.{waiter_freed}
-use Rattle.resolver_waiting.specs.Pending.{Pending, awake}
+use Rattle.resolver_fetch_requests.specs.Requests.{IsTaken}
+use Rattle.resolver_fetch_scan.specs.Fetcher.{Fetcher, pop_request}
+use Rattle.resolver_fetch_scan.specs.Known.{Known, known_by}
+use Rattle.resolver_fetch_scan.specs.Orders.{orders}
+use Rattle.resolver_fetch_scan.specs.Waiting.{waiter_freed}
+use Rattle.resolver_fetch_waiting.specs.Pending.{Pending, awake}
 use Rattle.resolver_fetch.proofs.Kept.{closed-any, freed-pending, kept-taken, load-taken, request-popped}
 use Rattle.resolver_fetch.proofs.Phases.{idle-then}
 use Rattle.resolver_fetch.proofs.fetcher.Fetcher.pop_request.Goals as goal

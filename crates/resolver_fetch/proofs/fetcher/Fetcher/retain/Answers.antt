@@ -2,10 +2,10 @@ use Rattle.std.proofs.Common.{◌≡◌, ◌∙◌, ap, subst, sym, filter, is_s
 use Rattle.std.proofs.lemmas.Map.Made.{filter_same_pairs}
 use Rattle.std.specs.Fn.{FnReturnsAt}
 use Rattle.std.specs.NonZero.{non_zero_u32_get}
-use Rattle.resolver_trying.specs.Fetcher.{Fetcher, retain}
-use Rattle.resolver_trying.specs.Known.{Known, known_by}
-use Rattle.resolver_trying.specs.Orders.{orders}
-use Rattle.resolver_waiting.specs.Pending.{with_kept}
+use Rattle.resolver_fetch_scan.specs.Fetcher.{Fetcher, retain}
+use Rattle.resolver_fetch_scan.specs.Known.{Known, known_by}
+use Rattle.resolver_fetch_scan.specs.Orders.{orders}
+use Rattle.resolver_fetch_waiting.specs.Pending.{with_kept}
 use Rattle.resolver_fetch.proofs.Freeing.{load-kept}
 use Rattle.resolver_fetch.proofs.Kept.{closed-any, kept-fewer, loaded-by}
 use Rattle.resolver_fetch.proofs.fetcher.Fetcher.retain.Goals as goal

@@ -1,6 +1,6 @@
 use Rattle.std.proofs.Common.{◌≡◌, ap, ◌∙◌}
-use Rattle.resolver_trying.specs.Fetcher.{Fetcher}
-use Rattle.resolver_waiting.specs.Queues.{retry_queue}
+use Rattle.resolver_fetch_scan.specs.Fetcher.{Fetcher}
+use Rattle.resolver_fetch_waiting.specs.Queues.{retry_queue}
 use Rattle.resolver_fetch.proofs.fetcher.Fetcher.retry_queue.Goals as goal
 
 pub returns-clause-keys : goal.returns-clause-keys

@@ -1,13 +1,13 @@
 use Rattle.std.proofs.Common.{◌≡◌, refl, ap, ◌∙◌, sym, None, Some, Ok, option_map}
 use Rattle.std.proofs.lemmas.Result.{on_err_weaker}
 use Rattle.resolver_fetch.specs.Cursor.{ExpectsNewId, scan_of}
-use Rattle.resolver_trying.specs.Fetcher.{Fetcher}
-use Rattle.resolver_trying.specs.Orders.{orders}
+use Rattle.resolver_fetch_scan.specs.Fetcher.{Fetcher}
+use Rattle.resolver_fetch_scan.specs.Orders.{orders}
 use Rattle.resolver_fetch.specs.Seeking.{tried_next}
 use Rattle.resolver_fetch.specs.Stepping.{after_step}
 use Rattle.resolver_fetch.proofs.Progress.{if-refused}
-use Rattle.resolver_trying.proofs.Outcomes.{onto-ok}
-use Rattle.resolver_trying.proofs.TrailLaws.{trail_law}
+use Rattle.resolver_fetch_scan.proofs.Outcomes.{onto-ok}
+use Rattle.resolver_fetch_scan.proofs.TrailLaws.{trail_law}
 use Rattle.resolver_fetch.proofs.Stepping.{answer-refused, answer-taken, answer-unasked, answer-wanted, if-memory, question-new, step-closed, step-new}
 use Rattle.resolver_fetch.proofs.fetcher.Fetcher.scan_answer.Goals as goal
 

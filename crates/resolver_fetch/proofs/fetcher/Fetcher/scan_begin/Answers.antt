@@ -1,8 +1,8 @@
-use Rattle.resolver_trying.proofs.Outcomes.{on-err}
+use Rattle.resolver_fetch_scan.proofs.Outcomes.{on-err}
 use Rattle.std.proofs.Common.{sym, subst, arith}
-use Rattle.resolver_trying.specs.Orders.{orders}
-use Rattle.resolver_trying.specs.TrailLaws.{BeginsRightly}
-use Rattle.resolver_trying.proofs.TrailLaws.{trail_law}
+use Rattle.resolver_fetch_scan.specs.Orders.{orders}
+use Rattle.resolver_fetch_scan.specs.TrailLaws.{BeginsRightly}
+use Rattle.resolver_fetch_scan.proofs.TrailLaws.{trail_law}
 use Rattle.resolver_fetch.proofs.fetcher.Fetcher.scan_begin.Goals as goal
 
 pub go_on-requires-clause-closed : goal.go_on-requires-clause-closed

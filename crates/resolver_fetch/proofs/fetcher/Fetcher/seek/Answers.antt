@@ -1,13 +1,13 @@
 use Rattle.std.proofs.Common.{◌≡◌, refl, ap, sym, subst, ◌∙◌, false, None, rules}
 use Rattle.std.proofs.lemmas.Result.{IfOk-weaker}
-use Rattle.resolver_trying.specs.Fetcher.{Fetcher}
-use Rattle.resolver_trying.specs.Known.{Known, askable}
-use Rattle.resolver_trying.specs.Orders.{orders}
-use Rattle.resolver_waiting.specs.Queues.{IsQueued, fresh_queue, placed}
+use Rattle.resolver_fetch_scan.specs.Fetcher.{Fetcher}
+use Rattle.resolver_fetch_scan.specs.Known.{Known, askable}
+use Rattle.resolver_fetch_scan.specs.Orders.{orders}
+use Rattle.resolver_fetch_waiting.specs.Queues.{IsQueued, fresh_queue, placed}
 use Rattle.resolver_fetch.specs.Seeking.{first_until}
 use Rattle.resolver_fetch.proofs.Askable.{tries-none}
 use Rattle.resolver_fetch.proofs.Dues.{from-first}
-use Rattle.resolver_trying.proofs.Outcomes.{refused, refused-as}
+use Rattle.resolver_fetch_scan.proofs.Outcomes.{refused, refused-as}
 use Rattle.resolver_fetch.proofs.Seeking.{seeks-fresh, seeks-retry}
 use Rattle.resolver_fetch.proofs.fetcher.Fetcher.seek.Goals as goal
 

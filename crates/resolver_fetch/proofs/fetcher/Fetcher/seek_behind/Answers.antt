@@ -1,15 +1,15 @@
 use Rattle.std.proofs.Common.{◌≡◌, ap, sym, ◌∙◌, true, false, None, rules}
 use Rattle.std.proofs.lemmas.Result.{IfOk-weaker}
 use Rattle.std.specs.Ordering.{nat_cmp}
-use Rattle.resolver_priorities.specs.Priorities.{after}
-use Rattle.resolver_trying.specs.declared.place.Place.{Place}
-use Rattle.resolver_trying.specs.Fetcher.{Fetcher}
-use Rattle.resolver_trying.specs.Orders.{orders}
-use Rattle.resolver_waiting.specs.Queues.{IsQueued, fresh_queue, placed, retry_queue}
+use Rattle.resolver_priority_set.specs.Priorities.{after}
+use Rattle.resolver_fetch_scan.specs.declared.place.Place.{Place}
+use Rattle.resolver_fetch_scan.specs.Fetcher.{Fetcher}
+use Rattle.resolver_fetch_scan.specs.Orders.{orders}
+use Rattle.resolver_fetch_waiting.specs.Queues.{IsQueued, fresh_queue, placed, retry_queue}
 use Rattle.resolver_fetch.specs.Seeking.{first_until, scan_at, tried_behind}
-use Rattle.resolver_trying.specs.Trying.{Trying}
-use Rattle.resolver_trying.specs.Waiting.{fresh_at, retry_at}
-use Rattle.resolver_trying.proofs.Outcomes.{refused-as}
+use Rattle.resolver_fetch_scan.specs.Trying.{Trying}
+use Rattle.resolver_fetch_scan.specs.Waiting.{fresh_at, retry_at}
+use Rattle.resolver_fetch_scan.proofs.Outcomes.{refused-as}
 use Rattle.resolver_fetch.proofs.Seeking.{behind-fresh, behind-fresh-retry, behind-retry}
 use Rattle.resolver_fetch.proofs.fetcher.Fetcher.seek_behind.Goals as goal
 

@@ -1,11 +1,11 @@
 use Rattle.std.proofs.Common.{◌≡◌, ap, ◌∙◌, true}
 use Rattle.std.proofs.lemmas.Result.{IfOk-weaker}
-use Rattle.resolver_trying.specs.Fetcher.{Fetcher}
-use Rattle.resolver_trying.specs.Orders.{orders}
-use Rattle.resolver_waiting.specs.Queues.{placed, retry_queue}
+use Rattle.resolver_fetch_scan.specs.Fetcher.{Fetcher}
+use Rattle.resolver_fetch_scan.specs.Orders.{orders}
+use Rattle.resolver_fetch_waiting.specs.Queues.{placed, retry_queue}
 use Rattle.resolver_fetch.specs.Seeking.{first_until}
 use Rattle.resolver_fetch.proofs.Dues.{from-first}
-use Rattle.resolver_trying.proofs.Outcomes.{refused}
+use Rattle.resolver_fetch_scan.proofs.Outcomes.{refused}
 use Rattle.resolver_fetch.proofs.fetcher.Fetcher.seek_retry.Goals as goal
 
 pub returns-clause-ok : goal.returns-clause-ok

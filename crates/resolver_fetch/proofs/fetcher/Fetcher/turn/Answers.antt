@@ -1,8 +1,8 @@
 use Rattle.std.proofs.Common.{inl}
-use Rattle.resolver_trying.specs.Orders.{orders}
-use Rattle.resolver_trying.proofs.Outcomes.{on-err}
+use Rattle.resolver_fetch_scan.specs.Orders.{orders}
+use Rattle.resolver_fetch_scan.proofs.Outcomes.{on-err}
 use Rattle.resolver_fetch.proofs.Progress.{fits-taken, goes-forward, if-refused, is-answerable, only-memory}
-use Rattle.resolver_trying.proofs.Outcomes.{onto-ok}
+use Rattle.resolver_fetch_scan.proofs.Outcomes.{onto-ok}
 use Rattle.resolver_fetch.proofs.fetcher.Fetcher.turn.Goals as goal
 
 pub answer_to-requires : goal.answer_to-requires

@@ -1,6 +1,6 @@
 use Rattle.std.proofs.lemmas.Cmp.{eq_by_cmp_equiv}
-use Rattle.resolver_trying.specs.Fetcher.{snapshot}
-use Rattle.resolver_trying.specs.Orders.{orders}
+use Rattle.resolver_fetch_scan.specs.Fetcher.{snapshot}
+use Rattle.resolver_fetch_scan.specs.Orders.{orders}
 use Rattle.resolver_fetch.proofs.DrawCounts.{draw_counts}
 use Rattle.resolver_fetch.proofs.fetcher.laws.draw_counts.Goals as goal
 

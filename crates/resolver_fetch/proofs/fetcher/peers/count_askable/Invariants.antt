@@ -1,5 +1,5 @@
 use Rattle.std.proofs.Common.{◌≡◌, ◌+◌, ◌<◌, ◌^◌, length}
-use Rattle.resolver_trying.specs.Known.{askable, known_by}
+use Rattle.resolver_fetch_scan.specs.Known.{askable, known_by}
 use Rattle.resolver_fetch.proofs.fetcher.peers.count_askable.Given as goal
 
 -- The count, with the peers that are left, is that of all.

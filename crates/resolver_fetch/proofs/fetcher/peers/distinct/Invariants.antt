@@ -1,7 +1,7 @@
 use Rattle.std.proofs.Common.{◌≡◌, fold}
 use Rattle.std.specs.BTreeSet.{insert_key}
 use Rattle.std.specs.Vec.Iter.{into_iter_items}
-use Rattle.resolver_trying.specs.Peers.{set_of}
+use Rattle.resolver_fetch_scan.specs.Peers.{set_of}
 use Rattle.resolver_fetch.proofs.fetcher.peers.distinct.Given as goal
 
 -- the set, with the peers that are left, is what all of them make

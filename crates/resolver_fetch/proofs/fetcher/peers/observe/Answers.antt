@@ -1,9 +1,9 @@
 use Rattle.std.proofs.Common.{◌≡◌, None, rules}
 use Rattle.std.specs.Map.{lookup}
 use Rattle.std.specs.BTreeMap.{is_at}
-use Rattle.resolver_request.specs.Scores.{averaged}
-use Rattle.resolver_trying.specs.Peers.{averages_in}
-use Rattle.resolver_trying.proofs.Entries.{set_value-none}
+use Rattle.resolver_sampling.specs.Scores.{averaged}
+use Rattle.resolver_fetch_scan.specs.Peers.{averages_in}
+use Rattle.resolver_fetch_scan.proofs.Entries.{set_value-none}
 use Rattle.resolver_fetch.proofs.fetcher.peers.observe.Goals as goal
 
 pub returns-in-None-clause-observed : goal.returns-in-None-clause-observed

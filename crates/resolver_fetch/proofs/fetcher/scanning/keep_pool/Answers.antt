@@ -1,7 +1,7 @@
 use Rattle.std.proofs.Common.{◌≡◌, ◌∙◌, ap, sym, None, rules}
 use Rattle.std.specs.BTreeMap.{is_at}
 use Rattle.std.specs.Map.{lookup}
-use Rattle.resolver_trying.specs.Pools.{whole}
+use Rattle.resolver_fetch_scan.specs.Pools.{whole}
 use Rattle.resolver_fetch.proofs.fetcher.scanning.keep_pool.Goals as goal
 
 pub put_pool-requires : goal.put_pool-requires

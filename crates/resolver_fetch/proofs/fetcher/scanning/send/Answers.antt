@@ -1,6 +1,6 @@
 use Rattle.std.proofs.Common.{ap, ◌∙◌, ◌+◌, ◌<◌, ◌^◌, length, option_map, arith}
-use Rattle.resolver_asked.specs.Loads.{one_fewer}
-use Rattle.resolver_trying.specs.Known.{known_by, with_load}
+use Rattle.resolver_fetch_requests.specs.Loads.{one_fewer}
+use Rattle.resolver_fetch_scan.specs.Known.{known_by, with_load}
 use Rattle.resolver_fetch.proofs.Kept.{room-with, undone}
 use Rattle.resolver_fetch.proofs.fetcher.scanning.send.Goals as goal
 

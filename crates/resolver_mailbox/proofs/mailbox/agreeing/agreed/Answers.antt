@@ -1,6 +1,6 @@
 use Rattle.std.proofs.Common.{◌∙◌, sym, subst, map}
 use Rattle.std.proofs.lemmas.Bool.{false≢true}
-use Rattle.resolver_ingress.specs.Backlog.{told_of}
+use Rattle.resolver_messages.specs.Waiting.{told_of}
 use Rattle.resolver_desk.specs.Book.{call_of}
 use Rattle.resolver_mailbox.specs.Shares.{Agrees}
 use Rattle.resolver_mailbox.proofs.mailbox.agreeing.agreed.Goals as goal

@@ -1,6 +1,6 @@
 use Rattle.std.proofs.Common.{arith}
 use Rattle.std.proofs.lemmas.Bool.{false≢true}
-use Rattle.resolver_ingress.specs.Backlog.{item_of}
+use Rattle.resolver_messages.specs.Waiting.{item_of}
 use Rattle.resolver_mailbox.proofs.Agreeing.{refuted, same-at}
 use Rattle.resolver_mailbox.proofs.mailbox.agreeing.are_same_items.Goals as goal
 

@@ -1,5 +1,5 @@
 use Rattle.std.proofs.Common.{◌≡◌, map, take}
-use Rattle.resolver_ingress.specs.Backlog.{item_of}
+use Rattle.resolver_messages.specs.Waiting.{item_of}
 use Rattle.resolver_mailbox.proofs.mailbox.agreeing.are_same_items.Given as goal
 
 -- The first ones are the same.

@@ -1,8 +1,8 @@
 use Rattle.std.proofs.Common.{◌≡◌, ◌<◌, ℕ, [], ◌∷◌, length, map, take, slice_index_or, refl, ap, ◌∙◌, sym, rules, arith}
 use Rattle.std.proofs.lemmas.Bool.{false≢true}
-use Rattle.resolver_ingress.specs.declared.ingress.Message.{Message}
+use Rattle.resolver_messages.specs.declared.message.Message.{Message}
 use Rattle.resolver_desk.specs.declared.entry.Entry.{Entry}
-use Rattle.resolver_ingress.specs.Backlog.{told_of}
+use Rattle.resolver_messages.specs.Waiting.{told_of}
 use Rattle.resolver_desk.specs.Book.{call_of, takes}
 use Rattle.resolver_mailbox.proofs.Agreeing.{differs, picks, refuted, same-at, skips}
 use Rattle.resolver_desk.proofs.Calls.{takes-append}

@@ -1,5 +1,5 @@
 use Rattle.std.proofs.Common.{◌≡◌, ◌≤◌, length, map, take}
-use Rattle.resolver_ingress.specs.Backlog.{told_of}
+use Rattle.resolver_messages.specs.Waiting.{told_of}
 use Rattle.resolver_desk.specs.Book.{call_of, takes}
 use Rattle.resolver_mailbox.proofs.mailbox.agreeing.has_takes.Given as goal
 

@@ -1,6 +1,6 @@
 use Rattle.std.proofs.Common.{subst}
-use Rattle.resolver_peer.specs.Parties.{parties}
-use Rattle.resolver_peer.specs.Peer.{Machine}
+use Rattle.resolver_model_peer.specs.Parties.{parties}
+use Rattle.resolver_model_peer.specs.Peer.{Machine}
 use Rattle.resolver.specs.Matching.{Engine, Matches, UnlessFailed, status_of}
 use Rattle.resolver.proofs.Stepped.{some-machine}
 use Rattle.resolver.proofs.p2p.stepping.Core.law.Goals as goal

@@ -1,4 +1,4 @@
-use Rattle.resolver_peer.specs.Parties.{parties}
+use Rattle.resolver_model_peer.specs.Parties.{parties}
 use Rattle.resolver.proofs.Stepped.{was-well}
 use Rattle.resolver.proofs.p2p.stepping.Core.metrics.Goals as goal
 

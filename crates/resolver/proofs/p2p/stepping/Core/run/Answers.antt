@@ -2,10 +2,10 @@ use Rattle.std.proofs.Common.{◌≡◌, sym, ◌∙◌, subst, rules, arith, []
 use Rattle.std.proofs.lemmas.List.{nil_from_length}
 use Rattle.std.specs.Vec.Iter.{into_iter_items}
 use Rattle.std.specs.Cmp.{IsTotalOrder}
-use Rattle.resolver_root.specs.Names.{names}
-use Rattle.resolver_machine.specs.Lawful.{AnswersAlike}
-use Rattle.resolver_peer.specs.Parties.{parties}
-use Rattle.resolver_parts.specs.Said.{codec}
+use Rattle.resolver_types.specs.Names.{names}
+use Rattle.resolver_model.specs.Lawful.{AnswersAlike}
+use Rattle.resolver_model_peer.specs.Parties.{parties}
+use Rattle.resolver_peer_step.specs.Said.{codec}
 use Rattle.resolver.specs.Taking.{Took, latest}
 use Rattle.resolver.proofs.Running.{TookOn, runs-all, runs-first, runs-last, runs-next}
 use Rattle.resolver.proofs.Taking.{took-well}

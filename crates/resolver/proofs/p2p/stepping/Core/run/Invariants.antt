@@ -1,10 +1,10 @@
 use Rattle.std.proofs.Common.{◌+◌, ◌≤◌, length, ℕ, vec_len}
 use Rattle.std.specs.Vec.{vec_capacity}
 use Rattle.std.specs.Vec.Iter.{into_iter_items}
-use Rattle.resolver_peer.specs.Parties.{parties}
-use Rattle.resolver_peer.specs.Peer.{Machine}
+use Rattle.resolver_model_peer.specs.Parties.{parties}
+use Rattle.resolver_model_peer.specs.Peer.{Machine}
 use Rattle.resolver.specs.Matching.{Matches}
-use Rattle.resolver_parts.specs.Said.{codec}
+use Rattle.resolver_peer_step.specs.Said.{codec}
 use Rattle.resolver.proofs.Running.{TookOn}
 use Rattle.resolver.proofs.p2p.stepping.Core.run.Given as goal
 

@@ -1,6 +1,6 @@
 use Rattle.std.proofs.Common.{sym, ◌∙◌, true, false}
-use Rattle.resolver_peer.specs.Parties.{parties}
-use Rattle.resolver_parts.specs.Said.{codec, fed_of}
+use Rattle.resolver_model_peer.specs.Parties.{parties}
+use Rattle.resolver_peer_step.specs.Said.{codec, fed_of}
 use Rattle.resolver.proofs.Stepped.{final-becomes, refused-becomes, refused-same, still-tied, taken-becomes, was-running, was-tied}
 use Rattle.resolver.proofs.p2p.stepping.Core.step.Goals as goal
 use Rattle.resolver.proofs.p2p.stepping.Core.step.Goals.{else-ends, else-is_final, then-ends, then-is_final}

@@ -1,8 +1,8 @@
 use Rattle.std.proofs.Common.{◌≡◌, ap, sym, subst, ◌∙◌, [], ◌∷◌, None, Some, true, false, if◌then◌else◌, rules}
 use Rattle.std.specs.BTreeMap.{is_at}
 use Rattle.std.specs.Map.{lookup, lookup_key}
-use Rattle.resolver_trying.specs.Known.{Company, known_by, may_be_asked}
-use Rattle.resolver_trying.specs.Trying.{weighed}
+use Rattle.resolver_fetch_scan.specs.Known.{Company, known_by, may_be_asked}
+use Rattle.resolver_fetch_scan.specs.Trying.{weighed}
 use Rattle.resolver_fetch.proofs.Among.{found-at, none-at}
 use Rattle.resolver_fetch.proofs.fetcher.peers.Peers.askable_at.Goals as goal
 

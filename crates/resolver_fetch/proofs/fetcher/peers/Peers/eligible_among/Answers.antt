@@ -1,6 +1,6 @@
 use Rattle.std.proofs.Common.{◌≡◌, refl, ap, sym, ◌∙◌, [], ◌∷◌, ◌++◌, append-nil, rules}
-use Rattle.resolver_trying.specs.Trying.{weighed}
-use Rattle.resolver_trying.specs.Known.{known_by}
+use Rattle.resolver_fetch_scan.specs.Trying.{weighed}
+use Rattle.resolver_fetch_scan.specs.Known.{known_by}
 use Rattle.resolver_fetch.proofs.Among.{among, among-targets}
 use Rattle.resolver_fetch.proofs.Passing.{found-here}
 use Rattle.resolver_fetch.proofs.fetcher.peers.Peers.eligible_among.Goals as goal

@@ -1,6 +1,6 @@
 use Rattle.std.proofs.Common.{◌≡◌, ◌++◌, Some}
-use Rattle.resolver_trying.specs.Known.{eligible, known_by}
-use Rattle.resolver_trying.specs.Trying.{weighed}
+use Rattle.resolver_fetch_scan.specs.Known.{eligible, known_by}
+use Rattle.resolver_fetch_scan.specs.Trying.{weighed}
 use Rattle.resolver_fetch.proofs.Among.{among}
 use Rattle.resolver_fetch.proofs.fetcher.peers.Peers.eligible_among.Given as goal
 

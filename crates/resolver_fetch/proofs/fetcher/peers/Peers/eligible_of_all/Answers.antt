@@ -1,7 +1,7 @@
 use Rattle.std.proofs.Common.{◌≡◌, refl, ap, sym, ◌∙◌, [], ◌∷◌, ◌++◌, append-nil, rules}
 use Rattle.std.specs.Option.{option_copied}
-use Rattle.resolver_request.specs.Scores.{weight_of}
-use Rattle.resolver_trying.specs.Known.{is_eligible, known_by}
+use Rattle.resolver_sampling.specs.Scores.{weight_of}
+use Rattle.resolver_fetch_scan.specs.Known.{is_eligible, known_by}
 use Rattle.resolver_fetch.proofs.Passing.{kept, kept-here, kept-past}
 use Rattle.resolver_fetch.proofs.fetcher.peers.Peers.eligible_of_all.Goals as goal
 

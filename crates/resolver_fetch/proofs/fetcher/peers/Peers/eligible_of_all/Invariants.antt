@@ -1,7 +1,7 @@
 use Rattle.std.proofs.Common.{◌≡◌, ◌++◌}
 use Rattle.std.specs.Option.{option_copied}
-use Rattle.resolver_trying.specs.Known.{eligible, known_by}
-use Rattle.resolver_trying.specs.Trying.{weighed}
+use Rattle.resolver_fetch_scan.specs.Known.{eligible, known_by}
+use Rattle.resolver_fetch_scan.specs.Trying.{weighed}
 use Rattle.resolver_fetch.proofs.fetcher.peers.Peers.eligible_of_all.Given as goal
 
 -- The peers so far, with those of the rest, are those of all.

@@ -3,9 +3,9 @@ use Rattle.std.specs.List.Sorted.{IsStrictlySortedBy}
 use Rattle.std.specs.Map.{keys_of}
 use Rattle.std.specs.Ordering.{is_eq}
 use Rattle.std.specs.Prelude.{IsTrue, ℕ}
-use Rattle.resolver_asked.specs.Loads.{Load, frees, is_full}
-use Rattle.resolver_trying.specs.Known.{Company, askable, known_by, may_be_asked, weight_in}
-use Rattle.resolver_trying.specs.Pools.{recounted, weighs}
+use Rattle.resolver_fetch_requests.specs.Loads.{Load, frees, is_full}
+use Rattle.resolver_fetch_scan.specs.Known.{Company, askable, known_by, may_be_asked, weight_in}
+use Rattle.resolver_fetch_scan.specs.Pools.{recounted, weighs}
 use Rattle.resolver_fetch.proofs.Filling.{fewer-full, freed, may-same, refits-none, weighs-nothing}
 use Rattle.resolver_fetch.proofs.Recounting.{others-fewer, recounted-then, room-for, some-weighs}
 use Rattle.resolver_fetch.proofs.Refitting.{whole-refitted}

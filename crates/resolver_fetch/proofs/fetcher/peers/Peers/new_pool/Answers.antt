@@ -1,4 +1,4 @@
-use Rattle.resolver_trying.specs.Known.{known_by, may_be_asked}
+use Rattle.resolver_fetch_scan.specs.Known.{known_by, may_be_asked}
 use Rattle.resolver_fetch.proofs.Refitting.{samples-keys}
 use Rattle.resolver_fetch.proofs.Weighing.{sorted-eligible}
 use Rattle.std.specs.Option.{option_copied}

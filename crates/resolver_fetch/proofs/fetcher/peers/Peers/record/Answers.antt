@@ -1,9 +1,9 @@
 use Rattle.std.proofs.Common.{◌∙◌, refl, sym}
 use Rattle.std.specs.Map.{lookup}
 use Rattle.std.specs.BTreeMap.{is_at}
-use Rattle.resolver_request.specs.Scores.{Observation, averaged}
-use Rattle.resolver_trying.specs.Known.{Company, known_by, may_be_asked}
-use Rattle.resolver_trying.specs.Peers.{averages_in}
+use Rattle.resolver_sampling.specs.Scores.{Observation, averaged}
+use Rattle.resolver_fetch_scan.specs.Known.{Company, known_by, may_be_asked}
+use Rattle.resolver_fetch_scan.specs.Peers.{averages_in}
 use Rattle.resolver_fetch.proofs.Askable.{counts-same}
 use Rattle.resolver_fetch.proofs.Refitting.{whole-revalued, whole-unseen}
 use Rattle.resolver_fetch.proofs.fetcher.peers.Peers.record.Goals as goal

@@ -1,6 +1,6 @@
 use Rattle.std.proofs.Common.{◌≡◌, ◌++◌}
-use Rattle.resolver_trying.specs.Known.{known_by, may_be_asked}
-use Rattle.resolver_trying.specs.Trying.{sampled}
+use Rattle.resolver_fetch_scan.specs.Known.{known_by, may_be_asked}
+use Rattle.resolver_fetch_scan.specs.Trying.{sampled}
 use Rattle.resolver_fetch.proofs.Refitting.{samples}
 use Rattle.resolver_fetch.proofs.fetcher.peers.Peers.sampled.Given as goal
 

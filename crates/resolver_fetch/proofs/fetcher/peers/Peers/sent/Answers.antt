@@ -3,9 +3,9 @@ use Rattle.std.specs.List.Sorted.{IsStrictlySortedBy}
 use Rattle.std.specs.Map.{keys_of}
 use Rattle.std.specs.Ordering.{is_eq}
 use Rattle.std.specs.Prelude.{IsTrue, ℕ}
-use Rattle.resolver_asked.specs.Loads.{Load, fills, is_full, loaded}
-use Rattle.resolver_trying.specs.Known.{Company, askable, known_by, may_be_asked, weight_in}
-use Rattle.resolver_trying.specs.Pools.{recounted, weighs}
+use Rattle.resolver_fetch_requests.specs.Loads.{Load, fills, is_full, loaded}
+use Rattle.resolver_fetch_scan.specs.Known.{Company, askable, known_by, may_be_asked, weight_in}
+use Rattle.resolver_fetch_scan.specs.Pools.{recounted, weighs}
 use Rattle.resolver_fetch.proofs.Filling.{filled, may-same, more-full, refits-none, weighs-free, weighs-nothing}
 use Rattle.resolver_fetch.proofs.Recounting.{others-more, recounted-then, room-for, some-weighs}
 use Rattle.resolver_fetch.proofs.Refitting.{whole-refitted}

@@ -1,5 +1,5 @@
 use Rattle.std.proofs.Common.{◌∙◌, map}
-use Rattle.resolver_root.specs.Names.{names}
+use Rattle.resolver_types.specs.Names.{names}
 use Rattle.resolver_desk.specs.Book.{call_of}
 use Rattle.resolver_desk.specs.Desk.{calls_of}
 use Rattle.resolver_mailbox.proofs.Agreeing.{copied-book, kept-book}

@@ -1,12 +1,12 @@
 use Rattle.std.proofs.Common.{◌∙◌, ◌≡◌, ℕ, Bool, Option, Some, None, false, true, cond, sym, ap, is_some, rules, refl, subst}
 use Rattle.std.specs.Prelude.{◌≢◌, Result, Ok, Err, IfOk, IfErr, OnOk, OnErr}
 use Rattle.std.specs.Option.{option_map}
-use Rattle.resolver_base.specs.declared.base.fault.Fault.{Fault}
-use Rattle.resolver_base.specs.declared.base.fault.Fault.TheVariants.{Exhausted, OutOfMemory}
-use Rattle.resolver_base.specs.declared.base.feedback.Feedback.{Feedback}
-use Rattle.resolver_base.specs.declared.base.feedback.Feedback.TheVariants as feedbacks
-use Rattle.resolver_root.specs.Names.{Names, names}
-use Rattle.resolver_ingress.specs.Backlog.{Told, told_of}
+use Rattle.resolver_base.specs.declared.fault.Fault.{Fault}
+use Rattle.resolver_base.specs.declared.fault.Fault.TheVariants.{Exhausted, OutOfMemory}
+use Rattle.resolver_base.specs.declared.feedback.Feedback.{Feedback}
+use Rattle.resolver_base.specs.declared.feedback.Feedback.TheVariants as feedbacks
+use Rattle.resolver_types.specs.Names.{Names, names}
+use Rattle.resolver_messages.specs.Waiting.{Told, told_of}
 use Rattle.resolver_desk.specs.Desk.{Book, Desk, desk_put, feedback_of, has_room, placed, with_put}
 use Rattle.resolver_mailbox.specs.Shares.{IsAdded, Share, first_share, with_message}
 use Rattle.resolver_mailbox.proofs.Counts.{begun-counted, begun-recorded, for-one, stored-counted, stored-recorded}

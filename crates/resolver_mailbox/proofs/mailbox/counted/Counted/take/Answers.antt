@@ -1,6 +1,6 @@
 use Rattle.std.proofs.Common.{◌∙◌, ◌≡◌, true, sym, ap, is_some}
 use Rattle.std.specs.Option.{option_map}
-use Rattle.resolver_ingress.specs.Backlog.{told_of}
+use Rattle.resolver_messages.specs.Waiting.{told_of}
 use Rattle.resolver_mailbox.proofs.Counts.{for-one, took-counted, took-recorded}
 use Rattle.resolver_mailbox.proofs.mailbox.counted.Counted.take.Goals as goal
 

@@ -1,6 +1,6 @@
 use Rattle.std.proofs.Common.{◌≡◌, ◌∙◌, ap, map}
-use Rattle.resolver_base.specs.declared.base.fault.Fault.TheVariants.{Uneven}
-use Rattle.resolver_ingress.specs.Backlog.{told_of}
+use Rattle.resolver_base.specs.declared.fault.Fault.TheVariants.{Uneven}
+use Rattle.resolver_messages.specs.Waiting.{told_of}
 use Rattle.resolver_desk.specs.Book.{call_of}
 use Rattle.resolver_mailbox.proofs.Agreeing.{differs-empty}
 use Rattle.resolver_mailbox.proofs.mailbox.receiver.Receiver.book.Goals as goal

@@ -1,7 +1,7 @@
 use Rattle.std.proofs.Common.{◌≡◌, ◌∙◌, ◌<◌, ◌≤◌, ◌+◌, ◌-◌, ◌^◌, ℕ, Bool, true, false, cond, Option, None, Some, is_some, length, map, rules, refl, sym, ap, arith}
 use Rattle.std.specs.Vec.{vec_len}
 use Rattle.std.proofs.lemmas.List.{length-map}
-use Rattle.resolver_ingress.specs.Backlog.{told_of}
+use Rattle.resolver_messages.specs.Waiting.{told_of}
 use Rattle.std.specs.Option.{ForSome, option_map, option_map_or}
 use Rattle.resolver_desk.specs.Desk.{Book, Desk, answered, number_of}
 use Rattle.resolver_mailbox.specs.Shares.{numbered}

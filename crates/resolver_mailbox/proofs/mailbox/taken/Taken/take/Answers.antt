@@ -1,7 +1,7 @@
 use Rattle.std.proofs.Common.{◌≡◌, ◌∙◌, List, [], ◌∷◌, ◌++◌, Option, Some, None, map, is_some, refl, sym, ap, rules, arith}
 use Rattle.std.proofs.lemmas.List.{append-nil, map-append}
-use Rattle.resolver_ingress.specs.declared.ingress.Message.{Message}
-use Rattle.resolver_ingress.specs.Backlog.{Told, told_of}
+use Rattle.resolver_messages.specs.declared.message.Message.{Message}
+use Rattle.resolver_messages.specs.Waiting.{Told, told_of}
 use Rattle.resolver_desk.specs.Desk.{Desk, desk_taken}
 use Rattle.resolver_mailbox.proofs.mailbox.taken.Taken.take.Goals as goal
 

@@ -1,0 +1,55 @@
+//! What answers the questions of a scan.
+
+ghost use Rattle.std.specs.Prelude.{◌≡◌, IfErr, IfOk};
+ghost use Rattle.resolver_base.specs.declared.fault.Fault.TheVariants.{OutOfMemory};
+ghost use Rattle.resolver_fetch.specs.Fetching.{Says, outside};
+ghost use Rattle.resolver_fetch.specs.Progress.{IsAnswerable};
+
+use bytes::Bytes;
+use resolver_base::{Draws, Fault, PublicKey, Sender, Span};
+use resolver_fetch::fetcher::{Answer, Ask, answer_to};
+use std::alloc::Global;
+
+/// The way to the peers, and a source of numbers: what a scan asks is answered at once from these.
+pub(crate) struct Asking<X, G> {
+    pub(crate) sender: X,
+    pub(crate) draws: G,
+}
+
+impl<X: Drop, G: Drop> Drop for Asking<X, G> {
+    fn drop(self) {
+        let Self {
+            sender: _,
+            draws: _,
+        } = self;
+    }
+}
+
+impl<X: Sender, G: Draws> Asking<X, G>
+where
+    X::PublicKey: PublicKey + Drop,
+{
+    /// Answers a question: what the draws or the sender say to it is the answer. Where memory for a request's bytes
+    /// is wanting, nothing was sent. Scans ask for no number below 0, and none is drawn there.
+    pub(crate) fn answer<K: Span + Drop>(
+        &mut self,
+        alloc: Global,
+        ask: Ask<K, X::PublicKey>,
+    ) -> Result<Answer, Fault>
+        ensures says { IsAnswerable ask → IfOk result (λ answer. Says
+            (outside K.bytes_of X.check_gives X.send_gives G.below_gives) ask answer
+            self.old.sender self.old.draws self.new.sender self.new.draws) }
+        ensures only { IfErr result (λ fault. fault ≡ OutOfMemory) }
+    {
+        if let Ask::Draw(0) = &ask {
+            drop(ask);
+            return Ok(Answer::Drawn(0));
+        }
+        Ok(answer_to(alloc, &mut self.sender, &mut self.draws, ask)?)
+    }
+
+    /// Sends a message, and says whether it is on its way.
+    pub(crate) fn send(&mut self, peer: &X::PublicKey, message: Bytes, priority: bool) -> bool {
+        self.sender.send(peer, message, priority).is_accepted()
+    }
+}

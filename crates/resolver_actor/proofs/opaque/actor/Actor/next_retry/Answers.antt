@@ -1,7 +1,0 @@
-use Rattle.std.proofs.Common.{sym}
-use Rattle.resolver_source.proofs.ByDue.{next_retry-first}
-use Rattle.resolver_actor.proofs.opaque.actor.Actor.next_retry.Goals as goal
-
-pub returns-clause-value : goal.returns-clause-value
-returns-clause-value g c =
-    rw (c.next_retry.ensures.value, ← c.self.view_is) (sym (next_retry-first c.self.inside.demand c.self.inside.stages.entries.keys c.self.invariant.agree.same))

@@ -1,8 +1,0 @@
-use Rattle.resolver_source.proofs.Agrees.{listed-distinct, listed-ordered}
-use Rattle.resolver_actor.proofs.opaque.actor.Actor.rows.Goals as goal
-
-pub returns-clause-once : goal.returns-clause-once
-returns-clause-once g c = listed-distinct g.K.Ord.cmp c.self.inside.demand c.self.inside.stages.entries.keys c.self.invariant.agree c.listed.result (rw c.entries.ensures at c.listed.ensures.rows)
-
-pub returns-clause-ordered : goal.returns-clause-ordered
-returns-clause-ordered g c = listed-ordered g.K.Ord.cmp c.self.inside.demand c.self.inside.stages.entries.keys c.self.invariant.agree c.listed.result c.listed.ensures.ordered (rw c.entries.ensures at c.listed.ensures.rows)

@@ -1,8 +1,0 @@
-use Rattle.std.proofs.Common.{rules}
-use Rattle.resolver_asked.proofs.Names.{asked-named}
-use Rattle.resolver_asked.proofs.requests.Requests.is_asked.Goals as goal
-
-pub returns : goal.returns
-returns g c =
-    let is = asked-named g.met.K.Ord.total c.self.inside.by_id.entries c.self.inside.by_key.entries c.self.invariant.1 c.self.invariant.0.ids c.args.key.now in
-    search (rules, is)

@@ -1,5 +1,0 @@
-use Rattle.std.proofs.Common.{rules}
-use Rattle.resolver_asking.proofs.mailbox.MailboxTargetedResolver.fetch_targeted.Goals as goal
-
-pub returns : goal.returns
-returns g c = search rules

@@ -1,5 +1,0 @@
-use Rattle.std.proofs.Common.{[], ◌∷◌}
-use Rattle.resolver_asking.proofs.putting.ask.Goals as goal
-
-pub returns : goal.returns
-returns g c = c.put.ensures (g.T.Asked.item c.args.asked ∷ []) c.only.ensures

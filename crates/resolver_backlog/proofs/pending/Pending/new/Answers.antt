@@ -1,7 +1,0 @@
-use Rattle.std.proofs.Common.{rules}
-use Rattle.resolver_root.specs.Names.{names}
-use Rattle.resolver_backlog.proofs.Drained.{filed-none}
-use Rattle.resolver_backlog.proofs.pending.Pending.new.Goals as goal
-
-pub invariant_of-result : goal.invariant_of-result
-invariant_of-result g c = filed-none (names g.K.Ord.cmp g.S.Ord.cmp) _ _ (search rules) (search rules)

@@ -1,0 +1,42 @@
+use Rattle.std.proofs.Common.{◌≡◌, ◌∙◌, ap, filter, is_some, rules}
+use Rattle.std.proofs.lemmas.Fn.{filter_same}
+use Rattle.std.proofs.lemmas.Map.Made.{filter_same_pairs}
+use Rattle.resolver_priority_set.specs.Priorities.{retained}
+use Rattle.resolver_fetch_requests.specs.Requests.{request_of}
+use Rattle.std.proofs.lemmas.Cmp.{eq_by_cmp_equiv}
+use Rattle.std.proofs.lemmas.Map.Keys.{IsDistinct-from_sorted}
+use Rattle.std.proofs.lemmas.Map.Entries.{lookup-filter-values}
+use Rattle.std.specs.BTreeMap.{is_at}
+use Rattle.std.specs.Map.{lookup}
+use Rattle.resolver_fetch_requests.specs.Ids.{is_held}
+use Rattle.resolver_fetch_requests.proofs.Names.{fewer-retained, named-retained, none-retained}
+use Rattle.resolver_fetch_requests.proofs.Timed.{timed-retained, kept-found}
+use Rattle.resolver_fetch_requests.proofs.requests.Requests.retain.Goals as goal
+
+pub invariant_of-self : goal.invariant_of-self
+invariant_of-self g c =
+    let found = kept-found _ (λ f k v b w f' t. search rules) _ c.self.inside.by_id.entries c.retain.new.self.entries c.self.invariant.0.ids c.retain.ensures.filtered in
+    let ids : c.retain-2.new.self.keys ≡ retained (λ id. is_some (request_of c.retain.new.self.entries id)) c.self.inside.deadlines.keys =
+    filter_same _ _ _ (λ x b f' k. search rules) _ _ c.retain-2.ensures.filtered in
+    let names : c.retain-3.new.self.entries ≡ filter (λ e. is_held c.retain.new.self.entries e.1) c.self.inside.by_key.entries =
+    filter_same_pairs _ (λ e. is_held c.retain.new.self.entries e.1) _ (λ k v b w f' t. (search rules, search rules, search rules)) _ _ c.retain-3.ensures.filtered in
+    rw ids (
+      timed-retained c.self.inside.by_id.entries c.retain.new.self.entries c.self.inside.deadlines.keys c.self.invariant.0 c.retain.ensures.ordered found,
+      named-retained g.met.K.Ord.total c.self.inside.by_id.entries c.retain.new.self.entries c.self.inside.by_key.entries _ c.self.invariant.1 found (λ k.
+          ap (lookup (is_at (g.K.Ord.cmp k))) names
+          ∙ lookup-filter-values (eq_by_cmp_equiv g.met.K.Ord.total) (is_held c.retain.new.self.entries) k c.self.inside.by_key.entries (IsDistinct-from_sorted g.K.Ord.cmp _ c.retain-3.ensures.was_ordered)),
+    )
+
+pub returns-clause-kept : goal.returns-clause-kept
+returns-clause-kept g c = λ test pure.
+    let left : c.retain.new.self.entries ≡ filter (λ r. test r.1.key) c.self.inside.by_id.entries =
+    filter_same_pairs _ (λ r. test r.1.key) _ (λ k v b w f' t. (pure.by v.key b (search rules), search rules, search rules)) _ _ c.retain.ensures.filtered in
+    rw left (ap (filter (λ r. test r.1.key)) c.self.view_is)
+
+pub returns-clause-fewer : goal.returns-clause-fewer
+returns-clause-fewer g c = λ key.
+    rw (← c.self.view_is) (fewer-retained _ g.K.Ord.cmp (λ f k v b w f' t. search rules) key _ c.self.inside.by_id.entries c.retain.new.self.entries c.retain.ensures.filtered)
+
+pub returns-clause-none : goal.returns-clause-none
+returns-clause-none g c = λ none.
+    none-retained _ _ c.self.inside.by_id.entries c.retain.new.self.entries (c.self.view_is ∙ none) c.retain.ensures.filtered

@@ -1,0 +1,14 @@
+pub mod Orders
+pub mod Waiting
+pub mod Peers
+pub mod Known
+pub mod Snapshot
+pub mod Scan
+pub mod Tried
+pub mod Trying
+pub mod ScanSteps
+pub mod Pools
+pub mod Fetcher
+pub mod FetcherLaws
+pub mod TrailLaws
+pub mod EligibleLaws

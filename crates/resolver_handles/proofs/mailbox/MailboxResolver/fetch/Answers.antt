@@ -1,0 +1,5 @@
+use Rattle.std.proofs.Common.{rules}
+use Rattle.resolver_handles.proofs.mailbox.MailboxResolver.fetch.Goals as goal
+
+pub returns : goal.returns
+returns g c = search rules

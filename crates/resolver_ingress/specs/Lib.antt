@@ -1,3 +1,0 @@
-pub mod Backlog
-pub mod Fetched
-pub mod Places

@@ -1,6 +1,0 @@
-pub use Rattle.resolver_root.specs.Names
-pub use Rattle.resolver_delivery.specs.Entries
-pub mod Verdict
-pub mod Deadlines
-pub mod Endings
-pub mod Polled

@@ -1,0 +1,3 @@
+pub mod Waiting
+pub mod Fetched
+pub mod Places

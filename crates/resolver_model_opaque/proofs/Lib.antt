@@ -1,0 +1,15 @@
+pub mod Written
+pub mod Led
+pub mod Hashed
+pub mod DueFirst
+pub mod Dues
+pub mod OpaqueGoing
+pub mod Running
+pub mod Joined
+pub mod Inserted
+pub mod Agrees
+pub mod OpaqueDemand
+pub mod OpaqueKept
+pub mod ByDue
+pub mod Closing
+pub mod Dead

@@ -1,0 +1,16 @@
+pub mod OpaquePhases
+pub mod OpaqueStages
+pub mod OpaqueByPhase
+pub mod OpaqueOverdue
+pub use Rattle.resolver_types.specs.Names
+pub use Rattle.resolver_types.specs.Demand
+pub use Rattle.resolver_types.specs.Subscribers
+pub mod Opaque
+pub mod OpaqueTables
+pub mod OpaqueSteps
+pub mod OpaqueInputs
+pub mod OpaqueWorked
+pub mod OpaqueStanding
+pub mod OpaqueLaws
+pub mod OpaqueListed
+pub mod OpaqueFound

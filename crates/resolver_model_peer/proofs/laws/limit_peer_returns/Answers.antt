@@ -1,0 +1,5 @@
+use Rattle.std.proofs.Common.{refl}
+use Rattle.resolver_model_peer.proofs.laws.limit_peer_returns.Goals as goal
+
+pub returns : goal.returns
+returns c = record { answered = λ some. refl }

@@ -1,0 +1,15 @@
+pub mod Parties
+pub mod PeerRows
+pub mod Peer
+pub mod PeerWorked
+pub mod PeerRun
+pub mod PeerStanding
+pub mod PeerSteps
+pub mod PeerAccount
+pub mod PeerAwake
+pub mod PeerLaws
+pub mod PeerDemandWorked
+pub mod PeerRunLaws
+pub mod PeerPoints
+pub mod Again
+pub mod Canceled

@@ -1,6 +1,0 @@
-use Rattle.futures.specs.Task.{Keeps}
-use Rattle.resolver_opaque.proofs.looping.Loop.poll.Given as goal
-
--- the context is kept over the turns
-abbrev pub invariant-loop : goal.invariant-loop
-invariant-loop g l = Keeps l.initial.cx l.cx

@@ -1,0 +1,123 @@
+//! An actor over an opaque source that is opened, and one that runs.
+
+ghost use Rattle.std.specs.Prelude.{◌≡◌, ◌<◌, ◌^◌, IfErr};
+ghost use Rattle.resolver_base.specs.declared.fault.Fault.TheVariants.{OutOfMemory};
+
+use crate::fetcher::Fetcher;
+use crate::hands::Hands;
+use crate::looping::Loop;
+use resolver_base::{Faithful, Fault, Span};
+use resolver_handles::resolver::Resolver;
+use resolver_mailbox::mailbox;
+use resolver_mailbox::mailbox::Unrecorded;
+use resolver_opaque_actor::Actor;
+use resolver_runtime::{Clock, Consumer, Handle, start};
+use resolver_types::Predicate;
+use std::alloc::{AllocGlobal, Global};
+use std::num::NonZeroUsize;
+use std::random::RandomSource;
+use std::sync::Wait;
+use std::thread::Threads;
+
+/// An actor over a source, as a handle and a loop, for a caller that polls it in a thread of its
+/// own. A key that the source has no value for is asked for again after `fetch_retry_delay`
+/// nanoseconds.
+pub fn open<K, V, S, P, Q, R, W, F, C>(
+    rt: R,
+    alloc: Global,
+    clock: W,
+    fetcher: F,
+    consumer: C,
+    mailbox_size: NonZeroUsize,
+    fetch_retry_delay: u128,
+) -> Result<
+    (
+        Resolver<K, S, P, Q, Unrecorded, R>,
+        Loop<K, V, S, Q, R, W, F, C>,
+    ),
+    Fault,
+>
+where
+    K: Span + Faithful + Drop,
+    V: Faithful + Drop,
+    S: Ord + Faithful + Drop,
+    Q: Predicate<K, S> + Faithful + Drop,
+    R: Copy,
+    W: Clock + Drop,
+    F: Fetcher<Key = K, Value = V> + Drop,
+    C: Consumer<Key = K, Value = V, Subscriber = S> + Drop,
+    C::Outcome: Drop,
+    requires { fetch_retry_delay < 2 ^ 94 }
+    ensures only { IfErr result (λ fault. fault ≡ OutOfMemory) }
+{
+    let hands = match Hands::new(alloc, fetcher, consumer) {
+        Ok(hands) => hands,
+        Err(fault) => {
+            drop(clock);
+            return Err(fault);
+        }
+    };
+    match mailbox::new(rt, alloc, mailbox_size.get()) {
+        Ok((sender, mail)) => {
+            let looped = Loop {
+                actor: Actor::new(alloc, fetch_retry_delay),
+                mail,
+                clock,
+                hands,
+            };
+            Ok((Resolver::over(alloc, sender), looped))
+        }
+        Err(fault) => {
+            drop((clock, hands));
+            Err(fault)
+        }
+    }
+}
+
+/// An actor over a source, as a handle and the thread in which its loop runs until the mailbox is
+/// closed. A key that the source has no value for is asked for again after `fetch_retry_delay`
+/// nanoseconds.
+///
+/// Where memory is wanting or no thread can be made, all that was lent is dropped.
+pub fn init<K, V, S, P, Q, R, W, F, C>(
+    rt: R,
+    alloc: Global,
+    clock: W,
+    fetcher: F,
+    consumer: C,
+    mailbox_size: NonZeroUsize,
+    fetch_retry_delay: u128,
+) -> Result<(Resolver<K, S, P, Q, Unrecorded, R>, Handle), Fault>
+where
+    K: Span + Faithful + Drop + Send + 'static,
+    V: Faithful + Drop + Send + 'static,
+    S: Ord + Faithful + Drop + Send + 'static,
+    Q: Predicate<K, S> + Faithful + Drop + Send + 'static,
+    R: Threads + Wait + RandomSource + AllocGlobal + Copy + Drop + Send + 'static,
+    W: Clock + Drop + Send + 'static,
+    F: Fetcher<Key = K, Value = V> + Drop + Send,
+    F::Future: Send + 'static,
+    C: Consumer<Key = K, Value = V, Subscriber = S> + Drop + Send,
+    C::Outcome: Drop + Send + 'static,
+    requires { fetch_retry_delay < 2 ^ 94 }
+    ensures only { IfErr result (λ fault. fault ≡ OutOfMemory) }
+{
+    match open(
+        rt,
+        alloc,
+        clock,
+        fetcher,
+        consumer,
+        mailbox_size,
+        fetch_retry_delay,
+    ) {
+        Ok((resolver, looped)) => match start(rt, looped) {
+            Ok(handle) => Ok((resolver, handle)),
+            Err(fault) => {
+                drop(resolver);
+                Err(fault)
+            }
+        },
+        Err(fault) => Err(fault),
+    }
+}

@@ -1,7 +1,0 @@
-pub mod Aiming
-pub mod Answering
-pub mod EngineSteps
-pub mod Going
-pub mod Said
-pub mod Tied
-pub mod Ruled

@@ -1,6 +1,0 @@
-use Rattle.resolver_peer.specs.Parties.{parties}
-use Rattle.resolver_peer.proofs.AsksEligible.{asks_eligible}
-use Rattle.resolver_peer.proofs.laws.asks_eligible.Goals as goal
-
-pub returns : goal.returns
-returns g c = asks_eligible (parties g.K.Ord.cmp g.S.Ord.cmp g.P.Ord.cmp)

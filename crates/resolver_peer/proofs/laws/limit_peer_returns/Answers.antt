@@ -1,5 +1,0 @@
-use Rattle.std.proofs.Common.{refl}
-use Rattle.resolver_peer.proofs.laws.limit_peer_returns.Goals as goal
-
-pub returns : goal.returns
-returns c = record { answered = λ some. refl }

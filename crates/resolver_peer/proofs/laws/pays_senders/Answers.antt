@@ -1,6 +1,0 @@
-use Rattle.resolver_peer.specs.Parties.{parties}
-use Rattle.resolver_peer.proofs.PaysSenders.{is_paid_to_senders}
-use Rattle.resolver_peer.proofs.laws.pays_senders.Goals as goal
-
-pub returns : goal.returns
-returns g c = is_paid_to_senders (parties g.K.Ord.cmp g.S.Ord.cmp g.P.Ord.cmp)

@@ -1,0 +1,36 @@
+use Rattle.std.proofs.Common.{◌∙◌, ap, refl, subst, ◌<◌, ◌^◌, rules}
+use Rattle.resolver_model_peer.proofs.Refusals.{refused, refused-as, refusal-is}
+use Rattle.resolver_peer_step.proofs.response.hand_out.Goals as goal
+
+pub deliver-requires-clause-contexts_clone : goal.deliver-requires-clause-contexts_clone
+deliver-requires-clause-contexts_clone g c = λ x y is.
+    ap (λ peer. record y { peer = peer }) (c.requires.peers_clone x.peer y.peer is.0)
+    ∙ ap (λ elapsed. record y { peer = x.peer; elapsed = elapsed }) is.1.0
+    ∙ ap (λ bytes. record x { bytes = bytes }) is.1.1
+
+pub returns-clause-told : goal.returns-clause-told
+returns-clause-told g c = c.in_ok-push.ensures.items ∙ rw (c.in-Ok-deliver.ensures.number, c.in-Ok.ensures.delivery) refl
+
+pub returns-clause-ok : goal.returns-clause-ok
+returns-clause-ok g c = c.in-Ok-deliver.ensures.ok ∙ rw c.in-Ok.ensures.value refl
+
+pub returns-in-Err-clause-only : goal.returns-in-Err-clause-only
+returns-in-Err-clause-only g c = rw c.in-Err.ensures.only tt
+
+pub returns-in-Err-deliver-clause-only : goal.returns-in-Err-deliver-clause-only
+returns-in-Err-deliver-clause-only g c = rw c.in-Err-deliver.ensures.only (refusal-is c.args.entries.now.next)
+
+pub returns-in_err-push-clause-told : goal.returns-in_err-push-clause-told
+returns-in_err-push-clause-told g c = refused c.from_residual.result _ _ c.from_residual.ensures.1
+
+pub returns-in_err-push-clause-ok : goal.returns-in_err-push-clause-ok
+returns-in_err-push-clause-ok g c = refused c.from_residual.result _ _ c.from_residual.ensures.1
+
+pub returns-in_err-push-clause-room : goal.returns-in_err-push-clause-room
+returns-in_err-push-clause-room g c = refused c.from_residual.result _ _ c.from_residual.ensures.1
+
+pub returns-in_err-push-clause-only : goal.returns-in_err-push-clause-only
+returns-in_err-push-clause-only g c = refused-as c.from_residual.result _ _ c.from_residual.ensures.1 (λ fault same. rw same tt)
+
+pub returns-clause-room : goal.returns-clause-room
+returns-clause-room g c = subst (λ n. n < 2 ^ 64) c.in-Ok-deliver.ensures.number (search rules)

@@ -1,5 +1,0 @@
-use Rattle.resolver_priorities.proofs.Priorities.{length-listed}
-use Rattle.resolver_priorities.proofs.priority_set.PrioritySet.iter.Goals as goal
-
-pub returns-clause-once : goal.returns-clause-once
-returns-clause-once g c = λ item. rw (← c.self.view_is, c.self.invariant.same item) (length-listed _)

@@ -1,5 +1,0 @@
-use Rattle.resolver_priorities.proofs.Forgotten.{Forgets}
-use Rattle.resolver_priorities.proofs.priority_set.forget.Given as goal
-
-abbrev pub invariant-loop-pair : goal.invariant-loop-pair
-invariant-loop-pair g l = Forgets g.met.I.Ord.total g.F.Fn l.keep l.ordered.keys l.pair-iterator l.priorities.entries

@@ -1,5 +1,0 @@
-use Rattle.resolver_request.proofs.Modes.{four_mean_weighted}
-use Rattle.resolver_request.proofs.laws.four_mean_weighted.Goals as goal
-
-pub returns : goal.returns
-returns c = four_mean_weighted

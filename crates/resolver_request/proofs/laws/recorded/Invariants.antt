@@ -1,7 +1,0 @@
-use Rattle.std.proofs.Common.{◌≡◌, map, take}
-use Rattle.resolver_request.specs.Scores.{averages_of, observation}
-use Rattle.resolver_request.proofs.laws.recorded.Given as goal
-
-abbrev pub invariant-loop-elapsed : goal.invariant-loop-elapsed
-invariant-loop-elapsed l =
-    l.score ≡ averages_of (map observation (take l.elapsed-index l.observations))

@@ -1,5 +1,0 @@
-use Rattle.resolver_request.proofs.RoundTrip.{one_spelling}
-use Rattle.resolver_request.proofs.wire.laws.each_has_one_spelling.Goals as goal
-
-pub returns : goal.returns
-returns g c = one_spelling g.Key.Span.bytes_of

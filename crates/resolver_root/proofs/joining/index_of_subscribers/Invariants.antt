@@ -1,8 +1,0 @@
-use Rattle.std.proofs.Common.{◌≡◌, ◌||◌, drop}
-use Rattle.std.specs.BTreeSet.{contains}
-use Rattle.resolver_root.specs.Subscribers.{is_among}
-use Rattle.resolver_root.proofs.joining.index_of_subscribers.Given as goal
-
--- a subscriber is in the index or among those that are left, where it is one of these
-abbrev pub invariant-loop-one : goal.invariant-loop-one
-invariant-loop-one g l = (s : _) → (contains g.S.Ord.cmp l.index s || is_among g.S.Ord.cmp (drop l.one-index l.list) s) ≡ is_among g.S.Ord.cmp l.list s

@@ -1,0 +1,16 @@
+pub mod Counts
+pub mod Choices
+pub mod ChoiceCounts
+pub mod SumTrees
+pub mod SumSteps
+pub mod Powers
+pub mod Marks
+pub mod Leaves
+pub mod IdleScores
+pub mod Fades
+pub mod Modes
+pub mod Ascending
+pub mod Draws
+pub mod Takes
+pub mod Positive
+pub mod Restored

@@ -1,0 +1,11 @@
+pub mod Choice
+pub mod ChoiceLaws
+pub mod Visits
+pub mod SumTrees
+pub mod Times
+pub mod Scores
+pub mod Bounded
+pub mod ScoreLaws
+pub mod Modes
+pub mod LeftPlaces
+pub mod Selections

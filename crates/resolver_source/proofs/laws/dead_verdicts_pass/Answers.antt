@@ -1,6 +1,0 @@
-use Rattle.resolver_root.specs.Names.{names}
-use Rattle.resolver_source.proofs.Dead.{dead_verdicts_pass}
-use Rattle.resolver_source.proofs.laws.dead_verdicts_pass.Goals as goal
-
-pub returns : goal.returns
-returns g c = dead_verdicts_pass (names g.K.Ord.cmp g.S.Ord.cmp)

@@ -1,6 +1,0 @@
-use Rattle.resolver_stages.proofs.Led.{led-none}
-use Rattle.resolver_stages.proofs.Dues.{due-none}
-use Rattle.resolver_stages.proofs.stages.Stages.new.Goals as goal
-
-pub invariant_of-result : goal.invariant_of-result
-invariant_of-result g c = rw (c.new-2.ensures, c.new.ensures, c.new-3.ensures) (led-none g.K.Ord.cmp c.args.attempts, due-none g.K.Ord.cmp)

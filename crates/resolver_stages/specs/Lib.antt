@@ -1,4 +1,0 @@
-pub mod OpaquePhases
-pub mod OpaqueStages
-pub mod OpaquePhased
-pub mod OpaqueOverdue

@@ -1,6 +1,0 @@
-use Rattle.resolver_trying.specs.Orders.{orders}
-use Rattle.resolver_trying.proofs.EligibleLaws.{eligible_means}
-use Rattle.resolver_trying.proofs.laws.eligible_means.Goals as goal
-
-pub returns : goal.returns
-returns g c = eligible_means (orders g.K.Ord.cmp g.P.Ord.cmp)

@@ -1,6 +1,0 @@
-use Rattle.resolver_trying.specs.Orders.{orders}
-use Rattle.resolver_trying.proofs.Weights.{keeps_weights}
-use Rattle.resolver_trying.proofs.laws.keeps_weights.Goals as goal
-
-pub returns : goal.returns
-returns g c = keeps_weights (orders g.K.Ord.cmp g.P.Ord.cmp)

@@ -1,6 +1,0 @@
-use Rattle.resolver_trying.specs.Orders.{orders}
-use Rattle.resolver_trying.proofs.NeedsPairs.{needs_pairs}
-use Rattle.resolver_trying.proofs.laws.needs_pairs.Goals as goal
-
-pub returns : goal.returns
-returns g c = needs_pairs (orders g.K.Ord.cmp g.P.Ord.cmp)

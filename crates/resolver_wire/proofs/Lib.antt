@@ -1,0 +1,6 @@
+pub mod Groups
+pub mod Layouts
+pub mod Lengths
+pub mod Pieces
+pub mod Varints
+pub mod RoundTrip

@@ -1,0 +1,8 @@
+use Rattle.std.proofs.Common.{true}
+use Rattle.tests_loops.proofs.mocks.a_key_is_booked.Given as goal
+
+abbrev pub ghosts-booked-N-Names : goal.ghosts-booked-N-Names
+ghosts-booked-N-Names g a = record { puts = a.pages.puts.name; takes = a.pages.takes.name }
+
+abbrev pub ghosts-booked-N-Naming : goal.ghosts-booked-N-Naming
+ghosts-booked-N-Naming g a = record { is_recorded = true }

@@ -1,0 +1,433 @@
+//! An engine's loop in memory, and what its test holds of it. `Q` is the predicate by which subscribers are let go.
+
+use bytes::Bytes;
+use futures::channel::{mpsc, oneshot};
+use futures::task::Poll;
+use futures::test::MockTask;
+use resolver::p2p::{Config, Engine, Loop, Mailbox};
+use resolver_base::{Faithful, Fault, Seeded};
+use resolver_mailbox::mailbox::Unrecorded;
+use resolver_mailbox::mocks::Key;
+use resolver_runtime::{Ending, Handle};
+use resolver_types::{Outcome, Predicate};
+use std::alloc::{AllocGlobal, Global};
+use std::num::{NonZeroU32, NonZeroUsize};
+use std::random::RandomSource;
+use std::sync::{Arc, Wait};
+use std::thread::Threads;
+use tests_support::both::both;
+use tests_support::lent::{Dice, Given, Judge, Store, Wire, make_judge};
+use tests_support::names::Peer;
+use tests_support::polling::Polled;
+use tests_support::seen::{Seen, Told, Wrong};
+use tests_support::watch::{Standing, Watch};
+
+/// What differs between worlds.
+#[derive(Clone, Copy, Debug)]
+pub struct Setting {
+    /// How the engine is called.
+    pub me: u8,
+    pub wrong: Wrong,
+    /// What its draws follow from: all are 0 where there is none.
+    pub seed: Option<u64>,
+    /// How many requests one peer may have, if that is limited.
+    pub limit: Option<NonZeroU32>,
+    /// How many messages its mailbox has room for.
+    pub mailbox_size: NonZeroUsize,
+    /// Whether its requests, and whether its replies, are sent before other messages.
+    pub priorities: (bool, bool),
+}
+
+impl Setting {
+    /// An engine that is called 9, draws 0, asks a peer for any number of keys at once, has a mailbox with room for one
+    /// message, and sends nothing before other messages.
+    pub fn with(wrong: Wrong) -> Setting {
+        Setting {
+            me: 9,
+            wrong,
+            seed: None,
+            limit: None,
+            mailbox_size: NonZeroUsize::MIN,
+            priorities: (false, false),
+        }
+    }
+
+    /// Its draws.
+    pub fn dice(self, told: Told) -> Dice {
+        let seeded = match self.seed {
+            Some(seed) => Some(Seeded::new(seed)),
+            None => None,
+        };
+        Dice { told, seeded }
+    }
+}
+
+/// The engine of a world, with a timeout of 50 and a delay of 10.
+pub type Made<Q, R> = Engine<
+    Peer,
+    Given<(u64, Vec<Peer>)>,
+    Given<Vec<Peer>>,
+    Key,
+    u16,
+    Judge,
+    Store,
+    Q,
+    R,
+>;
+
+/// Its loop.
+pub type Looping<Q, R> = Loop<
+    Peer,
+    Given<(u64, Vec<Peer>)>,
+    Given<Vec<Peer>>,
+    Key,
+    u16,
+    Judge,
+    Store,
+    Q,
+    R,
+    Wire,
+    Given<(Peer, Bytes)>,
+    Standing,
+    Dice,
+>;
+
+/// A handle of its mailbox.
+pub type Asked<Q, R> = Mailbox<Key, Peer, u16, Q, Unrecorded, R>;
+
+/// The loop, as a test knows it, which polls it by hand.
+#[derive(Drop)]
+pub struct Looped<L> {
+    looped: L,
+}
+
+impl<Q, R> Polled for Looped<Looping<Q, R>>
+where
+    Q: Predicate<Key, u16> + Faithful + Drop,
+    R: Wait + Copy + Drop,
+{
+    fn poll_once(&mut self, task: &MockTask) -> Poll<Ending> {
+        task.poll(&mut self.looped)
+    }
+}
+
+/// A handle of the mailbox, and what a test holds besides.
+pub struct World<M> {
+    pub mailbox: M,
+    pub held: Held,
+}
+
+impl<M: Drop> Drop for World<M> {
+    fn drop(self) {
+        let Self {
+            mailbox: _,
+            held: _,
+        } = self;
+    }
+}
+
+/// What a test holds besides a handle.
+pub struct Held {
+    pub alloc: Global,
+    pub sets: mpsc::UnboundedSender<(u64, Vec<Peer>)>,
+    pub blocked: mpsc::UnboundedSender<Vec<Peer>>,
+    pub network: mpsc::UnboundedSender<(Peer, Bytes)>,
+    pub watch: Arc<Watch>,
+    pub verdicts: mpsc::UnboundedReceiver<oneshot::Sender<Outcome>>,
+    pub serves: mpsc::UnboundedReceiver<oneshot::Sender<Bytes>>,
+    pub told: mpsc::UnboundedReceiver<Seen>,
+}
+
+impl Drop for Held {
+    fn drop(self) {
+        let Self {
+            alloc: _,
+            sets: _,
+            blocked: _,
+            network: _,
+            watch: _,
+            verdicts: _,
+            serves: _,
+            told: _,
+        } = self;
+    }
+}
+
+/// What a world's engine is lent besides.
+#[derive(Drop)]
+pub struct Lent {
+    pub setting: Setting,
+    pub told: Told,
+    pub incoming: mpsc::UnboundedReceiver<(Peer, Bytes)>,
+    pub watch: Arc<Watch>,
+}
+
+/// What gives an engine its peers, and the ends by which a test gives it.
+#[derive(Drop)]
+struct Sources {
+    sets: mpsc::UnboundedSender<(u64, Vec<Peer>)>,
+    blocked: mpsc::UnboundedSender<Vec<Peer>>,
+    provider: Given<(u64, Vec<Peer>)>,
+    blocker: Given<Vec<Peer>>,
+}
+
+/// What an engine's effects go to, and the ends by which a test answers.
+#[derive(Drop)]
+struct Hands {
+    verdicts: mpsc::UnboundedReceiver<oneshot::Sender<Outcome>>,
+    serves: mpsc::UnboundedReceiver<oneshot::Sender<Bytes>>,
+    consumer: Judge,
+    producer: Store,
+}
+
+/// What a world's engine is made of.
+#[derive(Drop)]
+struct Parts {
+    provider: Given<(u64, Vec<Peer>)>,
+    blocker: Given<Vec<Peer>>,
+    consumer: Judge,
+    producer: Store,
+}
+
+/// A source of what its test gives.
+fn given<T: Drop>(
+    alloc: Global,
+    told: &Told,
+) -> Result<(mpsc::UnboundedSender<T>, Given<T>), Fault> {
+    match both(told.clone(), mpsc::unbounded(alloc)) {
+        Ok((told, (sender, given))) => Ok((sender, Given { told, given })),
+        Err(error) => Err(error.into()),
+    }
+}
+
+/// Sources of peers that give what a test says.
+fn make_sources(alloc: Global, told: &Told) -> Result<Sources, Fault> {
+    match both(given(alloc, told), given(alloc, told)) {
+        Ok(((sets, provider), (blocked, blocker))) => Ok(Sources {
+            sets,
+            blocked,
+            provider,
+            blocker,
+        }),
+        Err(fault) => Err(fault),
+    }
+}
+
+fn store(
+    alloc: Global,
+    told: &Told,
+    wrong: Wrong,
+) -> Result<(mpsc::UnboundedReceiver<oneshot::Sender<Bytes>>, Store), Fault> {
+    match both(told.clone(), mpsc::unbounded(alloc)) {
+        Ok((told, (serves, senders))) => {
+            let store = Store {
+                alloc,
+                told,
+                wrong,
+                serves,
+            };
+            Ok((senders, store))
+        }
+        Err(error) => Err(error.into()),
+    }
+}
+
+fn make_hands(alloc: Global, told: &Told, wrong: Wrong) -> Result<Hands, Fault> {
+    match both(make_judge(alloc, told, wrong), store(alloc, told, wrong)) {
+        Ok(((verdicts, consumer), (serves, producer))) => Ok(Hands {
+            verdicts,
+            serves,
+            consumer,
+            producer,
+        }),
+        Err(fault) => Err(fault),
+    }
+}
+
+/// What the engine is lent besides, and the ends that a test holds of that.
+fn make_lent(
+    alloc: Global,
+    told: Told,
+    setting: Setting,
+) -> Result<(mpsc::UnboundedSender<(Peer, Bytes)>, Arc<Watch>, Lent), Fault> {
+    match both(mpsc::unbounded(alloc), Watch::shared(alloc)) {
+        Ok(((network, incoming), (watch, other))) => {
+            let lent = Lent {
+                setting,
+                told,
+                incoming,
+                watch: other,
+            };
+            Ok((network, watch, lent))
+        }
+        Err(error) => {
+            drop(told);
+            Err(error.into())
+        }
+    }
+}
+
+/// What a world's engine is made of, what it is lent besides, and what the test holds.
+fn make_parts(alloc: Global, setting: Setting) -> Result<(Held, Lent, Parts), Fault> {
+    let (told, seen) = mpsc::unbounded(alloc)?;
+    match both(
+        make_sources(alloc, &told),
+        make_hands(alloc, &told, setting.wrong),
+    ) {
+        Ok((sources, hands)) => tie(alloc, setting, (told, seen), sources, hands),
+        Err(fault) => {
+            drop(told);
+            drop(seen);
+            Err(fault)
+        }
+    }
+}
+
+/// The same, of these sources and these hands.
+fn tie(
+    alloc: Global,
+    setting: Setting,
+    channel: (Told, mpsc::UnboundedReceiver<Seen>),
+    sources: Sources,
+    hands: Hands,
+) -> Result<(Held, Lent, Parts), Fault> {
+    let (told, seen) = channel;
+    match make_lent(alloc, told, setting) {
+        Ok((network, watch, lent)) => {
+            let held = Held {
+                alloc,
+                sets: sources.sets,
+                blocked: sources.blocked,
+                network,
+                watch,
+                verdicts: hands.verdicts,
+                serves: hands.serves,
+                told: seen,
+            };
+            let parts = Parts {
+                provider: sources.provider,
+                blocker: sources.blocker,
+                consumer: hands.consumer,
+                producer: hands.producer,
+            };
+            Ok((held, lent, parts))
+        }
+        Err(fault) => {
+            drop(seen);
+            drop(sources);
+            drop(hands);
+            Err(fault)
+        }
+    }
+}
+
+/// A world with its engine, which has a timeout of 50 and a delay of 10.
+pub fn make_world<Q: Predicate<Key, u16> + Faithful + Drop, R: Copy>(
+    rt: R,
+    alloc: Global,
+    setting: Setting,
+) -> Result<(World<Asked<Q, R>>, Made<Q, R>, Lent), Fault> {
+    match make_parts(alloc, setting) {
+        Ok((held, lent, parts)) => {
+            let cfg = Config {
+                peer_provider: parts.provider,
+                blocker: parts.blocker,
+                consumer: parts.consumer,
+                producer: parts.producer,
+                mailbox_size: setting.mailbox_size,
+                me: Some(Peer(setting.me)),
+                fetch_timeout: 50,
+                fetch_retry_delay: 10,
+                peer_limit: setting.limit,
+                priority_requests: setting.priorities.0,
+                priority_responses: setting.priorities.1,
+            };
+            match Engine::new(rt, alloc, cfg) {
+                Ok((engine, mailbox)) => Ok((World { mailbox, held }, engine, lent)),
+                Err(fault) => {
+                    drop(held);
+                    drop(lent);
+                    Err(fault)
+                }
+            }
+        }
+        Err(fault) => Err(fault),
+    }
+}
+
+/// The network, the clock and the draws that an engine is lent.
+fn parts_of(lent: Lent) -> Result<((Wire, Given<(Peer, Bytes)>), Standing, Dice), Fault> {
+    let Lent {
+        setting,
+        told,
+        incoming,
+        watch,
+    } = lent;
+    match both(told.clone(), told.clone()) {
+        Ok((one, other)) => {
+            let sender = Wire::new(one, setting.wrong);
+            let receiver = Given {
+                told: other,
+                given: incoming,
+            };
+            Ok(((sender, receiver), Standing { watch }, setting.dice(told)))
+        }
+        Err(error) => {
+            drop(told);
+            drop(incoming);
+            drop(watch);
+            Err(error.into())
+        }
+    }
+}
+
+/// A world, and the loop of its engine.
+pub fn make_loop<Q: Predicate<Key, u16> + Faithful + Drop, R: Copy>(
+    rt: R,
+    alloc: Global,
+    setting: Setting,
+) -> Result<(World<Asked<Q, R>>, Looped<Looping<Q, R>>), Fault> {
+    match make_world(rt, alloc, setting) {
+        Ok((world, engine, lent)) => {
+            let looped = match parts_of(lent) {
+                Ok((network, clock, draws)) => engine.into_loop(network, clock, draws),
+                Err(fault) => {
+                    drop(engine);
+                    Err(fault)
+                }
+            };
+            match looped {
+                Ok(looped) => Ok((world, Looped { looped })),
+                Err(fault) => {
+                    drop(world);
+                    Err(fault)
+                }
+            }
+        }
+        Err(fault) => Err(fault),
+    }
+}
+
+/// A world's engine in a thread.
+pub fn start<Q, R>(engine: Made<Q, R>, lent: Lent) -> Result<Handle, Fault>
+where
+    Q: Predicate<Key, u16> + Faithful + Drop + Send + 'static,
+    R: Threads + Wait + RandomSource + AllocGlobal + Copy + Drop + Send + 'static,
+{
+    match parts_of(lent) {
+        Ok((network, clock, draws)) => engine.start(network, clock, draws),
+        Err(fault) => {
+            drop(engine);
+            Err(fault)
+        }
+    }
+}
+
+/// Peers by their numbers.
+pub fn peers(alloc: Global, numbers: &[u8]) -> Result<Vec<Peer>, Fault> {
+    let mut peers = Vec::new(alloc);
+    for number in numbers {
+        peers.push(Peer(*number))?;
+    }
+    Ok(peers)
+}
