@@ -10,7 +10,7 @@ use Rattle.resolver_types.specs.Demand.{all_pairs_of, IsSameDemand}
 use Rattle.resolver_model_opaque.specs.declared.effects.Effect.{Effect}
 use Rattle.resolver_model_opaque.specs.declared.effects.Effect.TheVariants.{Deliver}
 use Rattle.resolver_model.specs.Account.{Change, Adds, Keeps, Judges, Empties, Leaves, Handed, pairs, nothing_asked, account_of}
-use Rattle.resolver_model_opaque.specs.Opaque.{Machine, Row, Event, Fetch, Retain, Verdict, End, Running, Failed, opening, row_of, closed, step}
+use Rattle.resolver_model_opaque.specs.Opaque.{Machine, Row, Event, Fetch, Retain, Fetched, Verdict, RetriesDue, End, Running, Failed, opening, row_of, closed, step}
 use Rattle.resolver_model_opaque.specs.OpaquePhases.{Phase, Judged}
 use Rattle.resolver_model_opaque.specs.declared.inputs.Input.{Input as CodeInput}
 use Rattle.resolver_model_opaque.specs.OpaqueSteps.{Input, Runs}
@@ -24,7 +24,8 @@ module _ {K V S : Type 0} where
   change_of (Retain keep) = Keeps keep
   change_of (Verdict number outcome) = Judges number outcome
   change_of End = Empties
-  change_of event = Leaves
+  change_of (Fetched attempt value) = Leaves
+  change_of RetriesDue = Leaves
 
   -- what some effects hand out
   abbrev pub handed_out : List (Effect K V S) → List (ℕ × Handed K S)

@@ -11,7 +11,7 @@ use Rattle.std.specs.Prelude.{Bool, false, is_none, length, ◌==◌}
 use Rattle.std.specs.Map.{lookup}
 use Rattle.std.specs.BTreeMap.{is_at}
 use Rattle.std.specs.Ordering.{nat_cmp}
-use Rattle.resolver_model_opaque.specs.Opaque.{Verdict, RetriesDue, waiting_by_due, Machine, Event, Done, Running, Failed, step}
+use Rattle.resolver_model_opaque.specs.Opaque.{Fetch, Retain, Fetched, Verdict, RetriesDue, End, waiting_by_due, Machine, Event, Done, Running, Failed, step}
 
 -- an event, and its moment
 pub record Input (K V S : Type 0) : Type 0 where
@@ -41,7 +41,10 @@ module _ {K V S : Type 0} where
   abbrev pub takes_no_memory : Machine K V S → (now : ℕ) → Event K V S → Bool
   takes_no_memory m now (Verdict number outcome) = is_none (lookup (is_at (nat_cmp number)) m.deliveries)
   takes_no_memory m now RetriesDue = length (waiting_by_due now m.rows) == 0
-  takes_no_memory m now event = false
+  takes_no_memory m now (Fetch items) = false
+  takes_no_memory m now (Retain keep) = false
+  takes_no_memory m now (Fetched attempt value) = false
+  takes_no_memory m now End = false
 
   abbrev pub MayWant : Machine K V S → Input K V S → Type 0
   MayWant m input = (m.status ≡ Running) × (takes_no_memory m input.now input.event ≡ false)

@@ -6,7 +6,7 @@ use Rattle.std.specs.Ordering.{nat_cmp}
 use Rattle.resolver_base.specs.declared.fault.Fault.{Fault}
 use Rattle.resolver_base.specs.declared.fault.Fault.TheVariants as faults
 use Rattle.resolver_types.specs.declared.outcome.Outcome.{Outcome}
-use Rattle.resolver_types.specs.declared.outcome.Outcome.TheVariants.{Invalid, Resolved}
+use Rattle.resolver_types.specs.declared.outcome.Outcome.TheVariants.{Invalid, Resolved, Unresolved, Ignored}
 use Rattle.resolver_types.specs.Subscribers.{attached_all, without}
 use Rattle.resolver_sampling.specs.declared.score.Averages.{Averages}
 use Rattle.resolver_wire.specs.declared.wire.Message.{Message}
@@ -310,7 +310,10 @@ module _ {K S P : Type 0} (a : Parties K S P) where
   abbrev pub account_for : Machine K S P → Open K S P → (accepted : Bool) → Option Outcome → Done K S P
   account_for m h false (Some (Resolved resolution)) = record { machine = observe m h.source; effects = Credit h.handed.response h.source ∷ [] }
   account_for m h false (Some Invalid) = record { machine = m; effects = Block h.handed.response h.source.peer ∷ [] }
-  account_for m h accepted outcome = quiet m
+  account_for m h false (Some Unresolved) = quiet m
+  account_for m h false (Some Ignored) = quiet m
+  account_for m h false None = quiet m
+  account_for m h true outcome = quiet m
 
   -- The named subscribers are served. The rest get the same response again, under a new number.
   abbrev pub serves_rest : Machine K S P → Open K S P → (value : List ℕ) → (accepted : Bool) → List (S × ℕ) → Option (Done K S P)

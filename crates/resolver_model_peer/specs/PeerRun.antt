@@ -5,7 +5,7 @@ use Rattle.resolver_types.specs.Demand.{Pair}
 use Rattle.resolver_model.specs.Account.{Handed, Change, Adds, Keeps, Judges, Empties, Leaves, pairs, account_of, nothing_asked}
 use Rattle.resolver_model_peer.specs.Parties.{Parties, names_of}
 use Rattle.resolver_model_peer.specs.PeerRows.{Row}
-use Rattle.resolver_model_peer.specs.Peer.{Machine, Fetch, Retain, Verdict, End, Input, Happens, Effect, Deliver, step}
+use Rattle.resolver_model_peer.specs.Peer.{Machine, Fetch, Retain, PeerSet, Blocked, ActiveDue, PendingDue, Verdict, Served, Net, End, Input, Happens, Answers, Effect, Deliver, step}
 
 -- an input, and its moment
 pub record Fed (K S P : Type 0) : Type 0 where
@@ -28,7 +28,13 @@ module _ {K S P : Type 0} where
   change_of (Happens (Retain keep)) = Keeps keep
   change_of (Happens (Verdict number outcome)) = Judges number outcome
   change_of (Happens End) = Empties
-  change_of input = Leaves
+  change_of (Happens (PeerSet index peers)) = Leaves
+  change_of (Happens (Blocked peers)) = Leaves
+  change_of (Happens ActiveDue) = Leaves
+  change_of (Happens PendingDue) = Leaves
+  change_of (Happens (Served serve bytes)) = Leaves
+  change_of (Happens (Net peer message)) = Leaves
+  change_of (Answers answer) = Leaves
 
   abbrev pub delivery_in : Effect K S P → Option (ℕ × Handed K S)
   delivery_in (Deliver number handed value) = Some (number, handed)

@@ -10,7 +10,7 @@ use Rattle.resolver_fetch_scan.specs.Scan as scans
 use Rattle.resolver_fetch_scan.specs.Scan.{is_over}
 use Rattle.resolver_model.specs.Steps as steps
 use Rattle.resolver_model_peer.specs.Parties.{Parties, orders_of}
-use Rattle.resolver_model_peer.specs.Peer.{Machine, Event, PeerSet, ActiveDue, PendingDue, Verdict, Served, Net, Input, Happens, Answers, Effect, Running, Failed, answered, is_newer, snapshot, wake_up, is_due, step}
+use Rattle.resolver_model_peer.specs.Peer.{Machine, Event, Fetch, Retain, PeerSet, Blocked, ActiveDue, PendingDue, Verdict, Served, Net, End, Input, Happens, Answers, Effect, Running, Failed, answered, is_newer, snapshot, wake_up, is_due, step}
 use Rattle.resolver_model_peer.specs.PeerRun.{Fed}
 
 abbrev is_refusal : {X : Type 0} → Result X Fault → Bool
@@ -35,7 +35,10 @@ module _ {K S P : Type 0} (a : Parties K S P) where
   is_passed_over m now ActiveDue = is_none (overdue (snapshot a m).asked now)
   is_passed_over m now (Verdict number outcome) = is_none (lookup (λ n. number == n) m.deliveries)
   is_passed_over m now (Served serve bytes) = is_none (lookup (λ n. serve == n) m.serves)
-  is_passed_over m now event = false
+  is_passed_over m now (Fetch items) = false
+  is_passed_over m now (Retain keep) = false
+  is_passed_over m now (Blocked peers) = false
+  is_passed_over m now End = false
 
   -- an event while a scan goes on, and an answer that it does not expect or that is out of range
   abbrev pub is_refused : Machine K S P → Input K S P → Bool

@@ -1,11 +1,11 @@
 -- A delivery that is closed, and what a ruling on it makes of the parts.
-use Rattle.std.specs.Prelude.{◌≡◌, ◌<◌, ℕ, Bool, false, List, [], ◌∷◌, ◌++◌, map, Option, None, Some}
+use Rattle.std.specs.Prelude.{◌≡◌, ◌<◌, ℕ, Bool, true, false, List, [], ◌∷◌, ◌++◌, map, Option, None, Some}
 use Rattle.std.specs.List.{AllByRecursion, IsDistinct, filter_map}
 use Rattle.std.specs.List.Sorted.{IsStrictlySortedBy}
 use Rattle.std.specs.Map.{keys_of}
 use Rattle.resolver_types.specs.declared.delivery.Delivery.{Delivery}
 use Rattle.resolver_types.specs.declared.outcome.Outcome.{Outcome}
-use Rattle.resolver_types.specs.declared.outcome.Outcome.TheVariants.{Invalid, Resolved}
+use Rattle.resolver_types.specs.declared.outcome.Outcome.TheVariants.{Invalid, Resolved, Unresolved, Ignored}
 use Rattle.resolver_delivery.specs.Entries.{accepted}
 use Rattle.resolver_fetch_scan.specs.Fetcher.{Fetcher, record_response}
 use Rattle.resolver_fetch_scan.specs.Orders.{Orders}
@@ -23,13 +23,20 @@ module _ {K S P : Type 0} where
   abbrev pub earned : (response : ℕ) → Source P → (accepted : Bool) → Option Outcome → List (Told K P S)
   earned response source false (Some (Resolved resolution)) = told.Credit response source ∷ []
   earned response source false (Some Invalid) = told.Block response source.peer ∷ []
-  earned response source accepted outcome = []
+  earned response source false (Some Unresolved) = []
+  earned response source false (Some Ignored) = []
+  earned response source false None = []
+  earned response source true outcome = []
 
 module _ {K P : Type 0} (o : Orders K P) where
   -- a useful response is an observation of its peer
   abbrev pub paid : Source P → (accepted : Bool) → Option Outcome → Fetcher K P → Fetcher K P
   paid source false (Some (Resolved resolution)) f = record_response o source.peer source.elapsed source.bytes f
-  paid source accepted outcome f = f
+  paid source false (Some Invalid) f = f
+  paid source false (Some Unresolved) f = f
+  paid source false (Some Ignored) f = f
+  paid source false None f = f
+  paid source true outcome f = f
 
 -- This delivery is closed, and its key waits for the ruling: its entry has the response, and no number.
 pub record IsClosed {K S P : Type 0} (a : Parties K S P) (e : Parts K P S) (m : Machine K S P) (h : Open K S P) : Type 0 where

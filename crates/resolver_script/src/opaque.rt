@@ -75,7 +75,11 @@ fn event_of(alloc: Global, said: Said) -> Result<Option<Told>, Fault> {
         Said::Wake => Event::RetriesDue,
         Said::Stop => Event::End,
         Said::Fetched { attempt, value } => Event::Fetched { attempt, value },
-        _of_peers => return Ok(None),
+        Said::Timeout
+        | Said::Peers { .. }
+        | Said::Blocked(_)
+        | Said::Net { .. }
+        | Said::Served { .. } => return Ok(None),
     }))
 }
 
