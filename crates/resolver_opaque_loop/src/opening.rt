@@ -74,11 +74,15 @@ where
     }
 }
 
-/// An actor over a source, as a handle and the thread in which its loop runs until the mailbox is
-/// closed. A key that the source has no value for is asked for again after `fetch_retry_delay`
-/// nanoseconds.
+/// An actor over a source, as a handle and the thread in which its loop runs until `close` is called on a
+/// handle. Dropping handles ends nothing.
 ///
-/// Where memory is wanting or no thread can be made, all that was lent is dropped.
+/// `rt` gives threads, waits, memory and random numbers, and is copied into the thread. `mailbox_size` is how many
+/// messages the mailbox has ready before it merges what comes. A key that the source has no value for, or
+/// whose value is judged partial, unresolved or wrong, is asked for again after `fetch_retry_delay` nanoseconds.
+///
+/// `OutOfMemory`, the only error, is answered where memory is refused or no thread can be made: then all that
+/// was lent is dropped.
 pub fn init<K, V, S, P, Q, R, W, F, C>(
     rt: R,
     alloc: Global,

@@ -112,7 +112,11 @@ impl<
     Q: Predicate<K, S> + Faithful + Drop,
     R: Copy,
 > Engine<P, D, B, K, S, C, O, Q, R> {
-    /// An engine without demand, that knows no peer, and a handle of its mailbox.
+    /// An engine without demand, that knows no peer, and a handle of its mailbox. Nothing runs yet: `start`
+    /// runs it in a thread, `into_loop` answers its loop, and `step` feeds it by hand.
+    ///
+    /// `rt` is what handles wait with and threads are made of; it is copied. The timeout is from 1 on, and together with
+    /// the delay below 2^94 nanoseconds. `OutOfMemory`, the only error, drops all that was lent.
     pub fn new(
         rt: R,
         alloc: Global,

@@ -27,10 +27,12 @@ impl<
     Q: Predicate<K, S> + Faithful + Drop + Send + 'static,
     R: Threads + Wait + RandomSource + AllocGlobal + Copy + Drop + Send + 'static,
 > Engine<P, D, B, K, S, C, O, Q, R> {
-    /// Runs the engine over this network, clock and source of draws, in a thread of its own: until
-    /// the mailbox, the source of sets or the network is closed, or memory or numbers are wanting.
+    /// Runs the engine over this network (the way to the peers, and what comes from them), clock and source
+    /// of draws, in a thread of its own: until `close` is called on a handle of its mailbox, the source of peer sets or the
+    /// network is closed, or memory or numbers are refused. `Handle::join` waits for that and says which it was.
     ///
-    /// Where memory is wanting or no thread can be made, all is dropped, and the mailbox stays open.
+    /// `OutOfMemory`, the only error, is answered where memory is refused or no thread can be made. Then all
+    /// is dropped, and the mailbox stays open: what is put into it is never taken.
     pub fn start<X, Y, W, G>(self, network: (X, Y), clock: W, draws: G) -> Result<Handle, Fault>
     where
         X: Sender<PublicKey = P> + Drop + Send + 'static,

@@ -14,7 +14,7 @@ use std::sync::Wait;
 use std::thread::{JoinHandle, Threads};
 use std::{io, thread};
 
-/// A loop's thread.
+/// A loop's thread. Who drops it leaves the thread to itself: the loop runs on.
 pub struct Handle {
     thread: JoinHandle<Ending>,
 }
@@ -26,8 +26,10 @@ impl Drop for Handle {
 }
 
 impl Handle {
-    /// Waits for the end of the loop, and says how it ended: well, or since memory or numbers were
-    /// wanting.
+    /// Waits for the end of the loop, and says how it ended: Ok where its mailbox, or a source that it can't
+    /// do without, was closed; `OutOfMemory` where memory was refused to it or to what it was lent; `Exhausted`
+    /// where 2^64 numbers of one kind were used up. Nothing else ends it: dropping handles of its
+    /// mailbox doesn't, so call `close` on one first.
     pub fn join<R: Threads>(self, rt: &R) -> Result<(), Fault>
         ensures only { IfErr result (λ fault. (fault ≡ OutOfMemory) ⊎ (fault ≡ Exhausted)) }
     {

@@ -38,7 +38,10 @@ pub trait Resolver: Clone + Send + 'static {
     /// One call that lets all go whom this predicate doesn't keep, likewise.
     ghost retains: { Self → Self.Predicate → Result Feedback Fault → Self → Type 0 };
 
-    /// Asks for a key on behalf of a subscriber. The fetch persists until it is retired.
+    /// Asks for a key on behalf of a subscriber, of any peer. The fetch persists until it is retired: by a
+    /// delivery that names the subscriber and is judged `Complete` or dropped, by a verdict that retires the key, or by a
+    /// `retain` that doesn't keep it. To ask again before that changes nothing, the mark neither. A key with
+    /// targets loses them.
     fn fetch(&mut self, fetch: Fetch<Self::Key, Self::Subscriber>) -> Result<Feedback, Fault>
         ensures asked { asks self.old (fetch ∷ []) result self.new }
         ensures only { IfErr result (λ fault. fault ≢ OutOfMemory → fault ≡ Exhausted) };
@@ -51,7 +54,8 @@ pub trait Resolver: Clone + Send + 'static {
         ensures asked { asks self.old fetches.items result self.new }
         ensures only { IfErr result (λ fault. fault ≢ OutOfMemory → fault ≡ Exhausted) };
 
-    /// Lets all subscribers go that aren't kept, and the keys that nobody wants then.
+    /// Lets all subscribers go that aren't kept, and the keys that nobody wants then: their requests and
+    /// deliveries are called off. It asks the predicate about each subscriber of each key.
     fn retain(&mut self, keep: Self::Predicate) -> Result<Feedback, Fault>
         ensures retained { retains self.old keep result self.new }
         ensures only { IfErr result (λ fault. fault ≢ OutOfMemory → fault ≡ Exhausted) };
@@ -66,7 +70,10 @@ pub trait TargetedResolver: Resolver {
     ghost asks_of: { Self → List (Fetch Self.Key Self.Subscriber × List Self.PublicKey)
         → Result Feedback Fault → Self → Type 0 };
 
-    /// Asks for a key, of these peers alone.
+    /// Asks for a key, of these peers alone. Nobody else is asked for it, whatever comes of these: one that
+    /// isn't in the set of peers, or is blocked, is asked once it is there, and a target that never is is never
+    /// asked. Targets of several calls add up; a call without targets clears them, for good while the key is
+    /// wanted, and a key that is asked of any peer stays so.
     fn fetch_targeted(
         &mut self,
         fetch: Fetch<Self::Key, Self::Subscriber>,
