@@ -1,8 +1,9 @@
-//! `examples`: six first programs over the library, each a module. They run one after another, and a line
+//! `examples`: seven first programs over the library, each a module. They run one after another, and a line
 //! with its name stands before what each prints. In a program of its own a module's `run` would be `main`,
 //! which takes the `HostRuntime`.
 #![tactic(auto)]
 
+mod by_hand;
 mod fetcher;
 mod mailbox;
 mod opaque;
@@ -24,5 +25,7 @@ fn main(rt: HostRuntime) -> Result<()> {
     println!(rt; "peers:")?;
     peers::run(rt)?;
     println!(rt; "synchroniser:")?;
-    synchroniser::run(rt)
+    synchroniser::run(rt)?;
+    println!(rt; "by hand:")?;
+    by_hand::run(&rt)
 }
