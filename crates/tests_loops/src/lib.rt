@@ -10,6 +10,8 @@ mod ample;
 #[cfg(test)]
 mod asserting;
 #[cfg(test)]
+mod chaos;
+#[cfg(test)]
 mod closing;
 #[cfg(test)]
 mod every;

@@ -13,6 +13,7 @@ use std::random::RandomSource;
 use std::sync::Wait;
 use tests_support::names::Below;
 use tests_support::polling::{Polled, settle};
+use tests_support::seen::spell_said;
 
 /// A loop that is given what its twin is given.
 pub trait Side {
@@ -60,7 +61,7 @@ impl<M: Drop, L: Drop> Drop for Looping<M, L> {
 impl<M: Asks, L: Polled> Side for Looping<M, L> {
     fn take(&mut self, rt: &impl Abort, text: &mut String, acts: &[Act<'_>]) {
         for act in acts {
-            self.world.act(*act).expect(rt, "memory");
+            act_in(rt, text, &mut self.world, *act);
         }
         let is_woken = self.task.is_woken();
         let polled = settle(&self.task, &mut *self.looped);
@@ -69,6 +70,16 @@ impl<M: Asks, L: Polled> Side for Looping<M, L> {
         }
         let told = &mut self.world.held.told;
         spell_turn(rt, text, told, polled.is_pending(), self.awaited);
+    }
+}
+
+/// Does this in a world. Writes what it is answered where it asks.
+fn act_in<M: Asks>(rt: &impl Abort, text: &mut String, world: &mut World<M>, act: Act<'_>) {
+    if matches!(&act, Act::IsWanted) {
+        let is_wanted = world.held.is_wanted();
+        spell_said(text, "wanted", is_wanted).expect(rt, "memory");
+    } else {
+        world.act(act).expect(rt, "memory");
     }
 }
 

@@ -51,15 +51,21 @@ fn write_said(
     writeln!(lines, "{word} {number} {said}").expect(rt, "memory");
 }
 
-/// A line says one fetch of any peer. Where a message has other fetches, the line is a comment.
+/// A line says one fetch. Where a message has several, the line is a comment.
 fn write_fetch(rt: &impl Abort, lines: &mut String, items: &[FetchKey<Key, Peer, u16>]) {
     match items {
-        [item] if item.metadata.is_none() => {
+        [item] => {
             let (subscriber, mark) = item.subscribers.first();
-            let written = writeln!(lines, "fetch {} {subscriber} {mark}", item.key.0);
+            let written = write!(lines, "fetch {} {subscriber} {mark}", item.key.0);
             written.expect(rt, "memory");
+            match &item.metadata {
+                Some(targets) => {
+                    put(rt, lines, " ");
+                    write_peers(rt, lines, targets.as_slice());
+                }
+                None => put(rt, lines, "\n"),
+            }
         }
-        [_] => put(rt, lines, "# a fetch of some peers\n"),
         _ => put(rt, lines, "# fetches by one message\n"),
     }
 }
@@ -74,7 +80,16 @@ fn write_peers(rt: &impl Abort, lines: &mut String, peers: &[Peer]) {
     put(rt, lines, if peers.is_empty() { "-\n" } else { "\n" });
 }
 
-/// A core takes this event.
+/// A retain of the subscribers below this one, of which there are 10 and 11, and of keys below 255.
+fn line_of_retain(below: u16) -> &'static str {
+    match below {
+        ..=10 => "keep-sub 0\n",
+        11 => "keep-sub 10\n",
+        _ => "drop-key 255\n",
+    }
+}
+
+/// A core takes this event. Its retains are written for subscribers 10 and 11.
 pub fn write_event(rt: &impl Abort, lines: &mut String, event: &Happened) {
     match event {
         Event::Fetch(items) => write_fetch(rt, lines, items.as_slice()),
@@ -98,9 +113,7 @@ pub fn write_event(rt: &impl Abort, lines: &mut String, event: &Happened) {
         Event::Net { peer, bytes } => {
             write_said(rt, lines, "net", u64::from(peer.0), Hex(bytes.as_slice()));
         }
-        Event::Retain(below) => {
-            writeln!(lines, "# subscribers below {} are kept", below.0).expect(rt, "memory");
-        }
+        Event::Retain(below) => put(rt, lines, line_of_retain(below.0)),
         Event::End => put(rt, lines, "stop\n"),
     }
 }

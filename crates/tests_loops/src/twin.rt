@@ -1,9 +1,10 @@
 //! A second core, which is given by hand what the loop takes from its sources: it asks fakes of its own.
 
+use crate::chaos::model::Model;
 use crate::fakes::acts::Act;
 use crate::fakes::world::{Setting, peers};
 use crate::scan::{Scan, Shown, Stage, shown_of};
-use crate::script::{write_answer, write_event, write_number};
+use crate::script::{write_answer, write_number};
 use bytes::Bytes;
 use futures::channel::mpsc;
 use resolver::base::{Check, Draws, NonEmptyVec, Sender};
@@ -24,7 +25,7 @@ use std::process::Abort;
 use tests_support::lent::{Dice, Wire};
 use tests_support::names;
 use tests_support::names::{Below, Peer};
-use tests_support::seen::{Seen, Told, spell, tell};
+use tests_support::seen::{Seen, Told, spell, spell_said, tell};
 
 pub type Happened = Event<Key, Peer, u16, Below>;
 
@@ -35,6 +36,9 @@ const ASKS: u64 = 10_000;
 
 /// More events than are due at once.
 const DUE: u64 = 10_000;
+
+/// More deliveries than are canceled at once.
+const DELIVERIES: u64 = 10_000;
 
 /// What the twin counts.
 #[derive(Clone, Copy)]
@@ -78,10 +82,15 @@ impl Drop for Fakes {
 pub struct Hands {
     pub alloc: Global,
     pub setting: Setting,
+    pub now: u64,
     pub fakes: Fakes,
     scan: Scan,
     /// Those that have no verdict.
     pub deliveries: VecDeque<u64>,
+    /// Those of them that are no longer wanted.
+    canceled: Vec<u64>,
+    /// Those of them whose verdict the core has to get.
+    closing: VecDeque<u64>,
     /// Those that the producer hasn't answered, with their keys.
     pub serves: VecDeque<(u64, Key)>,
     /// What was sent and accepted.
@@ -91,6 +100,8 @@ pub struct Hands {
     pub counts: Counts,
     /// What the core took, as a script for `resolver-replay`.
     pub script: String,
+    /// What judges the core, where it is to be judged by a model.
+    pub model: Option<Model>,
 }
 
 impl Drop for Hands {
@@ -98,14 +109,18 @@ impl Drop for Hands {
         let Self {
             alloc: _,
             setting: _,
+            now: _,
             fakes: _,
             scan: _,
             deliveries: _,
+            canceled: _,
+            closing: _,
             serves: _,
             sent: _,
             delivered: _,
             counts: _,
             script: _,
+            model: _,
         } = self;
     }
 }
@@ -114,7 +129,6 @@ impl Drop for Hands {
 pub struct Twin<C> {
     core: C,
     pub hands: Hands,
-    now: u64,
     /// How many peers each key may be asked of, where scans are to be judged.
     eligible: Option<usize>,
 }
@@ -124,7 +138,6 @@ impl<C: Drop> Drop for Twin<C> {
         let Self {
             core: _,
             hands: _,
-            now: _,
             eligible: _,
         } = self;
     }
@@ -385,14 +398,18 @@ impl Hands {
         Hands {
             alloc,
             setting,
+            now: 0,
             fakes,
             scan: Scan::new(alloc, 0, 0, Vec::new(alloc)),
             deliveries: VecDeque::new(alloc),
+            canceled: Vec::new(alloc),
+            closing: VecDeque::new(alloc),
             serves: VecDeque::new(alloc),
             sent: VecDeque::new(alloc),
             delivered: Vec::new(alloc),
             counts: NONE,
             script,
+            model: None,
         }
     }
 
@@ -428,6 +445,9 @@ impl Hands {
         self.counts.checks = self.counts.checks.saturating_add(1);
         let check = self.fakes.wire.check(&peer);
         self.scan.note_check(rt, peer, check);
+        if let Some(model) = &mut self.model {
+            model.note_check(peer.0, check).expect(rt, "memory");
+        }
         check
     }
 
@@ -439,10 +459,17 @@ impl Hands {
         if is_accepted {
             self.scan.note_sent(key.0, id, peer.0);
         }
+        if let Some(model) = &mut self.model {
+            let noted = model.note_request((key.0, peer.0, id), is_accepted);
+            noted.expect(rt, "memory");
+        }
         is_accepted
     }
 
     fn answer(&mut self, rt: &impl Abort, ask: Ask<Key, Peer>) -> Answer {
+        if let Some(model) = &mut self.model {
+            model.note_ask();
+        }
         match ask {
             Ask::Draw(bound) => Answer::Drawn(draw(&mut self.fakes.dice, bound)),
             Ask::Check(peer) => Answer::Checked(self.check(rt, peer)),
@@ -467,6 +494,29 @@ impl Hands {
         tell(&self.fakes.told, Seen::Delivered(delivery, value));
     }
 
+    /// A delivery is no longer wanted, so that the core gets no verdict on it but that there is none.
+    fn cancel(&mut self, rt: &impl Abort, number: u64) {
+        self.canceled.push(number).expect(rt, "memory");
+        self.closing.push_back(number).expect(rt, "memory");
+    }
+
+    /// Whether the consumer's word on the first delivery that has no verdict counts.
+    fn is_wanted(&self) -> bool {
+        match self.deliveries.front() {
+            Some(number) => !self.canceled.as_slice().contains(number),
+            None => false,
+        }
+    }
+
+    /// The first delivery that has no verdict, if that is wanted.
+    fn next_delivery(&mut self) -> Option<u64> {
+        let is_wanted = self.is_wanted();
+        match self.deliveries.pop_front() {
+            Some(number) if is_wanted => Some(number),
+            _ => None,
+        }
+    }
+
     fn produce(&mut self, rt: &impl Abort, serve: u64, key: Key) {
         self.serves.push_back((serve, key)).expect(rt, "memory");
         tell(&self.fakes.told, Seen::Produced(key));
@@ -474,6 +524,9 @@ impl Hands {
 
     /// Carries an effect out, and gives the answer to what it asks.
     fn carry_out(&mut self, rt: &impl Abort, effect: Done) -> Option<Answer> {
+        if let Some(model) = &mut self.model {
+            model.note_effect(&effect).expect(rt, "memory");
+        }
         match effect {
             Effect::Ask(ask) => return Some(self.answer(rt, ask)),
             Effect::Deliver {
@@ -485,7 +538,7 @@ impl Hands {
                 self.note_responses(number, response);
                 self.deliver(rt, number, delivery, value);
             }
-            Effect::Cancel { .. } => {}
+            Effect::Cancel { number } => self.cancel(rt, number),
             Effect::Produce { serve, key } => self.produce(rt, serve, key),
             Effect::Reply {
                 peer,
@@ -531,7 +584,6 @@ impl<C: Steps> Twin<C> {
         Twin {
             core,
             hands: Hands::new(rt, alloc, setting),
-            now: 0,
             eligible,
         }
     }
@@ -569,7 +621,7 @@ impl<C: Steps> Twin<C> {
     fn begin_scan(&mut self, rt: &impl Abort) {
         if let Some(eligible) = self.eligible {
             let rows = self.rows(rt);
-            let scan = Scan::new(self.hands.alloc, self.now, eligible, rows);
+            let scan = Scan::new(self.hands.alloc, self.hands.now, eligible, rows);
             drop(mem::replace(&mut self.hands.scan, scan));
         }
     }
@@ -598,30 +650,47 @@ impl<C: Steps> Twin<C> {
         }
     }
 
-    /// Takes an event, and answers what its scan asks.
+    /// Takes an event, and answers what its scan asks. What isn't wanted any more gets its verdict then.
     fn take(&mut self, rt: &(impl Abort + Print), event: Happened) {
-        write_event(rt, &mut self.hands.script, &event);
-        let effects = self.core.take(rt, happens(self.now, event));
+        self.take_alone(rt, event);
+        for _ in 0..DELIVERIES {
+            let Some(number) = self.hands.closing.pop_front() else {
+                return;
+            };
+            let outcome = None;
+            self.take_alone(rt, Event::Verdict { number, outcome });
+        }
+    }
+
+    /// Takes an event, and answers what its scan asks.
+    fn take_alone(&mut self, rt: &(impl Abort + Print), event: Happened) {
+        self.hands.note_event(rt, &event);
+        let effects = self.core.take(rt, happens(self.hands.now, event));
         self.begin_scan(rt);
         let answer = self.hands.carry_out_all(rt, effects);
         self.answer_all(rt, answer);
         self.judge_scan(rt);
         self.judge_limit(rt);
+        self.judge_event(rt);
     }
 
-    /// The consumer says this of the first delivery that has no verdict, if there is one.
-    fn judge(&mut self, rt: &(impl Abort + Print), outcome: Outcome) {
-        if let Some(number) = self.hands.deliveries.pop_front() {
-            let outcome = Some(outcome);
+    /// The consumer says this of the first delivery that has no verdict, if there is one, or drops it.
+    fn judge(&mut self, rt: &(impl Abort + Print), outcome: Option<Outcome>) {
+        if let Some(number) = self.hands.next_delivery() {
             self.take(rt, Event::Verdict { number, outcome });
         }
     }
 
-    /// The producer has these bytes for the first request that it hasn't answered, if there is one.
-    fn serve(&mut self, rt: &(impl Abort + Print), bytes: &[u8]) {
+    /// The producer has these bytes for the first request that it hasn't answered, if there is one, or drops it.
+    fn serve(&mut self, rt: &(impl Abort + Print), bytes: Option<&[u8]>) {
         if let Some((serve, _)) = self.hands.serves.pop_front() {
-            let value = Bytes::copy_from_slice(self.hands.alloc, bytes).expect(rt, "memory");
-            let value = Some(value);
+            let value = match bytes {
+                Some(bytes) => {
+                    let value = Bytes::copy_from_slice(self.hands.alloc, bytes);
+                    Some(value.expect(rt, "memory"))
+                }
+                None => None,
+            };
             self.take(rt, Event::Served { serve, value });
         }
     }
@@ -629,10 +698,12 @@ impl<C: Steps> Twin<C> {
     /// Takes this, and not yet what is due then.
     fn take_act(&mut self, rt: &(impl Abort + Print), act: Act<'_>) {
         match act {
-            Act::Judge(outcome) => self.judge(rt, outcome),
-            Act::Serve(bytes) => self.serve(rt, bytes),
+            Act::Judge(outcome) => self.judge(rt, Some(outcome)),
+            Act::Drop | Act::IsWanted => self.judge(rt, None),
+            Act::Serve(bytes) => self.serve(rt, Some(bytes)),
+            Act::DropServe => self.serve(rt, None),
             Act::At(moment) => {
-                self.now = moment;
+                self.hands.now = moment;
                 write_number(rt, &mut self.hands.script, "at", u128::from(moment));
             }
             _ => {
@@ -645,10 +716,10 @@ impl<C: Steps> Twin<C> {
     /// What a loop looks for before it looks there is due.
     fn due_before(&self, place: Place) -> Option<Happened> {
         let (active, pending) = self.core.deadlines();
-        if place > Place::Active && is_due(active, self.now) {
+        if place > Place::Active && is_due(active, self.hands.now) {
             return Some(Event::ActiveDue);
         }
-        if place > Place::Pending && is_due(pending, self.now) {
+        if place > Place::Pending && is_due(pending, self.hands.now) {
             return Some(Event::PendingDue);
         }
         None
@@ -675,13 +746,25 @@ impl<C: Steps> Twin<C> {
         }
     }
 
+    /// Writes whether the first delivery is wanted, where that is asked.
+    fn spell_wanted(&self, rt: &impl Abort, text: &mut String, acts: &[Act<'_>]) {
+        for act in acts {
+            if matches!(act, Act::IsWanted) {
+                let is_wanted = self.hands.is_wanted();
+                spell_said(text, "wanted", is_wanted).expect(rt, "memory");
+            }
+        }
+    }
+
     /// Takes these in the order in which a loop looks for what is ready, and what is due. Writes what its fakes are
     /// asked and what it awaits.
     pub fn act(&mut self, rt: &(impl Abort + Print), text: &mut String, acts: &[Act<'_>]) {
+        self.spell_wanted(rt, text, acts);
         for place in PLACES {
             self.take_at(rt, *place, acts);
         }
         self.take_due_before(rt, Place::Network);
+        self.judge_waits(rt);
         let awaited = awaited(self.core.deadlines());
         spell_turn(rt, text, &mut self.hands.fakes.seen, true, awaited);
     }

@@ -64,6 +64,7 @@ pub struct Wire {
     wrong: Wrong,
     checks: u64,
     sends: u64,
+    drawn: Seeded,
 }
 
 impl Drop for Wire {
@@ -73,6 +74,7 @@ impl Drop for Wire {
             wrong: _,
             checks: _,
             sends: _,
+            drawn: _,
         } = self;
     }
 }
@@ -80,11 +82,44 @@ impl Drop for Wire {
 impl Wire {
     /// Returns a wire on which nothing was checked or sent yet.
     pub fn new(told: Told, wrong: Wrong) -> Wire {
+        let seed = match wrong {
+            Wrong::Drawn { seed, .. } => seed,
+            _ => 0,
+        };
         Wire {
             told,
             wrong,
             checks: 0,
             sends: 0,
+            drawn: Seeded::new(seed),
+        }
+    }
+
+    /// What the check of this number says.
+    fn answer_check(&mut self, number: u64) -> Check {
+        match self.wrong {
+            Wrong::Drawn { until, .. } => {
+                if self.drawn.below(8) == 0 {
+                    Check::Until(self.drawn.below(u128::from(until) + 1))
+                } else {
+                    Check::Clear
+                }
+            }
+            wrong => wrong.check(number),
+        }
+    }
+
+    /// What becomes of the send of this number.
+    fn answer_send(&mut self, number: u64) -> Unreliable {
+        match self.wrong {
+            Wrong::Drawn { .. } => match self.drawn.below(8) {
+                0 => Unreliable::Rejected,
+                1 => Unreliable::Outcome(Feedback::Closed),
+                2 => Unreliable::Outcome(Feedback::Backoff),
+                _ => Unreliable::Outcome(Feedback::Ok),
+            },
+            wrong if wrong.is_refused(number) => Unreliable::Rejected,
+            _ => Unreliable::Outcome(Feedback::Ok),
         }
     }
 }
@@ -94,7 +129,7 @@ impl Sender for Wire {
 
     fn check(&mut self, peer: &Peer) -> Check {
         self.checks = self.checks.saturating_add(1);
-        let check = self.wrong.check(self.checks);
+        let check = self.answer_check(self.checks);
         let seen = match check {
             Check::Clear => Seen::Checked(*peer),
             Check::Until(_) => Seen::Limited(*peer),
@@ -105,13 +140,14 @@ impl Sender for Wire {
 
     fn send(&mut self, peer: &Peer, message: Bytes, priority: bool) -> Unreliable {
         self.sends = self.sends.saturating_add(1);
-        if self.wrong.is_refused(self.sends) {
-            tell(&self.told, Seen::Refused(*peer, message, priority));
-            Unreliable::Rejected
+        let answer = self.answer_send(self.sends);
+        let seen = if answer.is_accepted() {
+            Seen::Sent(*peer, message, priority)
         } else {
-            tell(&self.told, Seen::Sent(*peer, message, priority));
-            Unreliable::Outcome(Feedback::Ok)
-        }
+            Seen::Refused(*peer, message, priority)
+        };
+        tell(&self.told, seen);
+        answer
     }
 }
 

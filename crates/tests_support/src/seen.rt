@@ -26,6 +26,9 @@ pub enum Wrong {
     Sends { first: u64, count: u64 },
     /// Every send is refused whose number is a multiple of seven.
     Sevenths,
+    /// One check of eight says that the peer is to wait for a moment up to `until`, and one send of four is refused,
+    /// by draws that follow from the seed.
+    Drawn { seed: u64, until: u32 },
 }
 
 impl Wrong {
