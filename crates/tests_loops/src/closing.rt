@@ -140,6 +140,30 @@ Closed
     );
 }
 
+/// What is judged when the loop ends is called off.
+#[test]
+fn the_end_calls_a_delivery_off(rt: HostRuntime) {
+    const ACTS: &[Act] = &[PEERS, FETCH, RESPONSE, Act::CloseMailbox, Act::IsWanted];
+    sees(
+        rt,
+        Wrong::Nothing,
+        ACTS,
+        "-
+draw 4
+draw 1
+check 3
+draw 18446744073709551616
+send 3 x00000000000000000001
+-
+deliver 1 to 10:110 x6869
+-
+complete
+wanted false
+Closed
+",
+    );
+}
+
 #[test]
 fn the_consumer_answers_1(rt: HostRuntime) {
     const ACTS: &[Act] = &[PEERS, FETCH, RESPONSE];

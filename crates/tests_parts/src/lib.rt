@@ -63,6 +63,8 @@ mod quiet;
 #[cfg(test)]
 mod requests;
 #[cfg(test)]
+mod retrying;
+#[cfg(test)]
 mod sampling;
 #[cfg(test)]
 mod score;

@@ -2,7 +2,7 @@
 
 use bytes::Bytes;
 use resolver::Outcome;
-use resolver::base::{Check, NonEmptyVec};
+use resolver::base::{Check, NonEmptyVec, Predicate};
 use resolver::ingress::FetchKey;
 use resolver::p2p::Core;
 use resolver::p2p::effects::Effect;
@@ -56,6 +56,14 @@ pub enum Given {
 
 /// A core with a timeout of 50 and a delay of 10, as a call that promises nothing.
 pub fn make_core(alloc: Global, me: Option<Peer>) -> Plain {
+    make_core_of(alloc, me)
+}
+
+/// The same, with subscribers of another type.
+pub fn make_core_of<S: Ord + Clone, Q: Predicate<Key, S> + Drop>(
+    alloc: Global,
+    me: Option<Peer>,
+) -> Core<Key, Peer, S, Q> {
     let configuration = Config {
         me,
         fetch_timeout: 50,
@@ -77,7 +85,8 @@ fn fetch(rt: &impl Abort, alloc: Global, key: u8, subscriber: u16) -> PlainEvent
     Event::Fetch(items)
 }
 
-fn peers(rt: &impl Abort, alloc: Global, numbers: &[u8]) -> Vec<Peer> {
+/// Peers by their numbers.
+pub fn numbered(rt: &impl Abort, alloc: Global, numbers: &[u8]) -> Vec<Peer> {
     let mut peers = Vec::new(alloc);
     for number in numbers {
         peers.push(Peer(*number)).expect(rt, "memory");
@@ -98,7 +107,7 @@ fn event_of(rt: &impl Abort, alloc: Global, given: Given) -> Result<PlainEvent, 
     match given {
         Given::Peers(names) => Ok(Event::PeerSet {
             index: 1,
-            peers: peers(rt, alloc, names),
+            peers: numbered(rt, alloc, names),
         }),
         Given::Fetch(key, subscriber) => Ok(fetch(rt, alloc, key, subscriber)),
         Given::KeepSubscriber(kept) => Ok(Event::Retain(Kept::Subscriber(kept))),

@@ -12,6 +12,8 @@ mod cores;
 #[cfg(test)]
 mod engine;
 #[cfg(test)]
+mod failed;
+#[cfg(test)]
 mod laws;
 #[cfg(test)]
 mod metrics;

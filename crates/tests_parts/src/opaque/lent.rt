@@ -14,7 +14,7 @@ use resolver_types::{Outcome, Resolution};
 use std::alloc::Global;
 use std::panic::Expect;
 use std::process::Abort;
-use std::sync::{Arc, Wait};
+use std::sync::{Arc, Mutex, Wait};
 use tests_support::lent::{Judge, make_judge};
 use tests_support::names::{Below, Peer, wanted};
 use tests_support::polling::Polled;
@@ -64,6 +64,17 @@ impl Drop for Source {
     }
 }
 
+impl Source {
+    fn into_told(self) -> Told {
+        let Self {
+            alloc: _,
+            told,
+            looks: _,
+        } = self;
+        told
+    }
+}
+
 impl Fetcher for Source {
     type Key = Key;
 
@@ -80,6 +91,50 @@ impl Fetcher for Source {
         Look {
             value: Some(receiver),
         }
+    }
+
+    ghost pollable = { λ look. tt };
+}
+
+/// A source that has nothing. It says what it is asked for, and then holds its loop up for as long as a gate is locked.
+pub struct Gated<R> {
+    rt: R,
+    told: Told,
+    gate: Arc<Mutex<()>>,
+}
+
+impl<R: Drop> Drop for Gated<R> {
+    fn drop(self) {
+        let Self {
+            rt: _,
+            told: _,
+            gate: _,
+        } = self;
+    }
+}
+
+impl<R> Gated<R> {
+    /// It tells whom that source tells.
+    pub fn new(rt: R, source: Source, gate: Arc<Mutex<()>>) -> Gated<R> {
+        Gated {
+            rt,
+            told: source.into_told(),
+            gate,
+        }
+    }
+}
+
+impl<R: Wait + 'static> Fetcher for Gated<R> {
+    type Key = Key;
+
+    type Value = Bytes;
+
+    type Future = Look;
+
+    fn fetch(&self, key: Key) -> Look {
+        tell(&self.told, Seen::Looked(key));
+        drop(self.gate.lock(&self.rt));
+        Look { value: None }
     }
 
     ghost pollable = { λ look. tt };

@@ -210,6 +210,13 @@ fn the_mailbox_is_closed_and_nothing_waits(rt: HostRuntime) {
     sees(rt, Wrong::Consumer, ACTS, "look 1\ncomplete\nClosed\n");
 }
 
+/// What is judged when the loop ends is called off.
+#[test]
+fn the_end_of_the_actor_calls_a_delivery_off(rt: HostRuntime) {
+    const ACTS: &[Act] = &[Act::Close, Act::Turn, Act::IsCanceled];
+    sees_judged(rt, ACTS, "complete\ncanceled true\n");
+}
+
 #[test]
 fn the_consumer_answers_1(rt: HostRuntime) {
     const ACTS: &[Act] = &[

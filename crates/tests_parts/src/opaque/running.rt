@@ -1,7 +1,7 @@
 //! An actor's loop in a thread.
 
 use crate::asserts::{equal, equal_texts};
-use crate::opaque::lent::{Asking, Held, Lent, Looked, answer_look, lend};
+use crate::opaque::lent::{Asking, Gated, Held, Lent, Looked, answer_look, lend};
 use futures::channel::mpsc;
 use resolver_base::Fault;
 use resolver_opaque_loop::init;
@@ -11,9 +11,9 @@ use std::num::NonZeroUsize;
 use std::panic::Expect;
 use std::process::Abort;
 use std::random::RandomSource;
-use std::sync::Wait;
+use std::sync::{Arc, Mutex, Wait};
 use std::thread::Threads;
-use tests_support::seen::{Seen, Wrong, spell_said};
+use tests_support::seen::{Seen, Wrong, spell_feedback, spell_said};
 use tests_support::waiting::next;
 
 /// The next look is answered so.
@@ -109,4 +109,59 @@ wait 100
 look 1
 ";
     runs(rt, Wrong::Consumer, Err(Fault::OutOfMemory), seen);
+}
+
+/// Waits until key 1 is looked for, fetches three more, and gives what was written of that.
+fn fetch_three<R>(rt: &R, held: &mut Held, resolver: &mut impl Asking) -> String
+where
+    R: Abort + Wait + RandomSource + AllocGlobal,
+{
+    let mut text = String::new(rt.alloc());
+    wait(rt, &mut text, &mut held.told);
+    for key in 2..5_u8 {
+        let feedback = resolver.want(rt, key, 10);
+        spell_feedback(&mut text, feedback).expect(rt, "memory");
+    }
+    text
+}
+
+/// That this is what three fetches are answered while an actor in a thread is held up, whose mailbox has this size.
+fn has_room<R>(rt: R, size: usize, seen: &str)
+where
+    R: Abort + Threads + Wait + RandomSource + AllocGlobal + Copy + Drop + Send + 'static,
+{
+    let alloc = rt.alloc();
+    let size = NonZeroUsize::new(size).expect(&rt, "a size");
+    let gate = Arc::new(alloc, Mutex::new(())).expect(&rt, "memory");
+    let other = Arc::try_clone(&gate).expect(&rt, "memory");
+    let (mut held, lent) = lend(&rt, alloc, Wrong::Nothing);
+    let Lent {
+        clock,
+        source,
+        consumer,
+    } = lent;
+    let source = Gated::new(rt, source, other);
+    let locked = gate.lock(&rt);
+    let begun = init(rt, alloc, clock, source, consumer, size, 100);
+    let (mut resolver, handle) = begun.expect(&rt, "an actor");
+    drop(resolver.want(&rt, 1, 10));
+    let text = fetch_three(&rt, &mut held, &mut resolver);
+    drop(locked);
+    resolver.end();
+    equal(&rt, &handle.join(&rt), &Ok(()));
+    drop(resolver);
+    drop(held);
+    drop(gate);
+    equal_texts(&rt, text.as_str(), seen);
+    drop(text);
+}
+
+#[test]
+fn the_mailbox_of_an_actor_in_a_thread_has_room_for_one(rt: HostRuntime) {
+    has_room(rt, 1, "look 1\nOk\nBackoff\nBackoff\n");
+}
+
+#[test]
+fn the_mailbox_of_an_actor_in_a_thread_has_room_for_two(rt: HostRuntime) {
+    has_room(rt, 2, "look 1\nOk\nOk\nBackoff\n");
 }
