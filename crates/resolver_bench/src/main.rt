@@ -5,7 +5,8 @@
 //! prints how many steps that took and what they had. With the word `rows` as its argument it takes the rows
 //! alone. With a number of keys, and of that key's subscribers, it takes none, and prints nanoseconds a step too;
 //! with a number of peers as a second argument it drives only what knows peers, and with a third one a fetcher
-//! asks one peer for so many keys at once.
+//! asks one peer for so many keys at once. With the word `steps`, a number of keys and one of peers it takes each
+//! event of both machines, with `way` those of a key's short way through the engine's core.
 #![tactic(auto)]
 
 mod actor;
@@ -17,6 +18,7 @@ mod mailbox;
 mod refused;
 mod scans;
 mod spent;
+mod steps;
 mod tracker;
 mod workload;
 
@@ -30,6 +32,7 @@ use std::random::RandomSource;
 use std::rt::Clock;
 use std::str::FromStr;
 use std::sync::Wait;
+use steps::Events;
 
 /// How many keys there are where no argument says it.
 const FEW: u64 = 100;
@@ -41,6 +44,8 @@ const PEERS: &[u16] = &[16, 256, 4_096];
 struct Work {
     /// Whether the rows are taken.
     with_rows: bool,
+    /// Which events are taken one by one, where nothing else is driven.
+    events: Option<Events>,
     /// What is driven, if anything is: with no peers all that there is, and what knows peers in turn with few and
     /// with many of them.
     load: Option<Load>,
@@ -59,14 +64,19 @@ fn main(rt: HostRuntime) -> ExitCode {
 fn run<R: AllocGlobal + Clock + Env + Print + Wait + RandomSource + Copy + Drop>(
     rt: &R,
 ) -> Result<(), Fault> {
-    let Work { with_rows, load } = asked(rt)?;
+    let Work {
+        with_rows,
+        events,
+        load,
+    } = asked(rt)?;
     if with_rows {
         refused::run(rt)?;
     }
-    match load {
-        None => Ok(()),
-        Some(load) if load.peers > 0 => run_peers(rt, &load),
-        Some(load) => run_all(rt, &load),
+    match (load, events) {
+        (None, _) => Ok(()),
+        (Some(load), Some(events)) => steps::run(rt, events, &load),
+        (Some(load), None) if load.peers > 0 => run_peers(rt, &load),
+        (Some(load), None) => run_all(rt, &load),
     }
 }
 
@@ -124,25 +134,47 @@ fn asked_by(first: Option<&str>, second: Option<&str>, third: Option<&str>) -> R
         };
         return Ok(Work {
             with_rows: true,
+            events: None,
             load: Some(load),
         });
     };
     if word == "rows" {
         return Ok(Work {
             with_rows: true,
+            events: None,
             load: None,
         });
     }
+    asked_in_numbers(word, second.unwrap_or("0"), third.unwrap_or("0"))
+}
+
+/// The work for so many keys and peers, which stand behind a word where only some events are taken.
+fn asked_in_numbers(word: &str, second: &str, third: &str) -> Result<Work, Fault> {
+    let events = events_of(word);
+    let (keys, peers, limit) = match events {
+        Some(_) => (second, third, "0"),
+        None => (word, second, third),
+    };
     let load = Load {
-        keys: number(word)?,
-        peers: number(second.unwrap_or("0"))?,
-        limit: NonZeroU32::new(number(third.unwrap_or("0"))?),
+        keys: number(keys)?,
+        peers: number(peers)?,
+        limit: NonZeroU32::new(number(limit)?),
         with_time: true,
     };
     Ok(Work {
         with_rows: false,
+        events,
         load: Some(load),
     })
+}
+
+/// The events that a word asks for.
+fn events_of(word: &str) -> Option<Events> {
+    match word {
+        "steps" => Some(Events::All),
+        "way" => Some(Events::Way),
+        _ => None,
+    }
 }
 
 /// The number that an argument writes.

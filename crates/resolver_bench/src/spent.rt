@@ -45,6 +45,12 @@ pub enum Kind {
     Index,
     Pick,
     Set,
+    Request,
+    Unresolved,
+    Stale,
+    Absent,
+    Block,
+    Unanswered,
 }
 
 /// How many steps are taken.
