@@ -194,6 +194,7 @@ fn show(rt: &impl Print, node: &mut Synchroniser) -> Result<()> {
     Ok(())
 }
 
+/// Opens a synchroniser, and shows it at work.
 pub fn run(rt: &(impl AllocGlobal + Print)) -> Result<()> {
     let alloc = rt.alloc();
     let configuration = Config {
