@@ -57,18 +57,12 @@ where
     pub(crate) fn new(alloc: Global, fetcher: F, consumer: C) -> Result<Self, Fault>
         ensures only { IfErr result (λ fault. fault ≡ OutOfMemory) }
     {
-        match attempts_and_judging(alloc, consumer) {
-            Ok((attempts, judging)) => Ok(Hands {
-                fetcher,
-                attempts,
-                judging,
-                is_starved: false,
-            }),
-            Err(fault) => {
-                drop(fetcher);
-                Err(fault)
-            }
-        }
+        Ok(Hands {
+            fetcher,
+            attempts: Attempts::new(alloc)?,
+            judging: Judging::new(alloc, consumer)?,
+            is_starved: false,
+        })
     }
 
     /// Looks for a value.
@@ -98,30 +92,6 @@ where
                 value,
             } => self.deliver(number, delivery, value),
             Effect::Cancel { number } => self.judging.cancel(number),
-        }
-    }
-}
-
-/// With no look under way, and nothing judged.
-fn attempts_and_judging<V, A: Future<Output = Option<V>> + Drop, C: Consumer + Drop>(
-    alloc: Global,
-    consumer: C,
-) -> Result<(Attempts<A>, Judging<C>), Fault>
-where
-    C::Outcome: Drop,
-    ensures only { IfErr result (λ fault. fault ≡ OutOfMemory) }
-{
-    match Attempts::new(alloc) {
-        Ok(attempts) => match Judging::new(alloc, consumer) {
-            Ok(judging) => Ok((attempts, judging)),
-            Err(fault) => {
-                drop(attempts);
-                Err(fault)
-            }
-        },
-        Err(fault) => {
-            drop(consumer);
-            Err(fault)
         }
     }
 }

@@ -50,28 +50,15 @@ where
     requires { fetch_retry_delay < 2 ^ 94 }
     ensures only { IfErr result (λ fault. fault ≡ OutOfMemory) }
 {
-    let hands = match Hands::new(alloc, fetcher, consumer) {
-        Ok(hands) => hands,
-        Err(fault) => {
-            drop(clock);
-            return Err(fault);
-        }
+    let hands = Hands::new(alloc, fetcher, consumer)?;
+    let (sender, mail) = mailbox::new(rt, alloc, mailbox_size.get())?;
+    let looped = Loop {
+        actor: Actor::new(alloc, fetch_retry_delay),
+        mail,
+        clock,
+        hands,
     };
-    match mailbox::new(rt, alloc, mailbox_size.get()) {
-        Ok((sender, mail)) => {
-            let looped = Loop {
-                actor: Actor::new(alloc, fetch_retry_delay),
-                mail,
-                clock,
-                hands,
-            };
-            Ok((Resolver::over(alloc, sender), looped))
-        }
-        Err(fault) => {
-            drop((clock, hands));
-            Err(fault)
-        }
-    }
+    Ok((Resolver::over(alloc, sender), looped))
 }
 
 /// An actor over a source, as a handle and the thread in which its loop runs until `close` is called on a
@@ -106,7 +93,7 @@ where
     requires { fetch_retry_delay < 2 ^ 94 }
     ensures only { IfErr result (λ fault. fault ≡ OutOfMemory) }
 {
-    match open(
+    let (resolver, looped) = open(
         rt,
         alloc,
         clock,
@@ -114,14 +101,7 @@ where
         consumer,
         mailbox_size,
         fetch_retry_delay,
-    ) {
-        Ok((resolver, looped)) => match start(rt, looped) {
-            Ok(handle) => Ok((resolver, handle)),
-            Err(fault) => {
-                drop(resolver);
-                Err(fault)
-            }
-        },
-        Err(fault) => Err(fault),
-    }
+    )?;
+    let handle = start(rt, looped)?;
+    Ok((resolver, handle))
 }
