@@ -194,14 +194,8 @@ impl<K: Ord + Drop, S: Drop, V: Drop, Context: Drop, State: Drop> Entries<K, S, 
         ensures err { OnErr result (self.new ≡ self.old) }
         ensures only { IfErr result (λ fault. fault ≡ refusal_at self.old.next) }
     {
-        let Some(number) = self.numbers.peek() else {
-            drop(delivery);
-            return Err(Fault::Exhausted);
-        };
-        let Ok(again) = context.clone() else {
-            drop(delivery);
-            return Err(Fault::OutOfMemory);
-        };
+        let number = self.numbers.peek().ok_or(Fault::Exhausted)?;
+        let again = context.clone()?;
         let response = Response {
             name: number,
             value,
@@ -232,17 +226,11 @@ impl<K: Ord + Drop, S: Drop, V: Drop, Context: Drop, State: Drop> Entries<K, S, 
         ensures err { OnErr result (self.new ≡ self.old) }
         ensures only { IfErr result (λ fault. fault ≡ refusal_at self.old.next) }
     {
-        let Some(number) = self.numbers.peek() else {
-            drop(delivery);
-            return Err(Fault::Exhausted);
-        };
+        let number = self.numbers.peek().ok_or(Fault::Exhausted)?;
         let Some(response) = self.response(&delivery.key) else {
             unreachable!()
         };
-        let Ok(context) = response.context.clone() else {
-            drop(delivery);
-            return Err(Fault::OutOfMemory);
-        };
+        let context = response.context.clone()?;
         let begun = Open {
             response: response.name,
             delivery,
@@ -354,12 +342,9 @@ where
     let Some(entry) = keys.get_mut(&begun.delivery.key) else {
         unreachable!()
     };
-    if let Err(error) = put_in(going, number, begun) {
-        drop(response);
-        return Err(error);
-    }
+    put_in(going, number, begun)?;
     entry.number = Some(number);
-    drop(entry.response.replace(response));
+    entry.response = Some(response);
     Ok(())
 }
 

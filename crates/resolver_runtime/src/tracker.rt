@@ -16,9 +16,9 @@ use crate::tracker::verdicts::Verdicts;
 use futures::task;
 use futures::task::Poll;
 use resolver_base::{Fault, Numbers};
-use resolver_delivery::{Aborted, Completion, Entries};
+use resolver_delivery::{Aborted, Completion, Entries, copies};
 use resolver_types::{Delivery, Outcome};
-use std::alloc::{AllocError, Global};
+use std::alloc::Global;
 use std::marker::Model;
 
 /// Tracked keys with the deliveries of their values, which a consumer judges.
@@ -306,25 +306,10 @@ where
     Con::Outcome: Drop,
     requires keys_clone { (x y : Con.Key) → Con.Key.is_clone x y → y ≡ x }
     requires subscribers_clone { (x y : Con.Subscriber) → Con.Subscriber.is_clone x y → y ≡ x }
+    requires values_clone { (x y : Con.Value) → Con.Value.is_clone x y → y ≡ x }
     ensures only { IfErr result (λ fault. fault ≡ OutOfMemory) }
 {
     let (delivery, value) = copies(delivery, value)?;
     let verdict = consumer.deliver(delivery, value)?;
     verdicts.put(number, verdict)
-}
-
-/// A copy of a delivery, and one of its value.
-fn copies<K: Clone + Drop, S: Clone + Drop, V: Clone + Drop>(
-    delivery: &Delivery<K, S>,
-    value: &V,
-) -> Result<(Delivery<K, S>, V), AllocError>
-    requires keys_clone { (x y : K) → K.is_clone x y → y ≡ x }
-    requires subscribers_clone { (x y : S) → S.is_clone x y → y ≡ x }
-{
-    let delivery = delivery.clone()?;
-    let Ok(value) = value.clone() else {
-        drop(delivery);
-        return Err(AllocError);
-    };
-    Ok((delivery, value))
 }
