@@ -112,7 +112,7 @@ impl<K: Ord + Drop, S: Drop, V: Drop> Stages<K, S, V> {
     }
 
     /// A key that isn't there is asked for by the next attempt, which is answered. `Exhausted` is
-    /// answered where none is left; then, and where memory is wanting, nothing changes.
+    /// answered where none is left; then, and where memory is refused, nothing changes.
     pub fn ask(&mut self, key: K) -> Result<u64, Fault>
     where
         K: Clone,
@@ -143,7 +143,7 @@ impl<K: Ord + Drop, S: Drop, V: Drop> Stages<K, S, V> {
     }
 
     /// A key that is there is asked for again by the next attempt, which is answered. `Exhausted`
-    /// is answered where none is left; then, and where memory is wanting, nothing changes.
+    /// is answered where none is left; then, and where memory is refused, nothing changes.
     pub fn ask_again(&mut self, key: &K) -> Result<u64, Fault>
     where
         K: Clone,
@@ -168,7 +168,7 @@ impl<K: Ord + Drop, S: Drop, V: Drop> Stages<K, S, V> {
     }
 
     /// A key that was asked for last waits until this moment, and its response is forgotten. Where
-    /// memory is wanting, nothing changes.
+    /// memory is refused, nothing changes.
     pub fn wait(&mut self, key: &K, due: u128) -> Result<(), Fault>
     where
         K: Clone,
@@ -195,7 +195,7 @@ impl<K: Ord + Drop, S: Drop, V: Drop> Stages<K, S, V> {
         Ok(())
     }
 
-    /// Lets a key go. Its delivery in progress stays open, and is canceled.
+    /// Drops a key. Its delivery in progress stays open, and is canceled.
     pub fn remove(&mut self, key: &K)
         ensures { self.new ≡ record self.old { entries = removed K.cmp key.now self.old.entries } }
     {
@@ -203,7 +203,7 @@ impl<K: Ord + Drop, S: Drop, V: Drop> Stages<K, S, V> {
         leave_taken(&mut self.asked, &mut self.retries, key, &taken);
     }
 
-    /// Lets all keys go, and closes all deliveries. Numbers and attempts go on.
+    /// Drops all keys, and closes all deliveries. Numbers and attempts go on.
     pub fn clear(&mut self, alloc: Global)
         ensures { self.new ≡ record self.old {
           entries = record self.old.entries { keys = []; going = [] };
@@ -280,7 +280,7 @@ impl<K: Ord + Drop, S: Drop, V: Drop> Stages<K, S, V> {
     }
 }
 
-/// The next attempt leads to this key, and is answered. Where none is left, or memory is wanting,
+/// The next attempt leads to this key, and is answered. Where none is left, or memory is refused,
 /// nothing changes.
 fn lead<K: Clone + Drop>(
     asked: &mut ByAttempt<K>,

@@ -198,7 +198,7 @@ impl<K: Ord + Clone, V: Clone, S: Ord + Clone, Q: Predicate<K, S> + Drop> Actor<
     }
 
     /// The demanded keys, in their order: each stands in one row, so in one phase. Where memory is
-    /// wanting nothing has changed.
+    /// refused nothing has changed.
     pub fn rows(&self) -> Result<Vec<Row<K, S>>, Fault>
         requires keys_clone { (x y : K) → K.is_clone x y → y ≡ x }
         requires subscribers_clone { (x y : S) → S.is_clone x y → y ≡ x }

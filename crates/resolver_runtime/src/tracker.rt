@@ -61,7 +61,7 @@ where
     }
 
     /// Tracks a key, and answers whether it is new. A key that is there keeps its state. Where
-    /// memory is wanting, nothing changes.
+    /// memory is refused, nothing changes.
     pub fn insert_state(&mut self, key: Con::Key, state: State) -> Result<bool, Fault>
         ensures ok { OnOk result (self.new ≡ inserted Con.Key.cmp key state self.old) }
         ensures is_new { IfOk result (λ new. new ≡ not (is_tracked Con.Key.cmp self.old key)) }
@@ -92,7 +92,7 @@ where
         self.entries.contains(key)
     }
 
-    /// Lets a key go, and answers whether it was tracked. Its delivery in progress is canceled, and
+    /// Drops a key, and answers whether it was tracked. Its delivery in progress is canceled, and
     /// stays open until it is polled.
     pub fn remove(&mut self, key: &Con::Key) -> bool
         ensures after { self.new ≡ removed Con.Key.cmp key.now self.old }
@@ -101,7 +101,7 @@ where
         self.entries.remove(key)
     }
 
-    /// Lets the keys go that aren't kept, and answers how many these were. `keep` is pure.
+    /// Drops the keys that aren't kept, and answers how many these were. `keep` is pure.
     pub fn retain<F: Fn(&Con::Key) -> bool>(&mut self, keep: F) -> usize
         requires { F.IsAlwaysCallable keep }
         ensures after { (test : Con.Key → Bool) → AnswersBy F.Fn keep test
@@ -111,7 +111,7 @@ where
         self.entries.retain(keep)
     }
 
-    /// Lets all keys go, and answers how many there were.
+    /// Drops all keys, and answers how many there were.
     pub fn drain(&mut self) -> usize
         ensures after { self.new ≡ record self.old { keys = [] } }
         ensures count { result ≡ length self.old.keys }
@@ -187,7 +187,7 @@ where
     /// Hands a new value to the consumer, for the subscribers of its key, and answers the number of
     /// this delivery. The value is cached, not yet accepted, in place of what was. `Exhausted` is
     /// answered where no number is left, before the consumer is told; then, and where memory is
-    /// wanting, nothing changes. Memory may still be wanting once the consumer took the value: then
+    /// refused, nothing changes. Memory may still be refused once the consumer took the value: then
     /// nobody awaits its verdict.
     pub fn deliver(
         &mut self,
@@ -280,7 +280,7 @@ where
     Con::Value: Drop,
     Con::Outcome: Drop,
 {
-    /// Tracks a key, and answers whether it is new. Where memory is wanting, nothing changes.
+    /// Tracks a key, and answers whether it is new. Where memory is refused, nothing changes.
     pub fn insert(&mut self, key: Con::Key) -> Result<bool, Fault>
         ensures ok { OnOk result (self.new ≡ inserted Con.Key.cmp key tt self.old) }
         ensures is_new { IfOk result (λ new. new ≡ not (is_tracked Con.Key.cmp self.old key)) }
