@@ -160,7 +160,7 @@ impl Clock for Hasty {
     }
 }
 
-/// Keeps every reader: this store lets none go.
+/// Keeps every reader: this store drops none.
 #[derive(Clone, Copy)]
 struct All;
 

@@ -73,7 +73,7 @@ impl<K: Ord, S> Plan<K, S> {
 
 impl<K: Ord + Clone + Drop, S: Ord + Clone + Drop> Plan<K, S> {
     /// Wants these keys too, and answers a fetch for each that wasn't wanted, in key order. It takes no
-    /// memory where none is new. Where memory is wanting, nothing changes.
+    /// memory where none is new. Where memory is refused, nothing changes.
     pub fn want(&mut self, keys: &[K]) -> Result<Vec<Fetch<K, S>>, Fault>
         requires keys_clone { (x y : K) → K.is_clone x y → y ≡ x }
         requires subscribers_clone { (x y : S) → S.is_clone x y → y ≡ x }
@@ -94,8 +94,8 @@ impl<K: Ord + Clone + Drop, S: Ord + Clone + Drop> Plan<K, S> {
         Ok(fetches)
     }
 
-    /// Wants these keys no more, and answers what lets the subscriber go from those that were wanted, if
-    /// any was. It takes no memory where none was. Where memory is wanting, nothing changes.
+    /// Wants these keys no more, and answers what drops the subscriber from those that were wanted, if
+    /// any was. It takes no memory where none was. Where memory is refused, nothing changes.
     pub fn done(&mut self, keys: &[K]) -> Result<Option<Without<K, S>>, Fault>
         requires keys_clone { (x y : K) → K.is_clone x y → y ≡ x }
         requires subscribers_clone { (x y : S) → S.is_clone x y → y ≡ x }
@@ -112,9 +112,9 @@ impl<K: Ord + Clone + Drop, S: Ord + Clone + Drop> Plan<K, S> {
         Ok(without)
     }
 
-    /// Wants the keys below this one no more, and answers what lets the subscriber go from all keys below
+    /// Wants the keys below this one no more, and answers what drops the subscriber from all keys below
     /// it, if one of them was wanted. The key itself stays. It takes no memory where none was wanted. Where
-    /// memory is wanting, nothing changes.
+    /// memory is refused, nothing changes.
     pub fn done_below(&mut self, bound: &K) -> Result<Option<Without<K, S>>, Fault>
         requires keys_clone { (x y : K) → K.is_clone x y → y ≡ x }
         requires subscribers_clone { (x y : S) → S.is_clone x y → y ≡ x }
@@ -245,7 +245,7 @@ impl<K: Ord + Clone + Drop, S: Ord + Clone + Drop> Plan<K, S> {
         })
     }
 
-    /// Wants these keys, none of which is wanted. Where memory is wanting, nothing changes.
+    /// Wants these keys, none of which is wanted. Where memory is refused, nothing changes.
     pub(crate) fn add(&mut self, keys: &[K]) -> Result<(), AllocError>
         requires keys_clone { (x y : K) → K.is_clone x y → y ≡ x }
         requires lacked { met K.cmp self.old.wanted keys.now ≡ [] }
@@ -262,7 +262,7 @@ impl<K: Ord + Clone + Drop, S: Ord + Clone + Drop> Plan<K, S> {
         Ok(())
     }
 
-    /// Puts a key among the wanted ones. Where memory is wanting, nothing changes.
+    /// Puts a key among the wanted ones. Where memory is refused, nothing changes.
     fn put(&mut self, key: &K) -> Result<(), AllocError>
         requires keys_clone { (x y : K) → K.is_clone x y → y ≡ x }
         ensures ok { OnOk result

@@ -49,7 +49,7 @@ where
     answer
 }
 
-/// Wants these keys no more, and has the resolver let the subscriber go from those that were wanted,
+/// Wants these keys no more, and has the resolver drop the subscriber from those that were wanted,
 /// by one call.
 ///
 /// Where none was, the resolver isn't called. Where it is closed, or there is a fault, the plan stays as
@@ -80,7 +80,7 @@ where
     answer
 }
 
-/// Wants the keys below this one no more, and has the resolver let the subscriber go from all keys below
+/// Wants the keys below this one no more, and has the resolver drop the subscriber from all keys below
 /// it, by one call. The key itself stays.
 ///
 /// Where no such key was wanted, the resolver isn't called. Where it is closed, or there is a fault, the

@@ -1,4 +1,4 @@
-//! One subscriber, let go from some keys.
+//! One subscriber, dropped from some keys.
 
 ghost use Rattle.std.specs.Prelude.{◌≡◌, None};
 ghost use Rattle.std.specs.Option.{option_copied};
@@ -42,7 +42,7 @@ impl<K: Ord + Drop, S: Drop> Drop for Without<K, S> {
 }
 
 impl<K: Ord, S> Without<K, S> {
-    /// Lets this subscriber go from these keys.
+    /// Drops this subscriber from these keys.
     pub fn new(subscriber: S, keys: BTreeSet<K>) -> Self
         ensures { result ≡ record { subscriber = subscriber; keys = keys.keys; below = None } }
     {
@@ -53,7 +53,7 @@ impl<K: Ord, S> Without<K, S> {
         }
     }
 
-    /// Lets this subscriber go from all keys below this one. It takes no memory.
+    /// Drops this subscriber from all keys below this one. It takes no memory.
     pub fn below(alloc: Global, subscriber: S, bound: K) -> Self
         ensures { result ≡ without_below subscriber bound }
     {
@@ -64,7 +64,7 @@ impl<K: Ord, S> Without<K, S> {
         }
     }
 
-    /// Who is let go.
+    /// Who is dropped.
     pub fn subscriber(&self) -> &S
         ensures { result.now ≡ self.now.subscriber }
     {
@@ -78,14 +78,14 @@ impl<K: Ord, S> Without<K, S> {
         &self.keys
     }
 
-    /// The key below which all others are let go, if there is one.
+    /// The key below which all others are dropped, if there is one.
     pub fn bound(&self) -> Option<&K>
         ensures { option_copied result ≡ self.now.below }
     {
         self.below.as_ref()
     }
 
-    /// Whether the subscriber is let go from this key.
+    /// Whether the subscriber is dropped from this key.
     fn is_gone(&self, key: &K) -> bool
         ensures { result ≡ is_gone K.cmp self.now key.now }
     {

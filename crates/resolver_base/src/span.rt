@@ -9,6 +9,11 @@ use std::hash::Hash;
 
 /// A name of data, as a key is: ordered, hashed and cloned, with a fixed number of bytes. What goes to
 /// another thread asks for `Send` besides.
+///
+/// An implementation owes that each name is spelled by `SIZE` bytes, the same number for all names and
+/// below 2^32; that `write` appends these and nothing else; and that `read` takes exactly what `write`
+/// spells, and answers an equal name. So two spellings never are one name, and a peer reads the name that
+/// was meant. Both take time linear in `SIZE`, and `read` takes no memory.
 pub trait Span: Ord + Hash + Clone {
     ghost SIZE: { ℕ };
 
@@ -21,7 +26,7 @@ pub trait Span: Ord + Hash + Clone {
     /// The name that these bytes spell, if they spell one.
     ghost read_from: { List ℕ → Option Self };
 
-    /// Appends the name's `SIZE` bytes, or nothing where memory is wanting. It takes no memory
+    /// Appends the name's `SIZE` bytes, or nothing where memory is refused. It takes no memory
     /// where there is room for them.
     fn write(&self, out: &mut BytesMut) -> Result<(), AllocError>
         ensures ok { OnOk result (out.new.items ≡ out.old.items ++ bytes_of self.now) }

@@ -89,7 +89,7 @@ pub trait Driven: Drop {
     fn take(&mut self, alloc: Global, kind: Kind, i: u64) -> Result<u64, Fault>;
 }
 
-/// Takes the steps of a table, and lets go what took them.
+/// Takes the steps of a table, and drops what took them.
 pub fn drive<T: Driven>(
     rt: &(impl AllocGlobal + Clock + Print),
     mut driven: T,

@@ -16,7 +16,7 @@ pub struct Completion<K, S, Context> {
     pub delivery: Delivery<K, S>,
     /// The verdict. There is none where the consumer dropped it.
     pub outcome: Option<Outcome>,
-    /// Whether the key was let go since the delivery began.
+    /// Whether the key was dropped since the delivery began.
     pub canceled: bool,
     /// Whether the response was accepted when the delivery began.
     pub previously_accepted: bool,

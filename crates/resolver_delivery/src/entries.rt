@@ -23,7 +23,7 @@ use std::marker::Model;
 
 /// Tracked keys, each with the number of its delivery in progress, if there is one, its cached
 /// response, if there is one, and a state of the caller's. Beside them stand the deliveries that
-/// are open: those without a verdict, also of keys that were let go.
+/// are open: those without a verdict, also of keys that were dropped.
 ///
 /// A call takes time logarithmic in the number of keys and of open deliveries.
 ///
@@ -85,7 +85,7 @@ impl<K: Ord + Drop, S: Drop, V: Drop, Context: Drop, State: Drop> Entries<K, S, 
     }
 
     /// Tracks a key, and answers whether it is new. A key that is there keeps its state. Where
-    /// memory is wanting, nothing changes.
+    /// memory is refused, nothing changes.
     pub fn insert_state(&mut self, key: K, state: State) -> Result<bool, Fault>
         ensures ok { OnOk result (self.new ≡ inserted K.cmp key state self.old) }
         ensures is_new { IfOk result (λ new. new ≡ not (is_tracked K.cmp self.old key)) }
@@ -99,7 +99,7 @@ impl<K: Ord + Drop, S: Drop, V: Drop, Context: Drop, State: Drop> Entries<K, S, 
         Ok(true)
     }
 
-    /// Tracks a key that isn't there, with one look-up. Where memory is wanting, nothing changes.
+    /// Tracks a key that isn't there, with one look-up. Where memory is refused, nothing changes.
     pub fn insert_new(&mut self, key: K, state: State) -> Result<(), Fault>
         requires absent { is_tracked K.cmp self.old key ≡ false }
         ensures ok { OnOk result (self.new ≡ inserted K.cmp key state self.old) }
@@ -122,7 +122,7 @@ impl<K: Ord + Drop, S: Drop, V: Drop, Context: Drop, State: Drop> Entries<K, S, 
         self.keys.contains_key(key)
     }
 
-    /// Lets a key go, and answers whether it was tracked. Its delivery in progress stays open,
+    /// Drops a key, and answers whether it was tracked. Its delivery in progress stays open,
     /// and is canceled.
     pub fn remove(&mut self, key: &K) -> bool
         ensures after { self.new ≡ removed K.cmp key.now self.old }
@@ -131,7 +131,7 @@ impl<K: Ord + Drop, S: Drop, V: Drop, Context: Drop, State: Drop> Entries<K, S, 
         self.take(key).is_some()
     }
 
-    /// Lets a key go, as `remove` does, and answers what was kept of it, if it was tracked.
+    /// Drops a key, as `remove` does, and answers what was kept of it, if it was tracked.
     pub fn take(&mut self, key: &K) -> Option<Entry<V, Context, State>>
         ensures after { self.new ≡ removed K.cmp key.now self.old }
         ensures entry { result ≡ entry_of K.cmp self.old key.now }
@@ -139,7 +139,7 @@ impl<K: Ord + Drop, S: Drop, V: Drop, Context: Drop, State: Drop> Entries<K, S, 
         self.keys.remove(key)
     }
 
-    /// Lets all keys go, and answers how many there were.
+    /// Drops all keys, and answers how many there were.
     pub fn drain(&mut self) -> usize
         ensures after { self.new ≡ record self.old { keys = [] } }
         ensures count { result ≡ length self.old.keys }
@@ -149,7 +149,7 @@ impl<K: Ord + Drop, S: Drop, V: Drop, Context: Drop, State: Drop> Entries<K, S, 
         count
     }
 
-    /// Lets all keys go, and closes all deliveries. The numbers go on.
+    /// Drops all keys, and closes all deliveries. The numbers go on.
     pub fn clear(&mut self)
         ensures { self.new ≡ record self.old { keys = []; going = [] } }
     {
@@ -157,7 +157,7 @@ impl<K: Ord + Drop, S: Drop, V: Drop, Context: Drop, State: Drop> Entries<K, S, 
         self.going.clear();
     }
 
-    /// Lets the keys go that aren't kept, and answers how many these were. `keep` is pure.
+    /// Drops the keys that aren't kept, and answers how many these were. `keep` is pure.
     pub fn retain<F: Fn(&K) -> bool>(&mut self, keep: F) -> usize
         requires { F.IsAlwaysCallable keep }
         ensures after { (test : K → Bool) → AnswersBy F.Fn keep test
@@ -177,7 +177,7 @@ impl<K: Ord + Drop, S: Drop, V: Drop, Context: Drop, State: Drop> Entries<K, S, 
 
     /// Begins a delivery of a new value, and answers its number. The value is cached, not yet
     /// accepted, in place of what was. `Exhausted` is answered where no number is left; then, and
-    /// where memory is wanting, nothing changes.
+    /// where memory is refused, nothing changes.
     pub fn deliver(
         &mut self,
         delivery: Delivery<K, S>,
@@ -194,14 +194,8 @@ impl<K: Ord + Drop, S: Drop, V: Drop, Context: Drop, State: Drop> Entries<K, S, 
         ensures err { OnErr result (self.new ≡ self.old) }
         ensures only { IfErr result (λ fault. fault ≡ refusal_at self.old.next) }
     {
-        let Some(number) = self.numbers.peek() else {
-            drop(delivery);
-            return Err(Fault::Exhausted);
-        };
-        let Ok(again) = context.clone() else {
-            drop(delivery);
-            return Err(Fault::OutOfMemory);
-        };
+        let number = self.numbers.peek().ok_or(Fault::Exhausted)?;
+        let again = context.clone()?;
         let response = Response {
             name: number,
             value,
@@ -220,7 +214,7 @@ impl<K: Ord + Drop, S: Drop, V: Drop, Context: Drop, State: Drop> Entries<K, S, 
     }
 
     /// Begins a delivery of the cached value once more, and answers its number. `Exhausted` is
-    /// answered where no number is left; then, and where memory is wanting, nothing changes.
+    /// answered where no number is left; then, and where memory is refused, nothing changes.
     pub fn redeliver(&mut self, delivery: Delivery<K, S>) -> Result<u64, Fault>
     where
         Context: Clone,
@@ -232,17 +226,11 @@ impl<K: Ord + Drop, S: Drop, V: Drop, Context: Drop, State: Drop> Entries<K, S, 
         ensures err { OnErr result (self.new ≡ self.old) }
         ensures only { IfErr result (λ fault. fault ≡ refusal_at self.old.next) }
     {
-        let Some(number) = self.numbers.peek() else {
-            drop(delivery);
-            return Err(Fault::Exhausted);
-        };
+        let number = self.numbers.peek().ok_or(Fault::Exhausted)?;
         let Some(response) = self.response(&delivery.key) else {
             unreachable!()
         };
-        let Ok(context) = response.context.clone() else {
-            drop(delivery);
-            return Err(Fault::OutOfMemory);
-        };
+        let context = response.context.clone()?;
         let begun = Open {
             response: response.name,
             delivery,
@@ -332,7 +320,7 @@ impl<K: Ord + Drop, S: Drop, V: Drop, Context: Drop, State: Drop> Entries<K, S, 
 }
 
 /// Opens a delivery of a new response, which is its key's delivery in progress from now on. Where
-/// memory is wanting, nothing changes.
+/// memory is refused, nothing changes.
 fn begin_new<K: Ord, S: Drop, V: Drop, Context: Drop, State>(
     keys: &mut BTreeMap<K, Entry<V, Context, State>>,
     going: &mut BTreeMap<u64, Open<K, S, Context>>,
@@ -354,16 +342,13 @@ where
     let Some(entry) = keys.get_mut(&begun.delivery.key) else {
         unreachable!()
     };
-    if let Err(error) = put_in(going, number, begun) {
-        drop(response);
-        return Err(error);
-    }
+    put_in(going, number, begun)?;
     entry.number = Some(number);
-    drop(entry.response.replace(response));
+    entry.response = Some(response);
     Ok(())
 }
 
-/// Opens a delivery, which is its key's delivery in progress from now on. Where memory is wanting,
+/// Opens a delivery, which is its key's delivery in progress from now on. Where memory is refused,
 /// nothing changes.
 fn begin<K: Ord, S: Drop, V: Drop, Context: Drop, State>(
     keys: &mut BTreeMap<K, Entry<V, Context, State>>,
@@ -389,7 +374,7 @@ where
     Ok(())
 }
 
-/// Puts a value into a map. Where memory is wanting, nothing changes.
+/// Puts a value into a map. Where memory is refused, nothing changes.
 fn put_in<K: Ord + Drop, X: Drop>(
     map: &mut BTreeMap<K, X>,
     key: K,
@@ -493,7 +478,7 @@ impl<K: Ord + Drop, S: Drop, V: Drop, Context: Drop, State: Drop> Entries<K, S, 
 impl<K: Ord + Drop, S: Drop, V: Drop, Context: Drop> Entries<K, S, V, Context, ()> {
     ghost use Rattle.resolver_delivery.specs.Entries.{inserted, is_tracked};
 
-    /// Tracks a key, and answers whether it is new. Where memory is wanting, nothing changes.
+    /// Tracks a key, and answers whether it is new. Where memory is refused, nothing changes.
     pub fn insert(&mut self, key: K) -> Result<bool, Fault>
         ensures ok { OnOk result (self.new ≡ inserted K.cmp key tt self.old) }
         ensures is_new { IfOk result (λ new. new ≡ not (is_tracked K.cmp self.old key)) }

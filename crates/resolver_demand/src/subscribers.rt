@@ -94,7 +94,7 @@ impl<K: Ord + Drop, S: Ord + Drop> Tracker<K, S> {
     }
 
     /// Adds subscribers of a key, and answers whether the key is new. A subscriber that is there
-    /// keeps its mark. Where memory is wanting, nothing changes.
+    /// keeps its mark. Where memory is refused, nothing changes.
     pub fn insert(&mut self, key: K, subscribers: NonEmptyVec<(S, u64)>) -> Result<bool, Fault>
     where
         S: Clone,
@@ -114,7 +114,7 @@ impl<K: Ord + Drop, S: Ord + Drop> Tracker<K, S> {
     }
 
     /// Adds subscribers of a key that is there, with one look-up, or hands them back where nobody
-    /// waits for the key. A subscriber that is there keeps its mark. Where memory is wanting,
+    /// waits for the key. A subscriber that is there keeps its mark. Where memory is refused,
     /// nothing changes.
     pub fn attach(
         &mut self,
@@ -135,7 +135,7 @@ impl<K: Ord + Drop, S: Ord + Drop> Tracker<K, S> {
         Ok(attach_to(self.alloc, &mut self.demand, key, subscribers)?)
     }
 
-    /// Adds a key that isn't there, with one look-up, and its subscribers. Where memory is wanting,
+    /// Adds a key that isn't there, with one look-up, and its subscribers. Where memory is refused,
     /// nothing changes.
     pub fn insert_new(&mut self, key: K, subscribers: NonEmptyVec<(S, u64)>) -> Result<(), Fault>
     where
@@ -168,7 +168,7 @@ impl<K: Ord + Drop, S: Ord + Drop> Tracker<K, S> {
     }
 
     /// Removes the subscribers that aren't kept, and then the keys that have none. These are
-    /// answered, in their order. Where memory is wanting, nothing changes.
+    /// answered, in their order. Where memory is refused, nothing changes.
     pub fn retain<Q: Predicate<K, S>>(&mut self, keep: &Q) -> Result<Vec<K>, Fault>
     where
         K: Clone,
@@ -204,7 +204,7 @@ impl<K: Ord + Drop, S: Ord + Drop> Tracker<K, S> {
     }
 
     /// Removes the named subscribers of a key, and the key if it has no other. The others are
-    /// answered, in their order. Where memory is wanting, nothing changes.
+    /// answered, in their order. Where memory is refused, nothing changes.
     ///
     /// The key is cloned, so that it is looked up once; a clone is to equal its source.
     pub fn remove_delivered(
@@ -353,7 +353,7 @@ fn serve<K: Ord + Drop, S: Ord + Clone + Drop>(
                 }
             }
         }
-        // Of a vacant entry that is let go nothing says that its map is as it was.
+        // Of a vacant entry that is dropped nothing says that its map is as it was.
         Entry::Vacant(place) => {
             drop(place.insert_entry(Subscribers::new(alloc)).remove());
             Ok(None)

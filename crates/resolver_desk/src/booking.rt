@@ -80,7 +80,7 @@ impl<K: Drop, S: Drop, M: Drop, Q: Drop> Book<K, S, M, Q> {
         }));
     }
 
-    /// Books a take. Where memory is wanting, nothing changes.
+    /// Books a take. Where memory is refused, nothing changes.
     pub(crate) fn take(&mut self, message: Message<K, S, M, Q>) -> Result<(), AllocError>
         ensures ok { OnOk result
             (book_of self.new ≡ with_call (Take (told_of message)) (book_of self.old)) }

@@ -105,7 +105,7 @@ impl<
     ///
     /// In a recorded desk `handle` is the number of the handle that puts, or none where it has put
     /// nothing so far; it then gets the next number, which is answered. Any number is booked.
-    /// Where memory or a number is wanting, nothing changes, and the message is dropped. A desk that
+    /// Where memory or a number is refused, nothing changes, and the message is dropped. A desk that
     /// isn't recorded takes memory only for what waits, and a closed one takes none.
     pub fn put(
         &mut self,
@@ -153,7 +153,7 @@ impl<
     }
 
     /// Takes the first message that is ready. The first that waits then moves into its room. In a
-    /// recorded desk that takes memory; where it is wanting, nothing changes.
+    /// recorded desk that takes memory; where it is refused, nothing changes.
     pub fn take(&mut self) -> Result<Option<Message<K, S, M, Q>>, Fault>
         requires keys_clone { (x y : K) → K.is_clone x y → y ≡ x }
         requires subscribers_clone { (x y : S) → S.is_clone x y → y ≡ x }
@@ -217,7 +217,7 @@ impl<
 }
 
 /// Places a message, and books its put by this handle where there is a book. Says whether the ready
-/// list had room, and the number of the handle. Where memory or a number is wanting, nothing changes.
+/// list had room, and the number of the handle. Where memory or a number is refused, nothing changes.
 fn post<
     K: Ord + Hash + Clone + Drop,
     S: Ord + Clone + Drop,
@@ -308,7 +308,7 @@ fn prepare<K: Clone + Drop, S: Clone + Drop, M: Metadata + Drop, Q: Clone + Drop
     Ok((number, next, copy))
 }
 
-/// Books a take of this message, where there is a book. Where memory is wanting, nothing changes.
+/// Books a take of this message, where there is a book. Where memory is refused, nothing changes.
 fn note_take<K: Clone + Drop, S: Clone + Drop, M: Metadata + Drop, Q: Clone + Drop>(
     book: &mut Option<Book<K, S, M, Q>>,
     front: &Message<K, S, M, Q>,
@@ -351,7 +351,7 @@ fn feedback(is_ok: bool) -> Feedback
 }
 
 /// Places a message: last in the ready list where it has room, else with what waits. Says whether
-/// it had. Where memory is wanting, nothing changes.
+/// it had. Where memory is refused, nothing changes.
 fn place<
     K: Ord + Hash + Clone + Drop,
     S: Ord + Clone + Drop,

@@ -82,7 +82,7 @@ impl<
         let _count = self.batch.len();
     }
 
-    /// Takes a message. Where memory is wanting, nothing changes, and the message is dropped.
+    /// Takes a message. Where memory is refused, nothing changes, and the message is dropped.
     ///
     /// A fetch joins the one of its key that waits: new subscribers go last, those that are there
     /// keep their mark, and what else is said of both merges. A new key goes last. A test prunes

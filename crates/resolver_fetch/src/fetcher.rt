@@ -304,7 +304,7 @@ impl<K: Ord + Drop, P: Ord + Drop> Fetcher<K, P> {
     }
 
     /// Takes these peers in place of the latest set. Those that stay keep their scores. Where
-    /// memory is wanting, nothing changes. It takes time linear in the peers, times a logarithm.
+    /// memory is refused, nothing changes. It takes time linear in the peers, times a logarithm.
     pub fn reconcile(&mut self, peers: Vec<P>) -> Result<(), Fault>
         requires closed { is_some self.old.scan ≡ false }
         ensures ok { OnOk result
@@ -318,7 +318,7 @@ impl<K: Ord + Drop, P: Ord + Drop> Fetcher<K, P> {
         Ok(())
     }
 
-    /// Takes these peers as the ones that are blocked. Where memory is wanting, nothing changes.
+    /// Takes these peers as the ones that are blocked. Where memory is refused, nothing changes.
     /// It takes time linear in the peers, times a logarithm.
     pub fn set_blocked(&mut self, peers: Vec<P>) -> Result<(), Fault>
         requires closed { is_some self.old.scan ≡ false }
@@ -332,7 +332,7 @@ impl<K: Ord + Drop, P: Ord + Drop> Fetcher<K, P> {
         Ok(())
     }
 
-    /// Has a key wait, which may be asked for at once. Where memory is wanting, nothing changes.
+    /// Has a key wait, which may be asked for at once. Where memory is refused, nothing changes.
     ///
     /// The key is cloned; clones are to equal their sources.
     #[inline]
@@ -353,7 +353,7 @@ impl<K: Ord + Drop, P: Ord + Drop> Fetcher<K, P> {
     }
 
     /// Has a key wait until the retry delay is over, and counts that it is tried once more. Where
-    /// memory is wanting, nothing changes.
+    /// memory is refused, nothing changes.
     ///
     /// The key is cloned; clones are to equal their sources.
     pub fn add_retry(&mut self, key: K, now: u128) -> Result<(), Fault>
@@ -374,7 +374,7 @@ impl<K: Ord + Drop, P: Ord + Drop> Fetcher<K, P> {
     }
 
     /// Limits the peers that may be asked for a key to these and those that were given before.
-    /// Where memory is wanting, nothing changes. It takes time linear in all of these targets, times
+    /// Where memory is refused, nothing changes. It takes time linear in all of these targets, times
     /// a logarithm.
     ///
     /// The names are cloned; clones are to equal their sources.

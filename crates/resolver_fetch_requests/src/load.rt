@@ -61,7 +61,7 @@ impl<P: Ord + Drop> Load<P> {
         self.count(peer) >= u64::from(self.limit.get())
     }
 
-    /// A peer has one more. Says whether it is full now and was not before. Where memory is wanting,
+    /// A peer has one more. Says whether it is full now and was not before. Where memory is refused,
     /// nothing changes.
     pub fn add(&mut self, peer: P) -> Result<bool, Fault>
         requires room { counted P.cmp self.old.counts peer + 1 < 2 ^ 64 }

@@ -100,7 +100,7 @@ impl<K: Ord + Drop, P: Drop> Requests<K, P> {
         Some((*id, request))
     }
 
-    /// Puts a request at its place. Where memory is wanting, nothing changes.
+    /// Puts a request at its place. Where memory is refused, nothing changes.
     ///
     /// The key is cloned; clones are to equal their sources.
     pub fn insert(&mut self, id: ID, request: Request<K, P>) -> Result<(), Fault>
@@ -138,7 +138,7 @@ impl<K: Ord + Drop, P: Drop> Requests<K, P> {
         Some(request)
     }
 
-    /// Lets the requests go whose keys aren't kept. `keep` is pure.
+    /// Drops the requests whose keys aren't kept. `keep` is pure.
     pub fn retain<F: Fn(&K) -> bool>(&mut self, keep: F)
         requires { F.IsAlwaysCallable keep }
         ensures kept { (test : K → Bool) → AnswersBy F.Fn keep test

@@ -27,7 +27,7 @@ pub struct Cursor<K: Ord, P: Ord> {
 }
 
 impl<K: Ord + Clone + Drop, P: Ord + Clone + Drop> Cursor<K, P> {
-    /// Notes that a peer was tried for the key in vain. Where memory is wanting, nothing changes.
+    /// Notes that a peer was tried for the key in vain. Where memory is refused, nothing changes.
     pub fn note(&mut self, peer: &P, reason: Reason) -> Result<(), Fault>
     where
         requires keys_clone { (x y : K) → K.is_clone x y → y ≡ x }
@@ -44,7 +44,7 @@ impl<K: Ord + Clone + Drop, P: Ord + Clone + Drop> Cursor<K, P> {
     }
 
     /// Notes that a peer was tried for the key in vain, and has it left no more. Where memory is
-    /// wanting, nothing changes.
+    /// refused, nothing changes.
     pub fn fail(&mut self, peer: &P, reason: Reason) -> Result<(), Fault>
     where
         requires keys_clone { (x y : K) → K.is_clone x y → y ≡ x }
@@ -67,7 +67,7 @@ impl<K: Ord + Clone + Drop, P: Ord + Clone + Drop> Cursor<K, P> {
 }
 
 impl<K: Ord + Drop, P: Ord + Drop> Cursor<K, P> {
-    /// What it tries. The rest is let go.
+    /// What it tries. The rest is dropped.
     pub fn into_trying(self) -> Trying<K, P>
         ensures { result ≡ self.trying }
     {
@@ -82,7 +82,7 @@ impl<K: Ord + Drop, P: Ord + Drop> Cursor<K, P> {
         trying
     }
 
-    /// What it tried in vain. The rest is let go.
+    /// What it tried in vain. The rest is dropped.
     pub fn into_trail(self) -> Trail<K, P>
         ensures { result ≡ self.trail }
     {
@@ -112,14 +112,14 @@ impl<K: Ord + Drop, P: Ord + Drop> Cursor<K, P> {
     }
 }
 
-/// Has a place hold this. What it held is let go whole.
+/// Has a place hold this. What it held is dropped whole.
 pub fn keep<T: Drop>(place: &mut Option<T>, value: T)
     ensures { place.new ≡ Some value }
 {
     drop(place.replace(value));
 }
 
-/// Puts the request that a scan sent. Where memory is wanting, nothing changes.
+/// Puts the request that a scan sent. Where memory is refused, nothing changes.
 pub fn put_request<K: Ord + Clone + Drop, P: Ord + Drop>(
     requests: &mut Requests<K, P>,
     cursor: &Cursor<K, P>,

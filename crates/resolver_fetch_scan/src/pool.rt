@@ -122,7 +122,7 @@ impl<P: Ord + Drop> Pool<P> {
         }
     }
 
-    /// The peer is left no more. Where memory is wanting, nothing changes.
+    /// The peer is left no more. Where memory is refused, nothing changes.
     pub fn forget(&mut self, peer: &P) -> Result<(), Fault>
         ensures ok { OnOk result
             (self.new ≡ record self.old { left = apart_from P.cmp peer.now self.old.left }) }

@@ -29,7 +29,7 @@ pub enum Step<P> {
 }
 
 /// What an answer means to a scan that tries a key and expects something. One that it doesn't
-/// expect, or a number out of range, is refused. Memory may be wanting only where it is taken.
+/// expect, or a number out of range, is refused. Memory may be refused only where it is taken.
 pub fn step_of<K, P: Ord + Clone + Drop>(
     trying: &Trying<K, P>,
     expected: &Expected<P>,

@@ -87,7 +87,7 @@ impl<P: Ord + Drop> Targets<P> {
     }
 
     /// Puts those of these peers last, in their order, that aren't there yet. Where memory is
-    /// wanting, nothing changes. It takes time linear in both lengths, times a logarithm.
+    /// refused, nothing changes. It takes time linear in both lengths, times a logarithm.
     pub fn join(&mut self, peers: Vec<P>) -> Result<(), AllocError>
     where
         P: Clone,

@@ -122,7 +122,7 @@ impl<K: Ord + Drop, P: Drop> Trail<K, P> {
         self.peers.clear();
     }
 
-    /// Notes a try. Where memory is wanting, nothing changes.
+    /// Notes a try. Where memory is refused, nothing changes.
     pub fn push(&mut self, key: K, peer: P, reason: Reason) -> Result<(), Fault>
     where
         K: Clone,
@@ -183,7 +183,7 @@ impl<K: Ord + Drop, P: Drop> Trail<K, P> {
     }
 }
 
-/// Notes that a peer was tried for a key. Where memory is wanting, the same peers are named.
+/// Notes that a peer was tried for a key. Where memory is refused, the same peers are named.
 fn note<K: Ord + Drop, P: Drop>(
     alloc: Global,
     peers: &mut BTreeMap<K, Vec<P>>,

@@ -84,7 +84,7 @@ impl<K, P: Ord + Drop> Trying<K, P> {
         self.pool.is_last(peer)
     }
 
-    /// The peer is left no more. Where memory is wanting, nothing changes.
+    /// The peer is left no more. Where memory is refused, nothing changes.
     pub fn forget(&mut self, peer: &P) -> Result<(), Fault>
         ensures ok { OnOk result (self.new
             ≡ record self.old { left = apart_from P.cmp peer.now self.old.left }) }

@@ -125,7 +125,7 @@ impl<K: Ord + Drop> Pending<K> {
         self.waiter = Waiter::Clear;
     }
 
-    /// Lets the keys go that aren't kept. `keep` is pure.
+    /// Drops the keys that aren't kept. `keep` is pure.
     pub fn retain<F: Fn(&K) -> bool>(&mut self, keep: F)
         requires { F.IsAlwaysCallable keep }
         ensures kept { (test : K → Bool) → AnswersBy F.Fn keep test
@@ -137,7 +137,7 @@ impl<K: Ord + Drop> Pending<K> {
         self.waiter = Waiter::Clear;
     }
 
-    /// Has a key wait at this place, where it doesn't wait yet. Where memory is wanting, nothing
+    /// Has a key wait at this place, where it doesn't wait yet. Where memory is refused, nothing
     /// changes.
     ///
     /// The key is cloned; clones are to equal their sources.

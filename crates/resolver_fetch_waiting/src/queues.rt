@@ -116,7 +116,7 @@ impl<K: Ord> Queues<K> {
 }
 
 impl<K: Ord + Drop> Queues<K> {
-    /// Has a key wait at this place, where it doesn't wait yet. Where memory is wanting, nothing
+    /// Has a key wait at this place, where it doesn't wait yet. Where memory is refused, nothing
     /// changes.
     ///
     /// The key is cloned; clones are to equal their sources.
@@ -150,7 +150,7 @@ impl<K: Ord + Drop> Queues<K> {
         }
     }
 
-    /// Lets the keys go that aren't kept. `keep` is pure.
+    /// Drops the keys that aren't kept. `keep` is pure.
     pub fn retain<F: Fn(&K) -> bool>(&mut self, keep: F)
         requires { F.IsAlwaysCallable keep }
         ensures kept { (test : K → Bool) → AnswersBy F.Fn keep test

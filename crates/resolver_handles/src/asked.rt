@@ -16,7 +16,7 @@ pub trait Asked<K, S, M> {
     /// How it stands in a message.
     ghost item: { Self → Item K S M };
 
-    /// Makes it what stands in a message. Where memory is wanting, it is dropped.
+    /// Makes it what stands in a message. Where memory is refused, it is dropped.
     fn into_item(self, alloc: Global) -> Result<FetchKey<K, S, M>, AllocError>
         ensures { IfOk result (λ made. item_of made ≡ item self) };
 }

@@ -1,4 +1,4 @@
-//! The handles of resolvers: each call puts one message, which asks for keys or lets subscribers go.
+//! The handles of resolvers: each call puts one message, which asks for keys or drops subscribers.
 //!
 //! `mailbox` has the handle of an engine, and `resolver` that of an actor over an opaque source.
 //! `Asked` says how what is asked for stands in a message. `ask`, `ask_all` and `retain` put it.

@@ -68,7 +68,7 @@ where
     sender.enqueue(Message::Retain(keep))
 }
 
-/// Puts a message of the fetches that were made. Where memory was wanting for these, the answer is
+/// Puts a message of the fetches that were made. Where memory was refused for these, the answer is
 /// Closed on a marked share, and `OutOfMemory` on any other.
 fn put<K, S, M, Q, N, R>(
     sender: &mut Sender<K, S, M, Q, N, R>,

@@ -42,7 +42,7 @@ pub(super) fn merged<K: Clone + Drop, S: Ord + Clone + Drop, M: Metadata + Drop>
 }
 
 /// Puts a fetch into the batch: into the one of its key, or last. What was there before is
-/// answered with its place, or nothing where the key is new. Where memory is wanting, nothing
+/// answered with its place, or nothing where the key is new. Where memory is refused, nothing
 /// changes.
 pub(super) fn put<K: Ord + Clone + Drop, S: Ord + Clone + Drop, M: Metadata + Drop>(
     alloc: Global,
@@ -75,7 +75,7 @@ pub(super) fn put<K: Ord + Clone + Drop, S: Ord + Clone + Drop, M: Metadata + Dr
     Ok(Some((place, was)))
 }
 
-/// Makes a place for a new key, and room for its fetch. Where memory is wanting, there is no place.
+/// Makes a place for a new key, and room for its fetch. Where memory is refused, there is no place.
 fn make_place<K: Ord + Clone + Drop, S, M>(
     batch: &mut Vec<FetchKey<K, S, M>>,
     places: &mut Places<K>,
@@ -94,7 +94,7 @@ fn make_place<K: Ord + Clone + Drop, S, M>(
     places.insert(key.clone()?)
 }
 
-/// Puts some fetches into the batch, one after another. Where memory is wanting, what was put is
+/// Puts some fetches into the batch, one after another. Where memory is refused, what was put is
 /// taken back.
 pub fn put_all<K: Ord + Clone + Drop, S: Ord + Clone + Drop, M: Metadata + Drop>(
     alloc: Global,

@@ -21,7 +21,7 @@ pub struct FetchKey<K, S, M> {
 
 impl<K: Drop, S: Drop, M: Default> FetchKey<K, S, M> {
     /// A fetch of this key for its one subscriber, of which nothing else is said. Where memory is
-    /// wanting, the fetch is dropped.
+    /// refused, the fetch is dropped.
     pub fn from_fetch(alloc: Global, fetch: Fetch<K, S>) -> Result<Self, AllocError>
         ensures key { IfOk result (λ item. item.key ≡ fetch.key) }
         ensures one { IfOk result

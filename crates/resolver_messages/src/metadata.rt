@@ -16,7 +16,7 @@ pub trait Metadata {
     fn copy(&self) -> Result<Self, AllocError>
         ensures same { IfOk result (λ copy. copy ≡ self.now) };
 
-    /// Takes what a later fetch of the key says. Where memory is wanting, nothing changes.
+    /// Takes what a later fetch of the key says. Where memory is refused, nothing changes.
     fn merge(&mut self, alloc: Global, later: Self) -> Result<(), AllocError>
         ensures ok { OnOk result (self.new ≡ merged self.old later) }
         ensures err { OnErr result (self.new ≡ self.old) };

@@ -49,7 +49,7 @@ impl<K: Ord + Drop> Places<K> {
         self.by_key.get(key).copied()
     }
 
-    /// Puts a new key last. Where memory is wanting, nothing changes.
+    /// Puts a new key last. Where memory is refused, nothing changes.
     pub(super) fn insert(&mut self, key: K) -> Result<(), AllocError>
         requires absent { lookup (is_at (K.cmp key)) self.old ≡ None }
         ensures placed { OnOk result ((keys : List K)

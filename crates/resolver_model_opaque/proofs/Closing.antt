@@ -38,7 +38,7 @@ use Rattle.resolver_model_opaque.specs.OpaquePhases.{Judged, Judging}
 use Rattle.resolver_model_opaque.specs.OpaqueStages.{Kept, resting}
 use Rattle.resolver_model_opaque.specs.OpaqueByPhase.{phase_in, phase_of}
 use Rattle.resolver_model_opaque.specs.OpaqueTables.{has_cached, AreCached, Agree, rows_of, row_of as code_row_of, handed_of, machine_with}
-use Rattle.resolver_model_opaque.specs.OpaqueFound.{IsRefusal, flagged, handed_again}
+use Rattle.resolver_delivery.specs.Again.{IsRefusal, flagged, handed_again}
 use Rattle.resolver_model_opaque.specs.OpaqueSteps.{onto, Goes}
 use Rattle.resolver_model.proofs.Mapped.{insert_entry-seen, remove_entry-seen}
 use Rattle.resolver_model_opaque.proofs.Joined.{same_found, rows-found, rows-set_demand, rows-set_keys, rows-removed}
@@ -469,40 +469,6 @@ module _ {K V S : Type 0} (cmp : K → K → Ordering) where
   cached-flagged true key d cached = cached-changed (is_at (cmp key)) d.keys (λ e. with_response (option_map accepted e.response) e) (λ e has. has-flagged e.number e.response has) cached
   cached-flagged false key d cached = cached
 
-  -- what is found after the flag was set
-  pub response-flagged : (accepts : Bool) (key : K) (d : Entries K S V) (r : Response V (Unit {0})) → response_of cmp d key ≡ Some r
-      → response_of cmp (flagged cmp accepts key d) key ≡ Some (record r { accepted = accepts || r.accepted })
-  response-flagged false key d r is = is
-  response-flagged true key d r is = at (lookup (is_at (cmp key)) d.keys) refl is
-    where
-      at : (o : Option (Kept V)) → lookup (is_at (cmp key)) d.keys ≡ o → option_and_then (λ e. e.response) o ≡ Some r → response_of cmp (flagged cmp true key d) key ≡ Some (accepted r)
-      at None found is = cc
-      at (Some y) found is =
-          ap (λ p. option_and_then (λ e. e.response) (lookup (is_at (cmp key)) (changed_at (is_at (cmp key)) p (λ e. with_response (option_map accepted e.response) e) d.keys))) found
-          ∙ (ap (option_and_then (λ e. e.response)) (lookup-set_self (is_at (cmp key)) d.keys y (with_response (option_map accepted y.response) y) found)
-          ∙ ap (option_map accepted) is)
-
-  pub number-flagged : (accepts : Bool) (key : K) (d : Entries K S V) → number_of cmp d key ≡ None → number_of cmp (flagged cmp accepts key d) key ≡ None
-  number-flagged false key d is = is
-  number-flagged true key d is = at (lookup (is_at (cmp key)) d.keys) refl is
-    where
-      at : (o : Option (Kept V)) → lookup (is_at (cmp key)) d.keys ≡ o → option_and_then (λ e. e.number) o ≡ None → number_of cmp (flagged cmp true key d) key ≡ None
-      at None found is = ap (λ p. option_and_then (λ e. e.number) (lookup (is_at (cmp key)) (changed_at (is_at (cmp key)) p (λ e. with_response (option_map accepted e.response) e) d.keys))) found ∙ (ap (option_and_then (λ e. e.number)) found)
-      at (Some y) found is =
-          ap (λ p. option_and_then (λ e. e.number) (lookup (is_at (cmp key)) (changed_at (is_at (cmp key)) p (λ e. with_response (option_map accepted e.response) e) d.keys))) found
-          ∙ (ap (option_and_then (λ e. e.number)) (lookup-set_self (is_at (cmp key)) d.keys y (with_response (option_map accepted y.response) y) found)
-          ∙ is)
-
-  pub state-flagged : (accepts : Bool) (key : K) (d : Entries K S V) → state_of cmp (flagged cmp accepts key d) key ≡ state_of cmp d key
-  state-flagged false key d = refl
-  state-flagged true key d = at (lookup (is_at (cmp key)) d.keys) refl
-    where
-      at : (o : Option (Kept V)) → lookup (is_at (cmp key)) d.keys ≡ o → state_of cmp (flagged cmp true key d) key ≡ option_map (λ (e : Kept V). e.state) o
-      at None found = ap (λ p. option_map (λ (e : Kept V). e.state) (lookup (is_at (cmp key)) (changed_at (is_at (cmp key)) p (λ e. with_response (option_map accepted e.response) e) d.keys))) found ∙ ap (option_map (λ (e : Kept V). e.state)) found
-      at (Some y) found =
-          ap (λ p. option_map (λ (e : Kept V). e.state) (lookup (is_at (cmp key)) (changed_at (is_at (cmp key)) p (λ e. with_response (option_map accepted e.response) e) d.keys))) found
-          ∙ ap (option_map (λ (e : Kept V). e.state)) (lookup-set_self (is_at (cmp key)) d.keys y (with_response (option_map accepted y.response) y) found)
-
   pub keys-redelivered : (delivery : Delivery K S) (d : Entries K S V) → keys_of (redelivered cmp delivery d).keys ≡ keys_of d.keys
   keys-redelivered delivery d = at (response_of cmp d delivery.key)
     where
@@ -520,28 +486,3 @@ module _ {K V S : Type 0} (cmp : K → K → Ordering) where
       at None found is = cc
       at (Some y) found is =
           subst (λ e. AreCached e.keys) (sym (redelivered-at cmp delivery d y r found is)) (cached-set (is_at (cmp delivery.key)) d.keys (numbered d.next y) cached (caches y is))
-
-pub some-is : {A : Type 0} (o : Option A) → IsSome o → (x : A) × (o ≡ Some x)
-some-is {A} None is = absurd (none is)
-  where
-    none : IsSome {T = A} None → ⊥
-    none is = cc
-some-is (Some x) is = (x, refl)
-
-pub holds-at : {A : Type 0} (o : Option A) (P : A → Type 0) (x : A) → o ≡ Some x → P x → IfSome o P
-holds-at o P x is holds = rw is holds
-
-pub some-same : {A : Type 0} (x y : A) → Some x ≡ Some y → x ≡ y
-some-same x y is = cc
-
-pub next-flagged : {K V S : Type 0} (cmp : K → K → Ordering) (accepts : Bool) (key : K) (d : Entries K S V) → (flagged cmp accepts key d).next ≡ d.next
-next-flagged cmp true key d = refl
-next-flagged cmp false key d = refl
-
-pub told-same : {K V S : Type 0} (number number' name name' : ℕ) (delivery delivery' : Delivery K S) (value value' : V) → number ≡ number' → name ≡ name' → delivery ≡ delivery' → value ≡ value'
-    → Deliver number name delivery value ≡ Deliver number' name' delivery' value'
-told-same number number' name name' delivery delivery' value value' a b c d = rw (a, b, c, d) refl
-
-pub some-none : {A : Type 0} (o : Option A) (x : A) → o ≡ Some x → None ≡ o → ⊥
-some-none None x some none = cc
-some-none (Some y) x some none = cc

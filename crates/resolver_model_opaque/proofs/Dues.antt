@@ -16,9 +16,11 @@ use Rattle.resolver_priority_set.proofs.Priorities.{is_of-same, is_of-other, the
 use Rattle.resolver_base.specs.declared.fault.Fault.{Fault}
 use Rattle.resolver_types.specs.declared.delivery.Delivery.{Delivery}
 use Rattle.resolver_types.specs.declared.outcome.Outcome.{Outcome}
-use Rattle.std.specs.Prelude.{Result, Ok, Err, option_and_then, IfOk, ◌==◌}
+use Rattle.std.specs.Prelude.{Result, Ok, Err, option_and_then, IfOk, IsSome, ◌==◌}
 use Rattle.std.specs.Result.{OnOk, OnErr}
-use Rattle.resolver_delivery.specs.Entries.{Numbered, accepted, begun_again, changed, changed_at, completed, completed_from, completion_of, delivered, ended, fresh as fresh_entry, is_live, is_number, number_of, numbered, redelivered, response_changed, response_of, state_of, with_response, with_state}
+use Rattle.resolver_delivery.specs.Again.{flagged, handed_again}
+use Rattle.resolver_delivery.proofs.Cached.{caches-some, flagged-state}
+use Rattle.resolver_delivery.specs.Entries.{Numbered, accepted, begun_again, changed, changed_at, completed, completed_from, completion_of, delivered, ended, fresh as fresh_entry, is_live, is_number, number_of, numbered, redelivered, response_of, state_of, with_response, with_state}
 use Rattle.resolver_delivery.specs.declared.entry.Open.{Open}
 use Rattle.resolver_delivery.specs.declared.entry.Response.{Response}
 use Rattle.resolver_delivery.specs.declared.completion.Completion.{Completion}
@@ -236,17 +238,16 @@ module _ {K V S : Type 0} {cmp : K → K → Ordering} (o : IsTotalOrder cmp) (l
       (λ f kept. rests-at delivery.key f (Some d.next) (Some (record { name = d.next; value = value; context = tt; accepted = false })) asked kept))
   due-delivered delivery value e (Err fault) asked ok err = rw err l
 
-  pub due-redelivered : (delivery : Delivery K S) (e : Numbered K S V (Unit {0}) Stage) (result : Result ℕ Fault) → IsAsked (state_of cmp d delivery.key)
-      → OnOk result (e ≡ redelivered cmp delivery d) → OnErr result (e ≡ d) → AreDue cmp retries e.keys
-  due-redelivered delivery e (Ok number) asked ok err = rw ok (at (response_of cmp d delivery.key))
+  pub due-redelivered : (delivery : Delivery K S) → IsAsked (state_of cmp d delivery.key) → AreDue cmp retries (redelivered cmp delivery d).keys
+  due-redelivered delivery asked = at (response_of cmp d delivery.key)
     where
       at : (p : Option (Response V (Unit {0}))) → AreDue cmp retries (begun_again cmp delivery p d).keys
       at None = l
       at (Some r) = due-touched o laws delivery.key retries d.keys l (λ e. numbered d.next e) (λ e. refl) (λ f kept. rests-at delivery.key f (Some d.next) f.1.response asked kept)
-  due-redelivered delivery e (Err fault) asked ok err = rw err l
 
-  pub due-accepted : (key : K) → AreDue cmp retries (response_changed cmp key accepted d).keys
-  due-accepted key = due-touched o laws key retries d.keys l (λ e. with_response (option_map accepted e.response) e) (λ e. refl) (λ f kept. rests-accepted f.1.state f.1.number f.1.response (subst Rests kept (l.rests key)))
+  pub due-flagged : (accepts : Bool) (key : K) → AreDue cmp retries (flagged cmp accepts key d).keys
+  due-flagged true key = due-touched o laws key retries d.keys l (λ e. with_response (option_map accepted e.response) e) (λ e. refl) (λ f kept. rests-accepted f.1.state f.1.number f.1.response (subst Rests kept (l.rests key)))
+  due-flagged false key = l
 
   pub due-completed : (number : ℕ) (verdict : Option Outcome) (e : Numbered K S V (Unit {0}) Stage) (result : Result (Completion K S (Unit {0})) Aborted) → (result, e) ≡ completed cmp d number verdict → AreDue cmp retries e.keys
   due-completed number verdict e result is = subst (λ e. AreDue cmp retries e.keys) (sym (ap (λ p. p.1) is)) (at (lookup (is_at (nat_cmp number)) d.going))
@@ -351,3 +352,12 @@ rested {K} {V} {S} cmp key due d idle = ap (λ es. record d { keys = es }) (at (
         ap (λ o. changed_at (is_at (cmp key)) o (with_state (stages.Waiting due)) (set_value (is_at (cmp key)) d.keys (with_response None e))) (lookup-set_self (is_at (cmp key)) d.keys e (with_response None e) is)
         ∙ (set-set (is_at (cmp key)) d.keys (with_response None e) (with_state (stages.Waiting due) (with_response None e))
         ∙ ap (λ (n : Option ℕ). set_value (is_at (cmp key)) d.keys (record { number = n; response = None; state = stages.Waiting due })) idle)
+
+-- Handing out again leaves each key at its stage, and so does what was noted before it was refused.
+pub due-handed : {K V S T : Type 0} {cmp : K → K → Ordering} (o : IsTotalOrder cmp) (laws : IsEquivalence (λ k l. is_eq (cmp k l))) (retries : List (ℕ × K)) (d : Numbered K S V (Unit {0}) Stage) → AreDue cmp retries d.keys
+    → (delivery : Delivery K S) (accepts : Bool) (e : Numbered K S V (Unit {0}) Stage) (result : Result T Fault) → IsAsked (state_of cmp d delivery.key) → IsSome (response_of cmp d delivery.key)
+    → OnOk result (e ≡ handed_again cmp delivery accepts d) → OnErr result (e ≡ flagged cmp accepts delivery.key d) → AreDue cmp retries e.keys
+due-handed {cmp} o laws retries d l delivery accepts e (Ok handed) asked cached ok err =
+    let x = caches-some cmp delivery.key d cached in
+    rw ok (due-redelivered o laws retries (flagged cmp accepts delivery.key d) (due-flagged o laws retries d l accepts delivery.key) delivery (rw (flagged-state cmp delivery.key d x accepts) asked))
+due-handed {cmp} o laws retries d l delivery accepts e (Err fault) asked cached ok err = rw err (due-flagged o laws retries d l accepts delivery.key)

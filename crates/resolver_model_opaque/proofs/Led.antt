@@ -16,7 +16,8 @@ use Rattle.resolver_types.specs.declared.delivery.Delivery.{Delivery}
 use Rattle.resolver_types.specs.declared.outcome.Outcome.{Outcome}
 use Rattle.std.specs.Prelude.{Result, Ok, Err}
 use Rattle.std.specs.Result.{OnOk, OnErr}
-use Rattle.resolver_delivery.specs.Entries.{Numbered, accepted, begun_again, changed_at, completed, completed_from, delivered, ended, fresh as fresh_entry, is_live, numbered, redelivered, response_changed, response_of, with_response, with_state}
+use Rattle.resolver_delivery.specs.Again.{flagged, handed_again}
+use Rattle.resolver_delivery.specs.Entries.{Numbered, accepted, begun_again, changed_at, completed, completed_from, delivered, ended, fresh as fresh_entry, is_live, numbered, redelivered, response_of, with_response, with_state}
 use Rattle.resolver_delivery.specs.declared.entry.Open.{Open}
 use Rattle.resolver_delivery.specs.declared.completion.Completion.{Completion}
 use Rattle.resolver_delivery.specs.declared.completion.Aborted.{Aborted}
@@ -549,16 +550,16 @@ module _ {K V S : Type 0} {cmp : K → K → Ordering} (o : IsTotalOrder cmp) (l
       rw ok (led-touched o laws next asked delivery.key (λ e. numbered d.next (with_response (Some (record { name = d.next; value = value; context = tt; accepted = false })) e)) d.keys (λ e. refl) l)
   led-delivered delivery value e (Err fault) ok err = rw err l
 
-  pub led-redelivered : (delivery : Delivery K S) (e : Numbered K S V (Unit {0}) Stage) (result : Result ℕ Fault) → OnOk result (e ≡ redelivered cmp delivery d) → OnErr result (e ≡ d) → IsLed cmp next asked e.keys
-  led-redelivered delivery e (Ok number) ok err = rw ok (at (response_of cmp d delivery.key))
+  pub led-redelivered : (delivery : Delivery K S) → IsLed cmp next asked (redelivered cmp delivery d).keys
+  led-redelivered delivery = at (response_of cmp d delivery.key)
     where
       at : (p : Option (Response V (Unit {0}))) → IsLed cmp next asked (begun_again cmp delivery p d).keys
       at None = l
       at (Some r) = led-touched o laws next asked delivery.key (λ e. numbered d.next e) d.keys (λ e. refl) l
-  led-redelivered delivery e (Err fault) ok err = rw err l
 
-  pub led-accepted : (key : K) → IsLed cmp next asked (response_changed cmp key accepted d).keys
-  led-accepted key = led-touched o laws next asked key (λ e. with_response (option_map accepted e.response) e) d.keys (λ e. refl) l
+  pub led-flagged : (accepts : Bool) (key : K) → IsLed cmp next asked (flagged cmp accepts key d).keys
+  led-flagged true key = led-touched o laws next asked key (λ e. with_response (option_map accepted e.response) e) d.keys (λ e. refl) l
+  led-flagged false key = l
 
   pub led-completed : (number : ℕ) (verdict : Option Outcome) (e : Numbered K S V (Unit {0}) Stage) (result : Result (Completion K S (Unit {0})) Aborted) → (result, e) ≡ completed cmp d number verdict → IsLed cmp next asked e.keys
   led-completed number verdict e result is = subst (λ e. IsLed cmp next asked e.keys) (sym (ap (λ p. p.1) is)) (at (lookup (is_at (nat_cmp number)) d.going))
@@ -574,3 +575,10 @@ module _ {K V S : Type 0} {cmp : K → K → Ordering} (o : IsTotalOrder cmp) (l
       at : (p : Option (Open K S (Unit {0}))) → IsLed cmp next asked (completed_from cmp d number verdict p).1.keys
       at None = l
       at (Some p) = open_at (is_live cmp d number p) p
+
+-- Handing out again leaves each key at its stage, and so does what was noted before it was refused.
+pub led-handed : {K V S T : Type 0} {cmp : K → K → Ordering} (o : IsTotalOrder cmp) (laws : IsEquivalence (λ k l. is_eq (cmp k l))) (next : ℕ) (asked : List (ℕ × K)) (d : Numbered K S V (Unit {0}) Stage) → IsLed cmp next asked d.keys
+    → (delivery : Delivery K S) (accepts : Bool) (e : Numbered K S V (Unit {0}) Stage) (result : Result T Fault) → OnOk result (e ≡ handed_again cmp delivery accepts d) → OnErr result (e ≡ flagged cmp accepts delivery.key d)
+    → IsLed cmp next asked e.keys
+led-handed {cmp} o laws next asked d l delivery accepts e (Ok handed) ok err = rw ok (led-redelivered o laws next asked (flagged cmp accepts delivery.key d) (led-flagged o laws next asked d l accepts delivery.key) delivery)
+led-handed {cmp} o laws next asked d l delivery accepts e (Err fault) ok err = rw err (led-flagged o laws next asked d l accepts delivery.key)

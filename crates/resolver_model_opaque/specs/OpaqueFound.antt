@@ -1,13 +1,8 @@
 -- What is found of the rows by the entries alone.
-use Rattle.std.specs.Prelude.{Bool, false, nat_lt, ◌^◌, if◌then◌else◌, ◌≡◌, ℕ, List, [], ◌∷◌, ◌++◌, Option, None, Some}
+use Rattle.std.specs.Prelude.{List, [], ◌∷◌, ◌++◌, Option, None, Some}
 use Rattle.std.specs.Map.{lookup, remove_entry}
 use Rattle.std.specs.BTreeMap.{is_at}
 use Rattle.std.specs.declared.cmp.Ordering.{Ordering}
-use Rattle.resolver_base.specs.declared.fault.Fault.{Fault}
-use Rattle.resolver_base.specs.declared.fault.Fault.TheVariants as faults
-use Rattle.resolver_types.specs.declared.delivery.Delivery.{Delivery}
-use Rattle.resolver_delivery.specs.Entries.{Numbered, accepted, redelivered, response_changed}
-use Rattle.resolver_model_opaque.specs.declared.phase.Stage.{Stage}
 use Rattle.resolver_model_opaque.specs.declared.effects.Effect.{Effect}
 use Rattle.resolver_model_opaque.specs.Opaque.{Row, called_off}
 use Rattle.resolver_model_opaque.specs.OpaquePhases.{Phase, Asked, Judged}
@@ -51,18 +46,3 @@ IsAskedPhase phase = ⊥
 abbrev pub IsAskedFor : {V S : Type 0} → Option (Row V S) → Type 0
 IsAskedFor None = ⊥
 IsAskedFor (Some row) = IsAskedPhase row.phase
-
-module _ {K S V : Type 0} (cmp : K → K → Ordering) where
-  -- the cached response is noted to be right, if it is
-  abbrev pub flagged : Bool → K → Numbered K S V (Unit {0}) Stage → Numbered K S V (Unit {0}) Stage
-  flagged accepts key d = if accepts then response_changed cmp key accepted d else d
-
-  -- the cached response once more, accepted or as it was
-  abbrev pub handed_again : Delivery K S → Bool → Numbered K S V (Unit {0}) Stage → Numbered K S V (Unit {0}) Stage
-  handed_again delivery accepts d = redelivered cmp delivery (flagged accepts delivery.key d)
-
--- why a delivery was refused: memory was wanting, or this next number is past the last
-abbrev pub IsRefusal : (next : ℕ) → Fault → Type 0
-IsRefusal next faults.OutOfMemory = Unit {0}
-IsRefusal next faults.Exhausted = nat_lt next (2 ^ 64) ≡ false
-IsRefusal next fault = ⊥

@@ -51,7 +51,7 @@ impl<K: Drop> ByAttempt<K> {
         self.table.get(attempt)
     }
 
-    /// The attempt leads to this key. Where memory is wanting, nothing changes.
+    /// The attempt leads to this key. Where memory is refused, nothing changes.
     pub fn insert(&mut self, attempt: u64, key: K) -> Result<(), Fault>
         ensures ok { OnOk result ((a : ℕ) → lookup (is_at (nat_cmp a)) self.new
             ≡ if is_at (nat_cmp attempt) a then Some key

@@ -1,10 +1,10 @@
 //! What is handed out, and what is ruled on it.
 
-ghost use Rattle.std.specs.Prelude.{◌≡◌, ◌<◌, ◌^◌, ◌++◌, ◌∷◌, [], None, IfErr, IfOk, IfSome, IsSome, OnOk};
+ghost use Rattle.std.specs.Prelude.{◌≡◌, ◌<◌, ◌^◌, ◌++◌, ◌∷◌, [], None, IfErr, IfSome, IsSome, OnOk};
 ghost use Rattle.std.specs.Map.{keys_of};
+ghost use Rattle.resolver_delivery.specs.Again.{IsRefusal, handed_again};
 ghost use Rattle.resolver_delivery.specs.Entries.{is_accepted, number_of, response_of, state_of};
 ghost use Rattle.resolver_model.specs.Verdicts.{ruling};
-ghost use Rattle.resolver_model_opaque.specs.OpaqueFound.{IsRefusal, flagged, handed_again};
 ghost use Rattle.resolver_model_opaque.specs.OpaqueTables.{AreCached};
 ghost use Rattle.resolver_model_opaque.specs.OpaqueStages.{IsAsked};
 ghost use Rattle.resolver_model_opaque.specs.declared.effects.Effect.TheVariants.{Deliver};
@@ -14,7 +14,6 @@ use crate::effects::Effect;
 use resolver_base::Fault;
 use resolver_model::ruling::{Ruling, rule_on};
 use resolver_types::{Delivery, Outcome};
-use std::alloc::AllocError;
 
 /// Hands the cached response out once more, accepted or not.
 pub fn hand_out_again<K: Ord + Clone + Drop, V: Clone + Drop, S: Clone + Drop>(
@@ -40,50 +39,14 @@ pub fn hand_out_again<K: Ord + Clone + Drop, V: Clone + Drop, S: Clone + Drop>(
     ensures cached { AreCached stages.old.entries.keys → AreCached stages.new.entries.keys }
     ensures only { IfErr result (λ fault. IsRefusal stages.old.entries.next fault) }
 {
-    note_accepted(stages, &delivery.key, accepted);
-    let Some(response) = stages.entries().response(&delivery.key) else {
-        unreachable!()
-    };
-    let name = response.name;
-    let (told, value) = match copies(&delivery, &response.value) {
-        Ok(copies) => copies,
-        Err(failed) => {
-            drop(delivery);
-            return Err(Fault::from(failed));
-        }
-    };
-    let number = match stages.redeliver(delivery) {
-        Ok(number) => number,
-        Err(fault) => {
-            drop((told, value));
-            return Err(fault);
-        }
-    };
+    let handed = stages.hand_out_again(delivery, accepted)?;
     effects.push(Effect::Deliver {
-        number,
-        response: name,
-        delivery: told,
-        value,
+        number: handed.number,
+        response: handed.response,
+        delivery: handed.delivery,
+        value: handed.value,
     })?;
     Ok(())
-}
-
-/// A copy of a delivery, and one of its value.
-pub fn copies<K: Clone + Drop, V: Clone + Drop, S: Clone + Drop>(
-    delivery: &Delivery<K, S>,
-    value: &V,
-) -> Result<(Delivery<K, S>, V), AllocError>
-    requires keys_clone { (x y : K) → K.is_clone x y → y ≡ x }
-    requires values_clone { (x y : V) → V.is_clone x y → y ≡ x }
-    requires subscribers_clone { (x y : S) → S.is_clone x y → y ≡ x }
-    ensures { IfOk result (λ copies. copies ≡ (delivery.now, value.now)) }
-{
-    let delivery = delivery.clone()?;
-    let Ok(value) = value.clone() else {
-        drop(delivery);
-        return Err(AllocError);
-    };
-    Ok((delivery, value))
 }
 
 /// The ruling on a verdict for a key. Whether its response was accepted is looked up only where the
@@ -102,21 +65,5 @@ pub fn ruling_of<K: Ord + Drop, V: Drop, S: Drop>(
         Some(Outcome::Resolved(_)) | Some(Outcome::Unresolved) | Some(Outcome::Ignored) => {
             rule_on(outcome, false)
         }
-    }
-}
-
-/// Notes that a key's cached response is right, if it is.
-fn note_accepted<K: Ord + Drop, V: Drop, S: Drop>(
-    stages: &mut Stages<K, S, V>,
-    key: &K,
-    accepted: bool,
-)
-    requires cached { IsSome (response_of K.cmp stages.old.entries key.now) }
-    ensures { stages.new ≡ record stages.old {
-      entries = flagged K.cmp accepted key.now stages.old.entries;
-    } }
-{
-    if accepted {
-        stages.accept_response(key);
     }
 }

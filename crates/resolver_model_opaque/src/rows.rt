@@ -133,7 +133,7 @@ fn call_off<K: Drop, V: Drop, S: Drop>(
     }
 }
 
-/// Lets these keys go.
+/// Drops these keys.
 pub fn forget_each<K: Ord + Drop, V: Drop, S: Drop>(stages: &mut Stages<K, S, V>, keys: Vec<K>)
     ensures { stages.new ≡ record stages.old {
       entries = record stages.old.entries {

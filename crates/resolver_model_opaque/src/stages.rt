@@ -5,7 +5,8 @@ ghost use Rattle.std.specs.BTreeMap.{is_at};
 ghost use Rattle.std.specs.Map.{keys_of, lookup};
 ghost use Rattle.std.specs.Option.{option_copied};
 ghost use Rattle.std.specs.Ordering.{is_eq, nat_cmp};
-ghost use Rattle.resolver_delivery.specs.Entries.{accepted, changed, completed, delivered, inserted, is_accepted, is_tracked, number_of, redelivered, refusal_at, removed, response_changed, response_of, state_of, with_state};
+ghost use Rattle.resolver_delivery.specs.Again.{IsRefusal, flagged, handed_again};
+ghost use Rattle.resolver_delivery.specs.Entries.{changed, completed, delivered, inserted, is_tracked, number_of, refusal_at, removed, response_of, state_of, with_state};
 ghost use Rattle.resolver_model_opaque.specs.declared.phase.Stage.TheVariants.{Asked};
 ghost use Rattle.resolver_model_opaque.specs.OpaqueByPhase.{asked_key, first_due};
 ghost use Rattle.resolver_model_opaque.specs.OpaqueOverdue.{by_due, due_of, first_key};
@@ -16,7 +17,7 @@ ghost use Rattle.resolver_base.specs.declared.fault.Fault.TheVariants.{OutOfMemo
 use crate::by_attempt::ByAttempt;
 use crate::phase::{Keys, Phase, Stage, listed_phase};
 use resolver_base::{Fault, Numbers};
-use resolver_delivery::{Aborted, Completion, Entries, Entry};
+use resolver_delivery::{Aborted, Completion, Entries, Entry, HandedOut};
 use resolver_priority_set::PrioritySet;
 use resolver_types::{Delivery, Outcome};
 use std::alloc::Global;
@@ -111,7 +112,7 @@ impl<K: Ord + Drop, S: Drop, V: Drop> Stages<K, S, V> {
     }
 
     /// A key that isn't there is asked for by the next attempt, which is answered. `Exhausted` is
-    /// answered where none is left; then, and where memory is wanting, nothing changes.
+    /// answered where none is left; then, and where memory is refused, nothing changes.
     pub fn ask(&mut self, key: K) -> Result<u64, Fault>
     where
         K: Clone,
@@ -142,7 +143,7 @@ impl<K: Ord + Drop, S: Drop, V: Drop> Stages<K, S, V> {
     }
 
     /// A key that is there is asked for again by the next attempt, which is answered. `Exhausted`
-    /// is answered where none is left; then, and where memory is wanting, nothing changes.
+    /// is answered where none is left; then, and where memory is refused, nothing changes.
     pub fn ask_again(&mut self, key: &K) -> Result<u64, Fault>
     where
         K: Clone,
@@ -167,7 +168,7 @@ impl<K: Ord + Drop, S: Drop, V: Drop> Stages<K, S, V> {
     }
 
     /// A key that was asked for last waits until this moment, and its response is forgotten. Where
-    /// memory is wanting, nothing changes.
+    /// memory is refused, nothing changes.
     pub fn wait(&mut self, key: &K, due: u128) -> Result<(), Fault>
     where
         K: Clone,
@@ -194,7 +195,7 @@ impl<K: Ord + Drop, S: Drop, V: Drop> Stages<K, S, V> {
         Ok(())
     }
 
-    /// Lets a key go. Its delivery in progress stays open, and is canceled.
+    /// Drops a key. Its delivery in progress stays open, and is canceled.
     pub fn remove(&mut self, key: &K)
         ensures { self.new ≡ record self.old { entries = removed K.cmp key.now self.old.entries } }
     {
@@ -202,7 +203,7 @@ impl<K: Ord + Drop, S: Drop, V: Drop> Stages<K, S, V> {
         leave_taken(&mut self.asked, &mut self.retries, key, &taken);
     }
 
-    /// Lets all keys go, and closes all deliveries. Numbers and attempts go on.
+    /// Drops all keys, and closes all deliveries. Numbers and attempts go on.
     pub fn clear(&mut self, alloc: Global)
         ensures { self.new ≡ record self.old {
           entries = record self.old.entries { keys = []; going = [] };
@@ -228,29 +229,39 @@ impl<K: Ord + Drop, S: Drop, V: Drop> Stages<K, S, V> {
         self.entries.deliver(delivery, (), value)
     }
 
-    /// Begins a delivery of the cached value once more, as the entries do.
-    pub fn redeliver(&mut self, delivery: Delivery<K, S>) -> Result<u64, Fault>
+    /// Begins a delivery of the cached value once more, accepted or as it was, as the entries do.
+    pub fn hand_out_again(
+        &mut self,
+        delivery: Delivery<K, S>,
+        accepted: bool,
+    ) -> Result<HandedOut<K, S, V>, Fault>
+    where
+        K: Clone,
+        S: Clone,
+        V: Clone,
+        requires keys_clone { (x y : K) → K.is_clone x y → y ≡ x }
+        requires subscribers_clone { (x y : S) → S.is_clone x y → y ≡ x }
+        requires values_clone { (x y : V) → V.is_clone x y → y ≡ x }
         requires cached { IsSome (response_of K.cmp self.old.entries delivery.key) }
         requires asked { IsAsked (state_of K.cmp self.old.entries delivery.key) }
         requires idle { number_of K.cmp self.old.entries delivery.key ≡ None }
-        ensures number { IfOk result (λ number. number ≡ self.old.entries.next) }
+        ensures handed { IfOk result (λ handed.
+            IfSome (response_of K.cmp self.old.entries delivery.key) (λ r. handed ≡ record {
+              number = self.old.entries.next;
+              response = r.name;
+              delivery = delivery;
+              value = r.value;
+            })) }
         ensures ok { OnOk result (self.new ≡ record self.old {
-          entries = redelivered K.cmp delivery self.old.entries;
+          entries = handed_again K.cmp delivery accepted self.old.entries;
         }) }
-        ensures err { OnErr result (self.new ≡ self.old) }
-        ensures only { IfErr result (λ fault. fault ≡ refusal_at self.old.entries.next) }
+        ensures room { OnOk result (self.old.entries.next < 2 ^ 64) }
+        ensures err { OnErr result (self.new ≡ record self.old {
+          entries = flagged K.cmp accepted delivery.key self.old.entries;
+        }) }
+        ensures only { IfErr result (IsRefusal self.old.entries.next) }
     {
-        self.entries.redeliver(delivery)
-    }
-
-    /// Notes that a key's cached response was judged to be right.
-    pub fn accept_response(&mut self, key: &K)
-        requires cached { IsSome (response_of K.cmp self.old.entries key.now) }
-        ensures { self.new ≡ record self.old {
-          entries = response_changed K.cmp key.now accepted self.old.entries;
-        } }
-    {
-        self.entries.accept_response(key);
+        self.entries.hand_out_again(delivery, accepted)
     }
 
     /// Closes a number, as the entries do.
@@ -269,7 +280,7 @@ impl<K: Ord + Drop, S: Drop, V: Drop> Stages<K, S, V> {
     }
 }
 
-/// The next attempt leads to this key, and is answered. Where none is left, or memory is wanting,
+/// The next attempt leads to this key, and is answered. Where none is left, or memory is refused,
 /// nothing changes.
 fn lead<K: Clone + Drop>(
     asked: &mut ByAttempt<K>,

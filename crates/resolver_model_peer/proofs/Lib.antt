@@ -19,7 +19,6 @@ pub mod PeerRunLaws
 pub mod IdsAreNew
 pub mod StaysAwake
 pub mod Refusals
-pub mod Cached
 pub mod PeerPoints
 pub mod PeerReplies
 pub mod JudgesByTheRun

@@ -1,9 +1,6 @@
 -- What a refusal that is handed on says of the outcome.
-use Rattle.std.proofs.Common.{◌≡◌, refl, ap, ℕ, ◌^◌, Bool, true, false, Result, Ok, Err, if◌then◌else◌}
-use Rattle.std.specs.Prelude.{IfErr, IfOk, IsErrAnd, nat_lt}
-use Rattle.resolver_base.specs.declared.fault.Fault.TheVariants.{OutOfMemory, Exhausted}
-use Rattle.resolver_delivery.specs.Entries.{refusal_at}
-use Rattle.resolver_model_peer.specs.Again.{IsRefusal}
+use Rattle.std.proofs.Common.{◌≡◌, ap, Result, Ok, Err}
+use Rattle.std.specs.Prelude.{IfErr, IfOk, IsErrAnd}
 
 module _ {T E : Type 0} where
   -- whatever is said of a value holds where there is none
@@ -24,11 +21,3 @@ module _ {T E : Type 0} where
   pub refused-with : (r : Result T E) (e : E) → IsErrAnd r (λ other. other ≡ e) → r ≡ Err e
   refused-with (Ok x) e is = absurd is
   refused-with (Err other) e is = ap Err is
-
--- what entries refuse with is a reason not to hand out
-pub refusal-is : (next : ℕ) → IsRefusal next (refusal_at next)
-refusal-is next = at (nat_lt next (2 ^ 64)) refl
-  where
-    at : (b : Bool) → nat_lt next (2 ^ 64) ≡ b → IsRefusal next (if b then OutOfMemory else Exhausted)
-    at true is = tt
-    at false is = is

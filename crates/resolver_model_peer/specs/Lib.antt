@@ -11,5 +11,4 @@ pub mod PeerLaws
 pub mod PeerDemandWorked
 pub mod PeerRunLaws
 pub mod PeerPoints
-pub mod Again
 pub mod Canceled

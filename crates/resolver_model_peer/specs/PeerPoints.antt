@@ -22,7 +22,7 @@ use Rattle.resolver_model_peer.specs.PeerRows.{Row, Phase, Judged}
 use Rattle.resolver_model_peer.specs.PeerRun.{Fed, effects_of}
 use Rattle.resolver_model_peer.specs.PeerStanding.{standing_of}
 use Rattle.resolver_model_peer.specs.PeerSteps.{Runs, is_passed_over}
-use Rattle.resolver_model_peer.specs.Peer.{Machine, Open, Status, Running, Failed, Effect, Deliver, Reply, Credit, Block, Event, PendingDue, Verdict, Served, Net, Input, Happens, Answers, answered, opening, payload_of, row_of, step}
+use Rattle.resolver_model_peer.specs.Peer.{Machine, Open, Status, Running, Failed, Effect, Ask, Deliver, Cancel, Produce, Reply, Credit, Block, Event, PendingDue, Verdict, Served, Net, Input, Happens, Answers, answered, opening, payload_of, row_of, step}
 
 abbrev pub is_running : Status → Bool
 is_running Running = true
@@ -36,17 +36,31 @@ is_judged_as number phase = false
 module _ {K S P : Type 0} where
   abbrev pub is_reply : Effect K S P → Bool
   is_reply (Reply peer message priority) = true
-  is_reply effect = false
+  is_reply (Ask question) = false
+  is_reply (Deliver number handed value) = false
+  is_reply (Cancel number) = false
+  is_reply (Produce serve key) = false
+  is_reply (Credit response source) = false
+  is_reply (Block response peer) = false
 
   abbrev pub is_delivery : Effect K S P → Bool
   is_delivery (Deliver number handed value) = true
-  is_delivery effect = false
+  is_delivery (Ask question) = false
+  is_delivery (Cancel number) = false
+  is_delivery (Produce serve key) = false
+  is_delivery (Reply peer message priority) = false
+  is_delivery (Credit response source) = false
+  is_delivery (Block response peer) = false
 
   -- a credit or a block
   abbrev pub is_payment : Effect K S P → Bool
   is_payment (Credit response source) = true
   is_payment (Block response peer) = true
-  is_payment effect = false
+  is_payment (Ask question) = false
+  is_payment (Deliver number handed value) = false
+  is_payment (Cancel number) = false
+  is_payment (Produce serve key) = false
+  is_payment (Reply peer message priority) = false
 
   -- whether events are taken: it runs, and no scan expects an answer
   abbrev pub takes_events : Machine K S P → Bool

@@ -5,7 +5,7 @@ use Rattle.resolver_types.specs.Demand.{Pair}
 use Rattle.resolver_model.specs.Account.{Handed, Change, Adds, Keeps, Judges, Empties, Leaves, pairs, account_of, nothing_asked}
 use Rattle.resolver_model_peer.specs.Parties.{Parties, names_of}
 use Rattle.resolver_model_peer.specs.PeerRows.{Row}
-use Rattle.resolver_model_peer.specs.Peer.{Machine, Fetch, Retain, PeerSet, Blocked, ActiveDue, PendingDue, Verdict, Served, Net, End, Input, Happens, Answers, Effect, Deliver, step}
+use Rattle.resolver_model_peer.specs.Peer.{Machine, Fetch, Retain, PeerSet, Blocked, ActiveDue, PendingDue, Verdict, Served, Net, End, Input, Happens, Answers, Effect, Ask, Deliver, Cancel, Produce, Reply, Credit, Block, step}
 
 -- an input, and its moment
 pub record Fed (K S P : Type 0) : Type 0 where
@@ -38,7 +38,12 @@ module _ {K S P : Type 0} where
 
   abbrev pub delivery_in : Effect K S P → Option (ℕ × Handed K S)
   delivery_in (Deliver number handed value) = Some (number, handed)
-  delivery_in effect = None
+  delivery_in (Ask question) = None
+  delivery_in (Cancel number) = None
+  delivery_in (Produce serve key) = None
+  delivery_in (Reply peer message priority) = None
+  delivery_in (Credit response source) = None
+  delivery_in (Block response peer) = None
 
   -- an input that was refused is not taken
   abbrev pub taken_if : Input K S P → Result (List (Effect K S P)) Fault → List (Change K S × List (ℕ × Handed K S))

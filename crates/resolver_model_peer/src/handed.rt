@@ -1,14 +1,12 @@
-//! What is handed out.
+//! What is handed out once more.
 
-ghost use Rattle.std.specs.Prelude.{◌≡◌, ◌<◌, ◌^◌, ◌++◌, ◌∷◌, [], None, IfErr, IfOk, IfSome, IsSome, OnOk};
-ghost use Rattle.resolver_base.specs.declared.fault.Fault.TheVariants.{OutOfMemory};
+ghost use Rattle.std.specs.Prelude.{◌≡◌, ◌<◌, ◌^◌, ◌++◌, ◌∷◌, [], None, IfErr, IfSome, IsSome, OnOk};
+ghost use Rattle.resolver_delivery.specs.Again.{IsRefusal, handed_again};
 ghost use Rattle.resolver_delivery.specs.Entries.{number_of, response_of};
-ghost use Rattle.resolver_model_peer.specs.Again.{IsRefusal, flagged, handed_again};
 ghost use Rattle.resolver_model_peer.specs.declared.effects.Effect.TheVariants.{Deliver};
 
 use crate::effects::Effect;
 use crate::inflight::Inflight;
-use bytes::Bytes;
 use resolver_base::Fault;
 use resolver_types::Delivery;
 
@@ -32,63 +30,12 @@ pub fn hand_out_again<K: Ord + Clone + Drop, P: Clone + Drop, S: Clone + Drop>(
     ensures room { OnOk result (entries.old.next < 2 ^ 64) }
     ensures only { IfErr result (IsRefusal entries.old.next) }
 {
-    note_accepted(entries, &delivery.key, accepted);
-    let Some(response) = entries.response(&delivery.key) else {
-        unreachable!()
-    };
-    let name = response.name;
-    let (told, value) = match copies(&delivery, &response.value) {
-        Ok(copies) => copies,
-        Err(fault) => {
-            drop(delivery);
-            return Err(fault);
-        }
-    };
-    let number = match entries.redeliver(delivery) {
-        Ok(number) => number,
-        Err(fault) => {
-            drop((told, value));
-            return Err(fault);
-        }
-    };
+    let handed = entries.hand_out_again(delivery, accepted)?;
     effects.push(Effect::Deliver {
-        number,
-        response: name,
-        delivery: told,
-        value,
+        number: handed.number,
+        response: handed.response,
+        delivery: handed.delivery,
+        value: handed.value,
     })?;
     Ok(())
-}
-
-/// Notes that a key's cached response is right, if it is.
-fn note_accepted<K: Ord + Drop, P: Drop, S: Drop>(
-    entries: &mut Inflight<K, P, S>,
-    key: &K,
-    accepted: bool,
-)
-    requires cached { IsSome (response_of K.cmp entries.old key.now) }
-    ensures { entries.new ≡ flagged K.cmp accepted key.now entries.old }
-{
-    if accepted {
-        entries.accept_response(key);
-    }
-}
-
-/// Copies of what is handed out.
-pub fn copies<K: Clone + Drop, S: Clone + Drop>(
-    delivery: &Delivery<K, S>,
-    value: &Bytes,
-) -> Result<(Delivery<K, S>, Bytes), Fault>
-    requires keys_clone { (x y : K) → K.is_clone x y → y ≡ x }
-    requires subscribers_clone { (x y : S) → S.is_clone x y → y ≡ x }
-    ensures delivery { IfOk result (λ copies. copies.0 ≡ delivery.now) }
-    ensures value { IfOk result (λ copies. copies.1 ≡ value.now) }
-    ensures only { IfErr result (λ fault. fault ≡ OutOfMemory) }
-{
-    let value = value.clone()?;
-    let Ok(delivery) = delivery.clone() else {
-        drop(value);
-        return Err(Fault::OutOfMemory);
-    };
-    Ok((delivery, value))
 }

@@ -143,7 +143,7 @@ pub fn asked_once<K: Ord, S: Ord, P: Ord>()
     ensures { AskedOnce (parties K.cmp S.cmp P.cmp) }
 {}
 
-/// In runs of the peer machine where memory may be wanting at any step, a machine stays awake while
+/// In runs of the peer machine where memory may be refused at any step, a machine stays awake while
 /// none is, and ids are new.
 pub fn run_laws<K: Ord, S: Ord, P: Ord>()
     ensures { RunLaws (parties K.cmp S.cmp P.cmp) }

@@ -7,12 +7,13 @@ ghost use Rattle.resolver_model.specs.Steps.{stops};
 ghost use Rattle.resolver_base.specs.declared.fault.Fault.TheVariants.{OutOfMemory};
 
 use resolver_base::{Fault, Numbers};
+use resolver_delivery::copies;
 use resolver_demand::subscribers::Tracker;
 use resolver_messages::FetchKey;
 use resolver_model::ruling::Ruling;
 use resolver_model_opaque::Stages;
 use resolver_model_opaque::effects::Effect;
-use resolver_model_opaque::handed::{copies, hand_out_again, ruling_of};
+use resolver_model_opaque::handed::{hand_out_again, ruling_of};
 use resolver_model_opaque::inputs::{Event, Input};
 use resolver_model_opaque::rows::{Row, call_off_all, call_off_each, forget_each, listed};
 use resolver_types::{Delivery, NonEmptyVec, Outcome, Predicate};
@@ -197,7 +198,7 @@ impl<K: Ord + Clone, V: Clone, S: Ord + Clone, Q: Predicate<K, S> + Drop> Actor<
     }
 
     /// The demanded keys, in their order: each stands in one row, so in one phase. Where memory is
-    /// wanting nothing has changed.
+    /// refused nothing has changed.
     pub fn rows(&self) -> Result<Vec<Row<K, S>>, Fault>
         requires keys_clone { (x y : K) → K.is_clone x y → y ≡ x }
         requires subscribers_clone { (x y : S) → S.is_clone x y → y ≡ x }

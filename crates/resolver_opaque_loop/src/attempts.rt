@@ -72,7 +72,7 @@ impl<V, F: Future<Output = Option<V>>> Attempts<F> {
         })
     }
 
-    /// Takes a look, under a number that no other has. Where memory is wanting, it is dropped.
+    /// Takes a look, under a number that no other has. Where memory is refused, it is dropped.
     pub(crate) fn add(&mut self, number: u64, future: F) -> Result<(), Fault>
         requires pollable { (future : F) → F.can_poll future }
         ensures only { IfErr result (λ fault. fault ≡ OutOfMemory) }

@@ -24,7 +24,7 @@ where
     fetcher: F,
     pub(crate) attempts: Attempts<F::Future>,
     pub(crate) judging: Judging<C>,
-    /// Whether memory was wanting outside the actor.
+    /// Whether memory was refused outside the actor.
     pub(crate) is_starved: bool,
 }
 
@@ -53,7 +53,7 @@ where
     C: Consumer<Key = K, Value = V, Subscriber = S> + Drop,
     C::Outcome: Drop,
 {
-    /// With no look under way, and nothing judged. Where memory is wanting, both are dropped.
+    /// With no look under way, and nothing judged. Where memory is refused, both are dropped.
     pub(crate) fn new(alloc: Global, fetcher: F, consumer: C) -> Result<Self, Fault>
         ensures only { IfErr result (λ fault. fault ≡ OutOfMemory) }
     {

@@ -39,7 +39,7 @@ fn poll_mail<
 
 /// An actor with all that it is fed from and that its effects go to.
 ///
-/// In each turn it looks for one input, in this order: the end, where memory was wanting outside the
+/// In each turn it looks for one input, in this order: the end, where memory was refused outside the
 /// actor; a value that was fetched; a verdict; a key that waits no longer; a message of the mailbox.
 /// A closed mailbox is the end.
 pub struct Loop<K, V, S, Q, R, W, F, C>

@@ -30,7 +30,7 @@ use Rattle.resolver_model_peer.specs.Peer.{freed, Deliver, Done, Machine, Open, 
 use Rattle.resolver_model_peer.specs.declared.effects.Effect.{Effect as Told}
 use Rattle.resolver_model_peer.specs.declared.effects.Effect.TheVariants as told
 use Rattle.resolver_peer_step.specs.declared.parts.Parts.{Parts}
-use Rattle.resolver_model_peer.specs.Again.{IsRefusal}
+use Rattle.resolver_delivery.specs.Again.{IsRefusal}
 use Rattle.resolver_peer_step.specs.Going.{Goes, Went}
 use Rattle.resolver_peer_step.specs.Said.{Codec}
 use Rattle.resolver_peer_step.specs.Tied.{Agrees, AreOwn, Holds, IsSound, demand_of, fetcher_of, held_of, holds_in, holds_of, open_of, place_in, place_of, retries_in, same_id, sorted, targets_in}

@@ -37,13 +37,13 @@ use Rattle.resolver_model_peer.specs.Peer.{Deliver, Done, Machine, Open, hand_ou
 use Rattle.resolver_model_peer.specs.declared.effects.Effect.{Effect as Told}
 use Rattle.resolver_model_peer.specs.declared.effects.Effect.TheVariants as told
 use Rattle.resolver_peer_step.specs.declared.parts.Parts.{Parts}
-use Rattle.resolver_model_peer.specs.Again.{IsRefusal}
+use Rattle.resolver_delivery.specs.Again.{IsRefusal}
 use Rattle.resolver_peer_step.specs.Going.{Goes, Went}
-use Rattle.resolver_model_peer.specs.Again.{flagged, handed_again}
+use Rattle.resolver_delivery.specs.Again.{flagged, handed_again}
 use Rattle.resolver_peer_step.specs.Ruled.{IsClosed, Names}
 use Rattle.resolver_peer_step.specs.Said.{Codec}
 use Rattle.resolver_peer_step.specs.Tied.{Agrees, Holds, IsSound, AreOwn, demand_of, fetcher_of, held_of, holds_in, holds_of, open_of, place_of, retries_in, same_id, sorted, targets_in}
-use Rattle.resolver_model_peer.proofs.Cached.{Caches, accepts-is, flagged-found, flagged-going, flagged-next, flagged-response, flagged_entry, noted, response-is}
+use Rattle.resolver_delivery.proofs.Cached.{Caches, accepts-is, flagged-found, flagged-going, flagged-next, flagged-response, flagged_entry, noted, response-is}
 use Rattle.resolver_peer_step.proofs.Handed.{Entered, entered, goes-refused}
 use Rattle.resolver_peer_step.proofs.Numbered.{below-grown, lookup-new, own-grown}
 use Rattle.resolver_peer_step.proofs.Places.{demand-at, holds-at, idle-asked, idle-waiting, none-asked, own-slot, place_at, request_at, requests-at, retries-at, targets-at, waiting-at}

@@ -6,7 +6,7 @@ ghost use Rattle.std.specs.Option.{option_and_then};
 ghost use Rattle.resolver_delivery.specs.Entries.{delivered, is_tracked, number_of};
 ghost use Rattle.resolver_model_peer.specs.Parties.{parties};
 ghost use Rattle.resolver_model_peer.specs.Peer.{Machine, answered, responds, row_of};
-ghost use Rattle.resolver_model_peer.specs.Again.{IsRefusal};
+ghost use Rattle.resolver_delivery.specs.Again.{IsRefusal};
 ghost use Rattle.resolver_peer_step.specs.Going.{Goes, IsTied};
 ghost use Rattle.resolver_peer_step.specs.Said.{Codec};
 ghost use Rattle.resolver_peer_step.specs.Tied.{Agrees};
@@ -15,9 +15,9 @@ ghost use Rattle.resolver_model_peer.specs.declared.effects.Effect.TheVariants.{
 use crate::parts::Parts;
 use bytes::Bytes;
 use resolver_base::Fault;
+use resolver_delivery::copies;
 use resolver_fetch::fetcher::Request;
 use resolver_model_peer::effects::Effect;
-use resolver_model_peer::handed::copies;
 use resolver_model_peer::inflight::Inflight;
 use resolver_model_peer::named::Source;
 use resolver_sampling::score::elapsed_since;
@@ -100,9 +100,9 @@ fn hand_out<K: Ord + Clone + Drop, P: Clone + Drop, S: Clone + Drop>(
 {
     let (told, copy) = match copies(&delivery, &value) {
         Ok(copies) => copies,
-        Err(fault) => {
+        Err(failed) => {
             drop((delivery, source, value));
-            return Err(fault);
+            return Err(Fault::from(failed));
         }
     };
     let number = match entries.deliver(delivery, source, copy) {

@@ -58,7 +58,7 @@ impl<K: Span + Drop, P: Ord + Drop, S: Ord + Drop> Parts<K, P, S> {
     }
 }
 
-/// Lets the keys go that nobody wants.
+/// Drops the keys that nobody wants.
 fn forget<K: Ord + Drop, P: Ord + Drop, S: Ord + Drop>(
     demand: &Tracker<K, S>,
     entries: &mut Inflight<K, P, S>,

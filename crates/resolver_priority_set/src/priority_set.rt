@@ -147,7 +147,7 @@ impl<I: Ord + Drop, R: Ord + Drop> PrioritySet<I, R> {
     }
 
     /// Puts an item at its place. An equal item that is there stays, and takes the priority.
-    /// Where memory is wanting, nothing changes.
+    /// Where memory is refused, nothing changes.
     ///
     /// The item and the priority are cloned; clones are to equal their sources.
     #[inline]
@@ -195,7 +195,7 @@ impl<I: Ord + Drop, R: Ord + Drop> PrioritySet<I, R> {
         true
     }
 
-    /// Lets the items go that aren't kept, with a look-up for each item. `keep` is pure.
+    /// Drops the items that aren't kept, with a look-up for each item. `keep` is pure.
     pub fn retain<F: Fn(&I) -> bool>(&mut self, keep: F)
         requires { F.IsAlwaysCallable keep }
         ensures kept { (test : I → Bool) → AnswersBy F.Fn keep test
@@ -246,7 +246,7 @@ fn pair_of<I: Clone + Drop, R: Clone + Drop>(item: &I, priority: &R) -> Result<(
     Ok((priority.clone()?, item.clone()?))
 }
 
-/// Puts a pair at its place. Where memory is wanting, the index forgets its item.
+/// Puts a pair at its place. Where memory is refused, the index forgets its item.
 #[inline]
 fn put_new<I: Ord + Drop, R: Ord + Drop>(
     ordered: &mut BTreeSet<(R, I)>,
@@ -300,7 +300,7 @@ fn move_item<I: Ord + Clone + Drop, R: Ord + Clone + Drop>(
 }
 
 /// Puts `after` into a set, and takes `before` out. Where both are level, one takes the place of the
-/// other. Where memory is wanting, nothing changes.
+/// other. Where memory is refused, nothing changes.
 #[inline]
 fn exchange<T: Ord + Drop>(
     set: &mut BTreeSet<T>,

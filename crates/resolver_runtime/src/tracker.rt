@@ -16,9 +16,9 @@ use crate::tracker::verdicts::Verdicts;
 use futures::task;
 use futures::task::Poll;
 use resolver_base::{Fault, Numbers};
-use resolver_delivery::{Aborted, Completion, Entries};
+use resolver_delivery::{Aborted, Completion, Entries, copies};
 use resolver_types::{Delivery, Outcome};
-use std::alloc::{AllocError, Global};
+use std::alloc::Global;
 use std::marker::Model;
 
 /// Tracked keys with the deliveries of their values, which a consumer judges.
@@ -61,7 +61,7 @@ where
     }
 
     /// Tracks a key, and answers whether it is new. A key that is there keeps its state. Where
-    /// memory is wanting, nothing changes.
+    /// memory is refused, nothing changes.
     pub fn insert_state(&mut self, key: Con::Key, state: State) -> Result<bool, Fault>
         ensures ok { OnOk result (self.new ≡ inserted Con.Key.cmp key state self.old) }
         ensures is_new { IfOk result (λ new. new ≡ not (is_tracked Con.Key.cmp self.old key)) }
@@ -92,7 +92,7 @@ where
         self.entries.contains(key)
     }
 
-    /// Lets a key go, and answers whether it was tracked. Its delivery in progress is canceled, and
+    /// Drops a key, and answers whether it was tracked. Its delivery in progress is canceled, and
     /// stays open until it is polled.
     pub fn remove(&mut self, key: &Con::Key) -> bool
         ensures after { self.new ≡ removed Con.Key.cmp key.now self.old }
@@ -101,7 +101,7 @@ where
         self.entries.remove(key)
     }
 
-    /// Lets the keys go that aren't kept, and answers how many these were. `keep` is pure.
+    /// Drops the keys that aren't kept, and answers how many these were. `keep` is pure.
     pub fn retain<F: Fn(&Con::Key) -> bool>(&mut self, keep: F) -> usize
         requires { F.IsAlwaysCallable keep }
         ensures after { (test : Con.Key → Bool) → AnswersBy F.Fn keep test
@@ -111,7 +111,7 @@ where
         self.entries.retain(keep)
     }
 
-    /// Lets all keys go, and answers how many there were.
+    /// Drops all keys, and answers how many there were.
     pub fn drain(&mut self) -> usize
         ensures after { self.new ≡ record self.old { keys = [] } }
         ensures count { result ≡ length self.old.keys }
@@ -187,7 +187,7 @@ where
     /// Hands a new value to the consumer, for the subscribers of its key, and answers the number of
     /// this delivery. The value is cached, not yet accepted, in place of what was. `Exhausted` is
     /// answered where no number is left, before the consumer is told; then, and where memory is
-    /// wanting, nothing changes. Memory may still be wanting once the consumer took the value: then
+    /// refused, nothing changes. Memory may still be refused once the consumer took the value: then
     /// nobody awaits its verdict.
     pub fn deliver(
         &mut self,
@@ -280,7 +280,7 @@ where
     Con::Value: Drop,
     Con::Outcome: Drop,
 {
-    /// Tracks a key, and answers whether it is new. Where memory is wanting, nothing changes.
+    /// Tracks a key, and answers whether it is new. Where memory is refused, nothing changes.
     pub fn insert(&mut self, key: Con::Key) -> Result<bool, Fault>
         ensures ok { OnOk result (self.new ≡ inserted Con.Key.cmp key tt self.old) }
         ensures is_new { IfOk result (λ new. new ≡ not (is_tracked Con.Key.cmp self.old key)) }
@@ -306,25 +306,10 @@ where
     Con::Outcome: Drop,
     requires keys_clone { (x y : Con.Key) → Con.Key.is_clone x y → y ≡ x }
     requires subscribers_clone { (x y : Con.Subscriber) → Con.Subscriber.is_clone x y → y ≡ x }
+    requires values_clone { (x y : Con.Value) → Con.Value.is_clone x y → y ≡ x }
     ensures only { IfErr result (λ fault. fault ≡ OutOfMemory) }
 {
     let (delivery, value) = copies(delivery, value)?;
     let verdict = consumer.deliver(delivery, value)?;
     verdicts.put(number, verdict)
-}
-
-/// A copy of a delivery, and one of its value.
-fn copies<K: Clone + Drop, S: Clone + Drop, V: Clone + Drop>(
-    delivery: &Delivery<K, S>,
-    value: &V,
-) -> Result<(Delivery<K, S>, V), AllocError>
-    requires keys_clone { (x y : K) → K.is_clone x y → y ≡ x }
-    requires subscribers_clone { (x y : S) → S.is_clone x y → y ≡ x }
-{
-    let delivery = delivery.clone()?;
-    let Ok(value) = value.clone() else {
-        drop(delivery);
-        return Err(AllocError);
-    };
-    Ok((delivery, value))
 }

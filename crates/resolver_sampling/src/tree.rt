@@ -52,7 +52,7 @@ impl Drop for Tree {
 }
 
 impl Tree {
-    /// The tree of these weights, in time linear in their number. The only error is want of memory.
+    /// The tree of these weights, in time linear in their number. The only error is refused memory.
     pub fn of_weights(alloc: Global, weights: &[u64]) -> Result<Self, AllocError>
         ensures { IfOk result (λ tree. tree ≡ weights.now) }
     {
@@ -65,7 +65,7 @@ impl Tree {
     }
 
     /// The tree that counts the positive ones among these weights: each is one, the others are
-    /// zero. It takes time linear in their number, and the only error is want of memory.
+    /// zero. It takes time linear in their number, and the only error is refused memory.
     pub fn of_marks(alloc: Global, weights: &[u64]) -> Result<Self, AllocError>
         ensures { IfOk result (λ tree. tree ≡ map mark weights.now) }
     {

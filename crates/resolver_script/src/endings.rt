@@ -51,7 +51,7 @@ pub enum Fault {
     /// A write failed.
     #[error("output")]
     Output,
-    /// Memory was wanting outside the machine.
+    /// Memory was refused outside the machine.
     #[error("memory")]
     Memory,
 }

@@ -84,7 +84,7 @@ impl Planning {
         Ok(None)
     }
 
-    /// Feeds the machine one retain that lets the plan's subscriber go from those of these keys that the
+    /// Feeds the machine one retain that drops the plan's subscriber from those of these keys that the
     /// plan wanted, if there are some.
     fn done<W: Write>(
         &mut self,

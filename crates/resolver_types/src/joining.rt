@@ -25,7 +25,7 @@ pub(super) fn join_few_subscribers<S: Ord + Drop>(list: &mut Vec<(S, u64)>, more
 }
 
 /// Puts those of these subscribers last that aren't there yet, by an index of all. Where memory is
-/// wanting, nothing changes.
+/// refused, nothing changes.
 pub(super) fn join_many_subscribers<S: Ord + Clone + Drop>(
     alloc: Global,
     list: &mut Vec<(S, u64)>,
@@ -81,7 +81,7 @@ pub(super) fn join_few<T: Ord + Drop>(list: &mut Vec<T>, more: Vec<T>)
 }
 
 /// Puts those of these items last that aren't there yet, by an index of all. Where memory is
-/// wanting, nothing changes.
+/// refused, nothing changes.
 pub(super) fn join_many<T: Ord + Clone + Drop>(
     alloc: Global,
     list: &mut Vec<T>,
@@ -121,7 +121,7 @@ fn index_of<T: Ord + Clone + Drop>(alloc: Global, list: &[T]) -> Result<BTreeSet
     Ok(index)
 }
 
-/// Puts an item into an index, and answers whether it is new there. Where memory is wanting,
+/// Puts an item into an index, and answers whether it is new there. Where memory is refused,
 /// nothing changes.
 fn note<T: Ord + Clone + Drop>(index: &mut BTreeSet<T>, item: &T) -> Result<bool, AllocError>
     requires items_clone { (x y : T) → T.is_clone x y → y ≡ x }

@@ -34,7 +34,7 @@ impl<T> Model for NonEmptyVec<T> {
 }
 
 impl<T: Drop> NonEmptyVec<T> {
-    /// A list of one item. Where memory is wanting, the item comes back in the error.
+    /// A list of one item. Where memory is refused, the item comes back in the error.
     pub fn new(alloc: Global, item: T) -> Result<Self, AllocFailed<T>>
         ensures ok { IfOk result (λ list. list ≡ item ∷ []) }
         ensures value_returned { IfErr result (λ failed. failed.value ≡ item) }
@@ -81,7 +81,7 @@ impl<T: Drop> NonEmptyVec<T> {
         self.as_slice().contains(item)
     }
 
-    /// Puts an item last. Where memory is wanting, the item comes back in the error.
+    /// Puts an item last. Where memory is refused, the item comes back in the error.
     pub fn push(&mut self, item: T) -> Result<(), AllocFailed<T>>
         ensures ok { OnOk result (self.new ≡ self.old ++ item ∷ []) }
         ensures err { OnErr result (self.new ≡ self.old) }
@@ -101,7 +101,7 @@ impl<T: Drop> NonEmptyVec<T> {
     }
 
     /// Puts those of these items last, in their order, that aren't there yet. Where memory is
-    /// wanting, nothing changes. It takes time in proportion to both lengths, and where many are
+    /// refused, nothing changes. It takes time in proportion to both lengths, and where many are
     /// put, times their logarithm.
     pub fn join(&mut self, alloc: Global, more: NonEmptyVec<T>) -> Result<(), AllocError>
     where
@@ -119,7 +119,7 @@ impl<T: Drop> NonEmptyVec<T> {
     }
 
     /// What `f` gives for each item, in order. The new list's memory is made before the first
-    /// call; where it is wanting, `f` isn't called and this list comes back in the error.
+    /// call; where it is refused, `f` isn't called and this list comes back in the error.
     pub fn map_into<U, F: FnMut(T) -> U>(
         self,
         alloc: Global,
@@ -150,7 +150,7 @@ impl<T: Drop> NonEmptyVec<T> {
 
 impl<S: Ord + Clone + Drop> NonEmptyVec<(S, u64)> {
     /// Puts those of these subscribers last, in their order, that aren't there yet. One that is
-    /// there keeps its mark. Where memory is wanting, nothing changes. It takes time in proportion
+    /// there keeps its mark. Where memory is refused, nothing changes. It takes time in proportion
     /// to both lengths, and where many are put, times their logarithm.
     pub fn join_subscribers(
         &mut self,

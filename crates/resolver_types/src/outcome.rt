@@ -11,16 +11,25 @@ pub enum Resolution {
     Partial,
 }
 
-/// What a consumer says of a delivery.
+/// What a consumer says of a delivery: of the data of its key, for the subscribers that it names.
+///
+/// A response earns its peer one credit or one block at most, whatever is said of it later. What is said
+/// of a delivery that was called off counts for its peer alone.
 #[derive(Clone, Copy, Debug, PartialEq, Eq)]
 pub enum Outcome {
-    /// The data is wrong.
+    /// The data is wrong. It is dropped, the key is asked for again after the retry delay, for all its
+    /// subscribers, and the peer is to be blocked. Where it was judged `Complete` before, the key is
+    /// retired with all its subscribers instead, and no peer is blocked.
     Invalid,
-    /// The data is right.
+    /// The data is right, and the peer earns a credit. `Complete`: the named subscribers are retired, and
+    /// the data is handed out once more to those that came since; where there are none, the key is
+    /// retired. `Partial`: the data is dropped, and the key is asked for again after the retry delay, for
+    /// all its subscribers.
     Resolved(Resolution),
-    /// It can't be said whether the data is right.
+    /// The data is right for its key and resolves none of the named subscribers. It is dropped, and the
+    /// key is asked for again after the retry delay, for all its subscribers; the peer earns nothing.
     Unresolved,
-    /// Nobody wants the key any more.
+    /// Nobody wants the key any more. It is retired with all its subscribers; the peer earns nothing.
     Ignored,
 }
 

@@ -107,7 +107,7 @@ impl<Key: Clone> Payload<Key> {
 }
 
 impl<Key: Span> Message<Key> {
-    /// Appends the message, or nothing where memory is wanting. It takes no memory where there is
+    /// Appends the message, or nothing where memory is refused. It takes no memory where there is
     /// room for it.
     pub fn write(&self, out: &mut BytesMut) -> Result<(), AllocError>
         requires short { IsShort self.now.payload }

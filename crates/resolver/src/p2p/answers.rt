@@ -30,7 +30,7 @@ where
     X::PublicKey: PublicKey + Drop,
 {
     /// Answers a question: what the draws or the sender say to it is the answer. Where memory for a request's bytes
-    /// is wanting, nothing was sent. Scans ask for no number below 0, and none is drawn there.
+    /// is refused, nothing was sent. Scans ask for no number below 0, and none is drawn there.
     pub(crate) fn answer<K: Span + Drop>(
         &mut self,
         alloc: Global,

@@ -150,7 +150,7 @@ impl<
     }
 
     /// The engine's loop over this network, clock and source of draws, which its caller polls in a
-    /// thread. Where memory is wanting, all is dropped, and the mailbox stays open.
+    /// thread. Where memory is refused, all is dropped, and the mailbox stays open.
     pub fn into_loop<X, Y, W, G>(
         self,
         network: (X, Y),

@@ -30,7 +30,7 @@ where
     pub(crate) asking: Asking<X, G>,
     /// What the open scan is to be told.
     pub(crate) answer: Option<Answer>,
-    /// Whether memory was wanting outside the core.
+    /// Whether memory was refused outside the core.
     pub(crate) is_starved: bool,
 }
 
@@ -65,7 +65,7 @@ where
     X: Sender<PublicKey = P> + Drop,
     G: Draws + Drop,
 {
-    /// With nothing judged and nothing looked for. Where memory is wanting, all is dropped.
+    /// With nothing judged and nothing looked for. Where memory is refused, all is dropped.
     pub(crate) fn new(
         alloc: Global,
         peers: Peers<D, B>,
@@ -92,7 +92,7 @@ where
         }
     }
 
-    /// The end, where memory was wanting outside the core, or what is new of the peers.
+    /// The end, where memory was refused outside the core, or what is new of the peers.
     pub(crate) fn poll_peers<Q>(&mut self, cx: &mut Context<'_>) -> Poll<Event<K, P, S, Q>>
         ensures kept { Keeps cx.old cx.new }
     {

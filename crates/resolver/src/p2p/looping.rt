@@ -30,7 +30,7 @@ fn is_due(clock: &impl Clock, deadline: Option<u128>) -> bool {
 /// An engine's core with all that it is fed from and that its effects go to.
 ///
 /// In each turn it looks for one input, in this order: the answer that a scan waits for; the end,
-/// where memory was wanting outside the core; a set of peers; a blocked set; a request whose time is
+/// where memory was refused outside the core; a set of peers; a blocked set; a request whose time is
 /// over; a verdict; a message of the mailbox; a key whose time has come; bytes of the producer;
 /// a message of a peer. A closed source of sets, mailbox or network is the end.
 pub struct Loop<P, D, B, K, S, C, O, Q, R, X, Y, W, G>

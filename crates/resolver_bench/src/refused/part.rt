@@ -55,7 +55,7 @@ impl Way {
 /// What a part shows, one value behind the other.
 pub struct Notes {
     text: String,
-    /// Whether memory was wanting for some of it.
+    /// Whether memory was refused for some of it.
     is_wanting: bool,
 }
 
@@ -77,7 +77,7 @@ impl Notes {
         }
     }
 
-    /// Writes a value, and lets it go.
+    /// Writes a value, and drops it.
     pub fn add<T: Debug + Drop>(&mut self, value: T) {
         if write!(self.text, "{value:?} ").is_err() {
             self.is_wanting = true;
@@ -178,7 +178,7 @@ fn compared<Call, T: Part<Call>>(alloc: Global, way: Way, part: &mut T, twin: &m
     seen.judged(way, &expected)
 }
 
-/// Lets go what a call answers.
+/// Drops what a call answers.
 pub fn done<T: Drop>(answered: Result<T, Fault>) -> Result<(), Fault> {
     match answered {
         Ok(answer) => {

@@ -11,7 +11,7 @@ use resolver_types::Predicate;
 use std::alloc::{AllocError, Global};
 use std::cmp::Ordering;
 
-/// Puts each of these at its place. One that is there keeps its mark. Where memory is wanting,
+/// Puts each of these at its place. One that is there keeps its mark. Where memory is refused,
 /// nothing changes.
 pub(super) fn attach_all<S: Ord + Drop>(
     list: &mut Vec<(S, u64)>,

@@ -115,7 +115,7 @@ impl<S: Ord + Clone + Drop> Subscribers<S> {
     }
 
     /// Puts each of these at its place. One that is there keeps its mark. Where memory is
-    /// wanting, nothing changes.
+    /// refused, nothing changes.
     ///
     /// It takes time in proportion to those that are put, times the logarithm of those that are
     /// there.

@@ -29,7 +29,7 @@ pub(super) fn of_list<S: Ord + Clone + Drop>(
     Ok(map)
 }
 
-/// Puts each of these at its place. One that is there keeps its mark. Where memory is wanting,
+/// Puts each of these at its place. One that is there keeps its mark. Where memory is refused,
 /// nothing changes.
 pub(super) fn attach_all<S: Ord + Clone + Drop>(
     alloc: Global,
@@ -55,7 +55,7 @@ pub(super) fn attach_all<S: Ord + Clone + Drop>(
     Ok(())
 }
 
-/// Puts one that isn't there at its place. Where memory is wanting, nothing changes.
+/// Puts one that isn't there at its place. Where memory is refused, nothing changes.
 fn attach<S: Ord + Clone + Drop>(
     map: &mut BTreeMap<S, u64>,
     one: &(S, u64),

@@ -19,7 +19,7 @@ impl<K: Span + Drop, P: PublicKey + Drop> Fetcher<K, P> {
     /// is over: a request is on its way, or every peer that may be asked for a due key was tried
     /// in vain.
     ///
-    /// Where memory is wanting at the beginning, nothing changes. Where it is wanting later, the
+    /// Where memory is refused at the beginning, nothing changes. Where it is refused later, the
     /// scan is over and the waiter clear; the keys wait as before, and the ids that were used stay
     /// used. A request that the sender took just then is not kept.
     ///
@@ -53,7 +53,7 @@ impl<K: Span + Drop, P: PublicKey + Drop> Fetcher<K, P> {
         driven
     }
 
-    /// Answers what the open scan asks until it is over. Where memory is wanting, the scan stays
+    /// Answers what the open scan asks until it is over. Where memory is refused, the scan stays
     /// open, and asks what it asked last.
     fn drive<S: Sender<PublicKey = P>, D: Draws>(
         &mut self,
@@ -84,7 +84,7 @@ impl<K: Span + Drop, P: PublicKey + Drop> Fetcher<K, P> {
         Ok(())
     }
 
-    /// Answers what the open scan asks, and says what it asks then. Where memory is wanting, the
+    /// Answers what the open scan asks, and says what it asks then. Where memory is refused, the
     /// fetcher is as it was.
     fn turn<S: Sender<PublicKey = P>, D: Draws>(
         &mut self,
@@ -124,7 +124,7 @@ impl<K: Span + Drop, P: PublicKey + Drop> Fetcher<K, P> {
     }
 }
 
-/// What draws or a sender say to what a scan asks, which never asks for a number below 0. Where memory is wanting,
+/// What draws or a sender say to what a scan asks, which never asks for a number below 0. Where memory is refused,
 /// they were not asked.
 pub fn answer_to<K: Span + Drop, S: Sender, D: Draws>(
     alloc: Global,

@@ -132,7 +132,7 @@ impl<P: Ord + Drop> Peers<P> {
         self.load.is_some()
     }
 
-    /// A peer has one request more. Says whether that fills it. Where memory is wanting, nothing
+    /// A peer has one request more. Says whether that fills it. Where memory is refused, nothing
     /// changes.
     ///
     /// The name is cloned; clones are to equal their sources.
@@ -358,7 +358,7 @@ impl<P: Ord + Drop> Peers<P> {
     }
 
     /// Takes these peers in place of the last ones. Those that stay keep their scores. Where
-    /// memory is wanting, nothing changes.
+    /// memory is refused, nothing changes.
     pub(super) fn reconcile(&mut self, peers: Vec<P>) -> Result<(), Fault>
         ensures ok { OnOk result
             (self.new ≡ record self.old { set = replaced P.cmp self.old.set peers.items }) }
@@ -379,7 +379,7 @@ impl<P: Ord + Drop> Peers<P> {
         tidy(&mut self.load);
     }
 
-    /// Takes these peers as the ones that are blocked. Where memory is wanting, nothing changes.
+    /// Takes these peers as the ones that are blocked. Where memory is refused, nothing changes.
     pub(super) fn set_blocked(&mut self, peers: Vec<P>) -> Result<(), Fault>
         ensures ok { OnOk result
             (self.new ≡ record self.old { blocked = set_of P.cmp peers.items }) }
@@ -507,7 +507,7 @@ fn full_weight(weight: Option<u64>) -> Option<u64>
 }
 
 /// A peer has one request more, where they are limited. Says whether that fills it. Where memory is
-/// wanting, nothing changes.
+/// refused, nothing changes.
 ///
 /// The name is cloned; clones are to equal their sources.
 fn add_to<P: Ord + Clone + Drop>(load: &mut Option<Load<P>>, peer: &P) -> Result<bool, Fault>

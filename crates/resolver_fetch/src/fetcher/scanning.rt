@@ -44,7 +44,7 @@ use std::mem;
 
 impl<K: Ord + Clone + Drop, P: Ord + Clone + Drop> Fetcher<K, P> {
     /// Begins a scan at this moment, where none is open, and says what it asks; nothing where it is
-    /// over at once. Where memory is wanting, nothing changes.
+    /// over at once. Where memory is refused, nothing changes.
     ///
     /// The waiting keys that are due are gone over in their order, up to the first with a peer that
     /// may be asked. Where no peer may be asked at all it takes constant time; else time logarithmic
@@ -71,8 +71,8 @@ impl<K: Ord + Clone + Drop, P: Ord + Clone + Drop> Fetcher<K, P> {
 
     /// Takes an answer to what the open scan asked, and says what it asks now; nothing where it is
     /// over. An answer that the scan doesn't expect is `Unasked`, a number that isn't below the
-    /// asked bound `OutOfRange`; then, and where memory is wanting, nothing changes. Memory may be
-    /// wanting only where the answer is taken. The id of a request that it asks for is held by no
+    /// asked bound `OutOfRange`; then, and where memory is refused, nothing changes. Memory may be
+    /// refused only where the answer is taken. The id of a request that it asks for is held by no
     /// other.
     ///
     /// It takes time logarithmic in the peers, where a request is accepted for each that was tried
@@ -106,7 +106,7 @@ impl<K: Ord + Clone + Drop, P: Ord + Clone + Drop> Fetcher<K, P> {
         }
     }
 
-    /// A scan takes a step. Where memory is wanting, it stays as it was.
+    /// A scan takes a step. Where memory is refused, it stays as it was.
     fn go(&mut self, cursor: Cursor<K, P>, step: Step<P>) -> Result<Option<Ask<K, P>>, Fault>
     where
         requires keys_clone { (x y : K) → K.is_clone x y → y ≡ x }
@@ -131,7 +131,7 @@ impl<K: Ord + Clone + Drop, P: Ord + Clone + Drop> Fetcher<K, P> {
         }
     }
 
-    /// A scan expects this, and the last id is this one. Where memory is wanting, it stays as it
+    /// A scan expects this, and the last id is this one. Where memory is refused, it stays as it
     /// was.
     fn expect(
         &mut self,
@@ -193,7 +193,7 @@ impl<K: Ord + Clone + Drop, P: Ord + Clone + Drop> Fetcher<K, P> {
         }
     }
 
-    /// The peer was tried in vain: the scan goes on. Where memory is wanting, it stays as it was.
+    /// The peer was tried in vain: the scan goes on. Where memory is refused, it stays as it was.
     fn fail(
         &mut self,
         mut cursor: Cursor<K, P>,
@@ -227,7 +227,7 @@ impl<K: Ord + Clone + Drop, P: Ord + Clone + Drop> Fetcher<K, P> {
     }
 
     /// The last peer that was left was tried in vain: the scan goes on behind the key. Where memory
-    /// is wanting, it stays as it was.
+    /// is refused, it stays as it was.
     fn pass(
         &mut self,
         mut cursor: Cursor<K, P>,
@@ -308,7 +308,7 @@ impl<K: Ord + Clone + Drop, P: Ord + Clone + Drop> Fetcher<K, P> {
         }
     }
 
-    /// The request is on its way, and the scan is over. Where memory is wanting, it stays as it
+    /// The request is on its way, and the scan is over. Where memory is refused, it stays as it
     /// was.
     fn accept(&mut self, cursor: Cursor<K, P>, peer: P, id: ID) -> Result<Option<Ask<K, P>>, Fault>
     where
@@ -595,7 +595,7 @@ impl<K: Ord + Clone + Drop, P: Ord + Clone + Drop> Fetcher<K, P> {
 }
 
 /// Puts the request that a scan sent, and counts it for its peer where that is limited, whose name it
-/// answers if the request fills it. Where memory is wanting, nothing changes.
+/// answers if the request fills it. Where memory is refused, nothing changes.
 ///
 /// The name is cloned; clones are to equal their sources.
 fn send<K: Ord + Clone + Drop, P: Ord + Clone + Drop>(

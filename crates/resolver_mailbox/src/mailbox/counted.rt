@@ -170,7 +170,7 @@ impl<
         Ok((state, part))
     }
 
-    /// Puts a message of the handle with this seat. Where memory or a number is wanting, nothing
+    /// Puts a message of the handle with this seat. Where memory or a number is refused, nothing
     /// changes. A closed desk takes no memory.
     pub(super) fn put(
         &mut self,
@@ -220,7 +220,7 @@ impl<
     }
 
     /// Takes a message, and keeps a copy in the receiver's list where the mailbox is recorded.
-    /// Where memory is wanting, nothing changes. In another mailbox it takes none.
+    /// Where memory is refused, nothing changes. In another mailbox it takes none.
     pub(super) fn take(
         &mut self,
         alloc: Global,

@@ -102,7 +102,7 @@ impl<
 
     /// A copy of the book of calls, where it agrees with what this receiver gave and with the
     /// shares of handles that are lent; else `Uneven`. In a mailbox that isn't recorded it is empty.
-    /// Where memory is wanting (`OutOfMemory`), nothing changes. It waits for the mailbox's lock.
+    /// Where memory is refused (`OutOfMemory`), nothing changes. It waits for the mailbox's lock.
     ///
     /// It takes time in proportion to the book for each share, and to copy the messages.
     pub fn book(
@@ -145,7 +145,7 @@ impl<
     ghost needs = { λ r s. s ≡ r.arrived };
 
     /// Takes the first message that is ready. Where there is none, the task is woken by the next
-    /// put and by a close. In a recorded mailbox a take needs memory; where it is wanting
+    /// put and by a close. In a recorded mailbox a take needs memory; where it is refused
     /// (`OutOfMemory`), nothing changes. In another mailbox it takes none.
     fn poll_next(&mut self, cx: &mut Context<'_>) -> Poll<Option<Self::Item>>
         ensures registered { OnPending result

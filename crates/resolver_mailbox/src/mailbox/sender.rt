@@ -163,7 +163,7 @@ impl<
     ///
     /// In a recorded mailbox a message that is put goes last in this handle's share; the first one
     /// numbers the handle. Once the share is marked, Closed is the only answer. Where memory is
-    /// wanting (`OutOfMemory`), or a number for the handle (`Exhausted`), nothing changes and the
+    /// refused (`OutOfMemory`), or a number for the handle (`Exhausted`), nothing changes and the
     /// message is dropped.
     pub fn enqueue(&mut self, message: Message<K, S, M, Q>) -> Result<Feedback, Fault>
         ensures added { N.is_recorded ≡ true → IfOk result (λ feedback. feedback ≢ Closed

@@ -95,7 +95,7 @@ impl<
     Q: Predicate<K, S> + Faithful + Drop,
     N: Names,
 > Share<K, S, M, Q, N> {
-    /// Puts a message of this handle on an open recorded desk. Where memory is wanting, nothing
+    /// Puts a message of this handle on an open recorded desk. Where memory is refused, nothing
     /// changes.
     pub(super) fn put(
         &mut self,
@@ -137,7 +137,7 @@ impl<
     }
 
     /// Puts the first message of a handle on an open recorded desk, which numbers the handle. Where
-    /// memory or a number is wanting, nothing changes.
+    /// memory or a number is refused, nothing changes.
     pub(super) fn first(
         alloc: Global,
         desk: &mut Desk<K, S, M, Q>,

@@ -84,7 +84,7 @@ impl<
     Q: Predicate<K, S> + Faithful + Drop,
     N: Naming,
 > Taken<K, S, M, Q, N> {
-    /// Takes a message from a recorded desk, and keeps a copy of it. Where memory is wanting,
+    /// Takes a message from a recorded desk, and keeps a copy of it. Where memory is refused,
     /// nothing changes.
     pub(super) fn take(
         &mut self,

@@ -70,7 +70,7 @@ impl<R: Ord + Drop, V: Drop, S> Consumer<R, V, S> {
         Ok(consumer)
     }
 
-    /// Expects this value under this key, in place of another. Where memory is wanting, nothing
+    /// Expects this value under this key, in place of another. Where memory is refused, nothing
     /// changes.
     pub fn add_expected(&mut self, key: R, value: V) -> Result<(), Fault>
         ensures ok { OnOk result (self.new ≡ insert_entry R.cmp self.old key value) }

@@ -48,7 +48,7 @@ impl<K: Ord + Drop, V: Drop> Producer<K, V> {
         }
     }
 
-    /// Has this value under this key, in place of another. Where memory is wanting, nothing changes.
+    /// Has this value under this key, in place of another. Where memory is refused, nothing changes.
     pub fn insert(&mut self, key: K, value: V) -> Result<(), Fault>
         ensures ok { OnOk result (self.new ≡ insert_entry K.cmp self.old key value) }
         ensures err { OnErr result (self.new ≡ self.old) }

@@ -100,7 +100,7 @@ impl<T: Drop> Awaited<T> {
         self.answers.len()
     }
 
-    /// Waits for what comes here, under a number that isn't open. Where memory is wanting, it is
+    /// Waits for what comes here, under a number that isn't open. Where memory is refused, it is
     /// dropped, and nothing changes.
     pub fn add(&mut self, number: u64, receiver: oneshot::Receiver<T>) -> Result<(), Fault>
         ensures ok { OnOk result (self.new ≡ self.old + 1) }

@@ -10,7 +10,7 @@ use resolver_base::Fault;
 pub enum Ending {
     /// It was told to end, or a source that it can't do without was closed.
     Complete,
-    /// Memory was wanting: for a step, for what the loop keeps, or for the consumer or the producer.
+    /// Memory was refused: for a step, for what the loop keeps, or for the consumer or the producer.
     OutOfMemory,
     /// The machine has no number left.
     Exhausted,

@@ -38,7 +38,7 @@ impl Handle {
     }
 }
 
-/// Polls a loop in a thread of its own until it is over. Where memory is wanting or no thread can
+/// Polls a loop in a thread of its own until it is over. Where memory is refused or no thread can
 /// be made, the loop is dropped.
 pub fn start<R, F>(rt: R, looped: F) -> Result<Handle, Fault>
 where

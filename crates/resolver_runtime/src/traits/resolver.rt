@@ -13,7 +13,7 @@ use resolver_types::{Fetch, NonEmptyVec, Predicate};
 ///
 /// Each call leaves one message with the resolver, and is answered at once: Ok, Backoff where the
 /// caller does well to slow down, and Closed where the resolver takes no messages any more, nor
-/// will. Where memory is wanting (`OutOfMemory`), or a number for the handle (`Exhausted`), it
+/// will. Where memory is refused (`OutOfMemory`), or a number for the handle (`Exhausted`), it
 /// leaves none.
 ///
 /// What a call does is said by a ghost relation for each kind of call, over the handle before it, what it
@@ -35,7 +35,7 @@ pub trait Resolver: Clone + Send + 'static {
     ghost asks: { Self → List (Fetch Self.Key Self.Subscriber)
         → Result Feedback Fault → Self → Type 0 };
 
-    /// One call that lets all go whom this predicate doesn't keep, likewise.
+    /// One call that drops all whom this predicate doesn't keep, likewise.
     ghost retains: { Self → Self.Predicate → Result Feedback Fault → Self → Type 0 };
 
     /// Asks for a key on behalf of a subscriber, of any peer. The fetch persists until it is retired: by a
@@ -54,7 +54,7 @@ pub trait Resolver: Clone + Send + 'static {
         ensures asked { asks self.old fetches.items result self.new }
         ensures only { IfErr result (λ fault. fault ≢ OutOfMemory → fault ≡ Exhausted) };
 
-    /// Lets all subscribers go that aren't kept, and the keys that nobody wants then: their requests and
+    /// Drops all subscribers that aren't kept, and the keys that nobody wants then: their requests and
     /// deliveries are called off. It asks the predicate about each subscriber of each key.
     fn retain(&mut self, keep: Self::Predicate) -> Result<Feedback, Fault>
         ensures retained { retains self.old keep result self.new }

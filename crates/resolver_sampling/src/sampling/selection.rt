@@ -37,7 +37,7 @@ impl Model for Selection {
 }
 
 impl Selection {
-    /// Begins draws from an index. Where memory is wanting, the index comes back in the error.
+    /// Begins draws from an index. Where memory is refused, the index comes back in the error.
     pub(super) fn new(
         alloc: Global,
         index: WeightedIndex,

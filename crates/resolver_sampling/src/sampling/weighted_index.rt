@@ -46,7 +46,7 @@ impl Drop for WeightedIndex {
 }
 
 impl WeightedIndex {
-    /// An index of these weights, in time linear in their number. The only error is want of memory.
+    /// An index of these weights, in time linear in their number. The only error is refused memory.
     pub fn new(alloc: Global, weights: &[u64]) -> Result<Self, Fault>
         ensures ok { IfOk result (λ index. index ≡ weights.now) }
         ensures only { IfErr result (λ fault. fault ≡ OutOfMemory) }
@@ -130,7 +130,7 @@ impl WeightedIndex {
     }
 
     /// Begins draws without replacement, in time linear in the number of places. Where memory is
-    /// wanting, the index comes back in the error.
+    /// refused, the index comes back in the error.
     pub fn without_replacement(self) -> Result<Selection, AllocFailed<WeightedIndex>>
         ensures ok { IfOk result (λ selection. selection ≡ begun self) }
         ensures total { IfOk result (λ selection. sum (weights_left selection) ≡ sum self) }

@@ -1,5 +1,6 @@
 use Rattle.std.proofs.Common.{◌∙◌, ap, refl, subst, ◌<◌, ◌^◌, rules}
-use Rattle.resolver_model_peer.proofs.Refusals.{refused, refused-as, refusal-is}
+use Rattle.resolver_delivery.proofs.Refusals.{refusal-is}
+use Rattle.resolver_model_peer.proofs.Refusals.{refused, refused-as}
 use Rattle.resolver_peer_step.proofs.response.hand_out.Goals as goal
 
 pub deliver-requires-clause-contexts_clone : goal.deliver-requires-clause-contexts_clone
@@ -9,13 +10,13 @@ deliver-requires-clause-contexts_clone g c = λ x y is.
     ∙ ap (λ bytes. record x { bytes = bytes }) is.1.1
 
 pub returns-clause-told : goal.returns-clause-told
-returns-clause-told g c = c.in_ok-push.ensures.items ∙ rw (c.in-Ok-deliver.ensures.number, c.in-Ok.ensures.delivery) refl
+returns-clause-told g c = c.in_ok-push.ensures.items ∙ rw (c.in-Ok-deliver.ensures.number, ap (λ copies. copies.0) c.in-Ok.ensures) refl
 
 pub returns-clause-ok : goal.returns-clause-ok
-returns-clause-ok g c = c.in-Ok-deliver.ensures.ok ∙ rw c.in-Ok.ensures.value refl
+returns-clause-ok g c = c.in-Ok-deliver.ensures.ok ∙ rw (ap (λ copies. copies.1) c.in-Ok.ensures) refl
 
 pub returns-in-Err-clause-only : goal.returns-in-Err-clause-only
-returns-in-Err-clause-only g c = rw c.in-Err.ensures.only tt
+returns-in-Err-clause-only g c = rw c.from.ensures tt
 
 pub returns-in-Err-deliver-clause-only : goal.returns-in-Err-deliver-clause-only
 returns-in-Err-deliver-clause-only g c = rw c.in-Err-deliver.ensures.only (refusal-is c.args.entries.now.next)

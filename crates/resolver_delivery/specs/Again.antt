@@ -15,7 +15,7 @@ module _ {K S V C State : Type 0} (cmp : K → K → Ordering) where
   abbrev pub handed_again : Delivery K S → Bool → Numbered K S V C State → Numbered K S V C State
   handed_again delivery accepts d = redelivered cmp delivery (flagged accepts delivery.key d)
 
--- why something is not handed out: memory is wanting, or no number is left
+-- why something is not handed out: memory is refused, or no number is left
 abbrev pub IsRefusal : (next : ℕ) → Fault → Type 0
 IsRefusal next faults.OutOfMemory = ⊤
 IsRefusal next faults.Exhausted = nat_lt next (2 ^ 64) ≡ false

@@ -7,8 +7,8 @@ use Rattle.std.specs.BTreeMap.{is_at}
 use Rattle.std.specs.declared.cmp.Ordering.{Ordering}
 use Rattle.resolver_delivery.specs.declared.entry.Entry.{Entry}
 use Rattle.resolver_delivery.specs.declared.entry.Response.{Response}
-use Rattle.resolver_delivery.specs.Entries.{Numbered, accepted, changed_at, entry_of, number_of, response_changed, response_of, with_response}
-use Rattle.resolver_model_peer.specs.Again.{flagged}
+use Rattle.resolver_delivery.specs.Entries.{Numbered, accepted, changed_at, entry_of, number_of, response_changed, response_of, state_of, with_response}
+use Rattle.resolver_delivery.specs.Again.{flagged}
 
 lookup-set : {K X : Type 0} (test : K → Bool) (es : List (K × X)) (v w : X) → lookup test es ≡ Some v → lookup test (set_value test es w) ≡ Some w
 lookup-set test [] v w found = absurd cc
@@ -66,6 +66,9 @@ module _ {K S V C State : Type 0} (cmp : K → K → Ordering) (key : K) (d : Nu
 
     pub flagged-number : (b : Bool) → number_of cmp (flagged cmp b key d) key ≡ number_of cmp d key
     flagged-number b = ap (option_and_then (λ e. e.number)) (flagged-found b) ∙ sym (ap (option_and_then (λ e. e.number)) x.found)
+
+    pub flagged-state : (b : Bool) → state_of cmp (flagged cmp b key d) key ≡ state_of cmp d key
+    flagged-state b = ap (option_map (λ e. e.state)) (flagged-found b) ∙ sym (ap (option_map (λ e. e.state)) x.found)
 
     pub flagged-next : (b : Bool) → (flagged cmp b key d).next ≡ d.next
     flagged-next true = refl
