@@ -30,7 +30,7 @@ use Rattle.resolver_model.proofs.Mapped.{insert_entry-seen}
 use Rattle.resolver_model_opaque.proofs.Joined.{same_found, rows-found, rows-none, keys-rows, rows-set_demand, rows-set_keys, rows-inserted, head_key, tail_keys}
 use Rattle.resolver_model_opaque.proofs.Agrees.{cached-at, cached-changed, keys-changed, called_off-emptied, kept-emptied, agree-demand, agree-keys, agree-inserted}
 use Rattle.std.proofs.lemmas.Map.{keys-set_value}
-use Rattle.resolver_model_opaque.proofs.Inserted.{removed-inserted}
+use Rattle.resolver_types.proofs.Undone.{removed-inserted}
 use Rattle.resolver_model.proofs.Deliveries.{Each-find}
 use Rattle.resolver_model.proofs.Rows.{each_found}
 

@@ -17,7 +17,7 @@ use Rattle.resolver_fetch_requests.specs.declared.requests.request.Request.{Requ
 use Rattle.resolver_fetch_requests.specs.Requests.{by_id, is_asked, is_for, without_request}
 use Rattle.resolver_fetch_scan.specs.declared.place.Place.{Place}
 use Rattle.resolver_fetch_scan.specs.Waiting.{place_order}
-use Rattle.resolver_fetch_scan.proofs.Entries.{removed-inserted}
+use Rattle.resolver_types.proofs.Undone.{removed-inserted}
 use Rattle.resolver_model_peer.specs.Parties.{Parties}
 use Rattle.resolver_peer_step.specs.Tied.{same_id, sorted}
 use Rattle.resolver_peer_step.proofs.Sorting.{insert_entry-swap, insert_key-swap}

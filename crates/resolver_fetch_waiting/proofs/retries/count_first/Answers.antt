@@ -1,7 +1,7 @@
 use Rattle.std.proofs.Common.{refl, ◌≡◌, ◌∙◌, ap, rules}
 use Rattle.std.proofs.lemmas.Cmp.{tied_itself}
 use Rattle.std.specs.Ordering.{is_eq}
-use Rattle.resolver_fetch_scan.proofs.Entries.{removed-inserted}
+use Rattle.resolver_types.proofs.Undone.{removed-inserted}
 use Rattle.resolver_fetch_waiting.specs.Pending.{with_key}
 use Rattle.resolver_fetch_scan.proofs.Outcomes.{on-err}
 use Rattle.resolver_fetch_waiting.proofs.retries.count_first.Goals as goal

@@ -1,8 +1,9 @@
-use Rattle.std.proofs.Common.{◌≡◌, ◌∙◌, sym, ap, ℕ, List, [], Option, None, Some, false, is_some, refl}
+use Rattle.std.proofs.Common.{◌≡◌, ◌∙◌, sym, ap, ℕ, List, [], false}
 use Rattle.std.specs.BTreeMap.{insert_entry}
 use Rattle.resolver_types.specs.Names.{Names, names}
 use Rattle.resolver_types.specs.Subscribers.{attached_all}
 use Rattle.resolver_types.specs.Table.{asked_beside, asked_one, is_asked, subscribers_of}
+use Rattle.resolver_types.proofs.Undone.{none-of}
 use Rattle.resolver_demand.specs.Rows.{IsListed}
 use Rattle.resolver_demand.proofs.ListedRows.{attached_all-listed-new, all-insert}
 use Rattle.resolver_demand.proofs.subscribers.Tracker.insert_new.Goals as goal
@@ -11,10 +12,6 @@ pub invariant_of-self-2 : goal.invariant_of-self-2
 invariant_of-self-2 g c =
     let listed : IsListed g.S.Ord.cmp c.in_ok-fresh.fresh = rw c.in_ok-fresh.ensures (attached_all-listed-new g.S.Ord.cmp g.met.S.Ord.total _ c.into_vec.ensures.positive) in
     rw c.in_ok-insert.ensures.entries (all-insert g.S.Ord.cmp _ c.self.inside.demand.entries _ _ listed c.self.invariant)
-
-none-of : {A : Type 0} (o : Option A) → is_some o ≡ false → o ≡ None
-none-of None absent = refl
-none-of (Some a) absent = absurd (let wrong = absent in cc)
 
 -- a key that isn't there is put at its place
 asked-new : {K S : Type 0} (n : Names K S) (d : List (K × List (S × ℕ))) (key : K) (ss : List (S × ℕ)) → is_asked n d key ≡ false

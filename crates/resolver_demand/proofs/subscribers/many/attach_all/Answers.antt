@@ -1,11 +1,13 @@
 use Rattle.std.proofs.Common.{◌≡◌, ◌∙◌, sym, ap, arith, true, false, is_some, ◌∷◌, length}
+use Rattle.std.proofs.lemmas.Cmp.{tied_itself}
 use Rattle.std.specs.Map.{lookup, remove_entry}
 use Rattle.std.specs.BTreeMap.{insert_entry, is_at}
+use Rattle.std.specs.Ordering.{is_eq}
 use Rattle.std.specs.Vec.Iter.{into_iter_items}
 use Rattle.resolver_types.specs.Subscribers.{attached_all}
 use Rattle.resolver_types.specs.Undone.{without_each}
 use Rattle.resolver_demand.proofs.Placed.{attached-absent, attached-present}
-use Rattle.resolver_types.proofs.Undone.{removed-inserted, without_each-last}
+use Rattle.resolver_types.proofs.Undone.{none-of, removed-inserted, without_each-last}
 use Rattle.resolver_demand.proofs.subscribers.many.attach_all.Goals as goal
 
 pub loop-one-preserved-then-contains_key : goal.loop-one-preserved-then-contains_key
@@ -33,7 +35,7 @@ loop-one-preserved g c =
       undone =
           ap (λ added. without_each g.S.Ord.cmp added c.attach.new.map.entries) c.push_reserved.ensures.items
           ∙ without_each-last g.S.Ord.cmp c.loop-one.added.items c.in-Some.one.0 c.attach.new.map.entries
-          ∙ ap (λ entries. without_each g.S.Ord.cmp c.loop-one.added.items entries) (ap (λ entries. remove_entry (is_at (g.S.Ord.cmp c.in-Some.one.0)) entries) placed ∙ removed-inserted g.S.Ord.cmp g.met.S.Ord.total c.loop-one.map.entries c.in-Some.one.0 c.in-Some.one.1 absent)
+          ∙ ap (λ entries. without_each g.S.Ord.cmp c.loop-one.added.items entries) (ap (λ entries. remove_entry (is_at (g.S.Ord.cmp c.in-Some.one.0)) entries) placed ∙ removed-inserted g.S.Ord.cmp c.in-Some.one.0 c.loop-one.map.entries c.in-Some.one.1 (ap is_eq (tied_itself g.met.S.Ord.total c.in-Some.one.0)) (none-of _ absent))
           ∙ c.loop-one.invariant.undone;
     }
 

@@ -1,6 +1,8 @@
-use Rattle.std.proofs.Common.{◌≡◌, ◌∙◌, ◌+◌, ap, rules, length, is_some, None}
+use Rattle.std.proofs.Common.{◌≡◌, ◌∙◌, ◌+◌, ap, rules, length, None}
+use Rattle.std.proofs.lemmas.Cmp.{tied_itself}
 use Rattle.std.specs.Map.{lookup, remove_entry}
 use Rattle.std.specs.BTreeMap.{is_at}
+use Rattle.std.specs.Ordering.{is_eq}
 use Rattle.resolver_messages.specs.Places.{IsPlaced}
 use Rattle.resolver_types.proofs.Undone.{removed-inserted}
 use Rattle.resolver_messages.proofs.PlacesOfKeys.{placed-last}
@@ -19,5 +21,5 @@ returns-clause-back g c =
     let places = c.self.inside.by_key.entries in
     let absent : lookup (is_at (g.K.Ord.cmp c.args.key)) places ≡ None = search rules in
     ap (λ entries. remove_entry (is_at (g.K.Ord.cmp c.args.key)) entries) c.in_ok-insert.ensures.entries
-    ∙ removed-inserted g.K.Ord.cmp g.met.K.Ord.total places c.args.key _ (ap is_some absent)
+    ∙ removed-inserted g.K.Ord.cmp c.args.key places _ (ap is_eq (tied_itself g.met.K.Ord.total c.args.key)) absent
     ∙ c.self.view_is
