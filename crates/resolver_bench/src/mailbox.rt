@@ -29,15 +29,8 @@ pub fn run<R: AllocGlobal + Clock + Print + Wait + RandomSource + Copy + Drop>(
     rt: R,
     load: &Load,
 ) -> Result<(), Fault> {
-    match mailbox::new(rt, rt.alloc(), 1) {
-        Ok((mut sender, mut receiver)) => {
-            let taken = put_and_take(&rt, &mut sender, &mut receiver, load);
-            drop(sender);
-            drop(receiver);
-            taken
-        }
-        Err(fault) => Err(fault.into()),
-    }
+    let (mut sender, mut receiver) = mailbox::new(rt, rt.alloc(), 1)?;
+    put_and_take(&rt, &mut sender, &mut receiver, load)
 }
 
 /// The same of a mailbox that is lent.
@@ -107,10 +100,8 @@ fn taken<R: AllocGlobal + Wait + RandomSource + Drop>(
 
 /// How many fetches a message has that was taken.
 fn fetches(message: Message<u64, u16, (), All>) -> u64 {
-    let count = match &message {
+    match message {
         Message::Fetch(items) => items.len() as u64,
         Message::Retain(_) => 0,
-    };
-    drop(message);
-    count
+    }
 }

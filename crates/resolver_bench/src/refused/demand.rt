@@ -56,19 +56,12 @@ impl Fresh for Demand {
 impl Part<Call> for Demand {
     fn take(&mut self, alloc: Global, call: &Call) -> Result<(), Fault> {
         match call {
-            Call::Insert(key, named) => match listed(alloc, named) {
-                Ok(subscribers) => done(self.insert(*key, subscribers)),
-                Err(fault) => Err(fault),
-            },
+            Call::Insert(key, named) => done(self.insert(*key, listed(alloc, named)?)),
             Call::Pending(key) => done(self.pending(key)),
             Call::RetainEven => done(self.retain(&Even)),
             Call::RemoveDelivered(key, named) => {
-                let Ok(delivered) = listed(alloc, named) else {
-                    return Err(Fault::OutOfMemory);
-                };
-                let left = self.remove_delivered(key, &delivered);
-                drop(delivered);
-                done(left)
+                let delivered = listed(alloc, named)?;
+                done(self.remove_delivered(key, &delivered))
             }
             Call::Remove(key) => {
                 self.remove(key);

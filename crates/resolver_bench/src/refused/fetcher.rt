@@ -96,14 +96,9 @@ impl Fresh for Asker {
 }
 
 /// A fetcher that asks a peer for one key at once.
+#[derive(Drop)]
 pub struct Sparing {
     asker: Asker,
-}
-
-impl Drop for Sparing {
-    fn drop(self) {
-        let Self { asker: _ } = self;
-    }
 }
 
 impl Fresh for Sparing {
@@ -139,7 +134,7 @@ impl Part<Call> for Asker {
             Call::Block(peers) => self.set_blocked(peers.to_vec(alloc)?),
             Call::Fetch(now) => self.fetch(&mut Willing, &mut Zeros, u128::from(*now)),
             Call::Expire(now) => {
-                drop(self.pop_active(u128::from(*now)));
+                self.pop_active(u128::from(*now));
                 Ok(())
             }
         }

@@ -28,8 +28,7 @@ impl Part<Call> for Index {
     fn take(&mut self, alloc: Global, call: &Call) -> Result<(), Fault> {
         match call {
             Call::New(weights) => {
-                let made = WeightedIndex::new(alloc, weights)?;
-                drop(self.replace(made));
+                *self = Some(WeightedIndex::new(alloc, weights)?);
                 Ok(())
             }
             Call::Select => select(self),
@@ -48,11 +47,11 @@ fn select(kept: &mut Index) -> Result<(), Fault> {
     };
     match index.without_replacement() {
         Ok(selection) => {
-            drop(kept.replace(selection.end()));
+            *kept = Some(selection.end());
             Ok(())
         }
         Err(refused) => {
-            drop(kept.replace(refused.value));
+            *kept = Some(refused.value);
             Err(Fault::OutOfMemory)
         }
     }
