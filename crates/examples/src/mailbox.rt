@@ -45,20 +45,11 @@ where
     requires takes { pages.takes.name ≡ N.takes }
 {
     let (first, mut taker): (Putter<N, R>, Taker<N, R>) = mailbox::recorded(rt, alloc, pages, 2)?;
-    let (one, other) = match put_by_two(&rt, alloc, first) {
-        Ok(putters) => putters,
-        Err(error) => {
-            drop(taker);
-            return Err(error);
-        }
-    };
+    let (one, other) = put_by_two(&rt, alloc, first)?;
     taker.close();
-    let keys = take_all(&rt, &mut taker);
-    let puts = puts_booked(alloc, &one, &other, &taker);
-    drop(one);
-    drop(other);
-    drop(taker);
-    Ok((keys?, puts?))
+    let keys = take_all(&rt, &mut taker)?;
+    let puts = puts_booked(alloc, &one, &other, &taker)?;
+    Ok((keys, puts))
 }
 
 /// Has two threads put, and hands their handles back once both are done.

@@ -44,8 +44,6 @@ where
     )?;
     let read = read(rt, &mut store, &mut arrived);
     store.close();
-    drop(store);
-    drop(arrived);
     handle.join(&rt)?;
     read
 }

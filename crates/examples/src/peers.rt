@@ -39,17 +39,8 @@ where
 {
     let alloc = rt.alloc();
     let (told, mut seen) = mpsc::unbounded(alloc)?;
-    let shown = match work(rt, alloc, &told) {
-        Ok(taken) => {
-            let shown = print(&rt, &mut seen, &taken);
-            drop(taken);
-            shown
-        }
-        Err(error) => Err(error),
-    };
-    drop(told);
-    drop(seen);
-    shown
+    let taken = work(rt, alloc, &told)?;
+    print(&rt, &mut seen, &taken)
 }
 
 /// Prints what was seen, up to the last of it, and what was taken.
@@ -103,7 +94,6 @@ where
     let hands = (consumer, Producer::new(alloc));
     let mut running = begin(rt, alloc, (sets, guard), hands, net)?;
     let value = take(rt, &mut running, &mut taken);
-    drop(taken);
     end(&rt, running).and(value)
 }
 

@@ -148,7 +148,5 @@ pub fn run(rt: &(impl AllocGlobal + Print)) -> Result<()> {
         arrived: Vec::new(alloc),
         alloc,
     };
-    let shown = show(rt, &mut store);
-    drop(store);
-    shown
+    show(rt, &mut store)
 }

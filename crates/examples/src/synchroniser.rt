@@ -46,6 +46,7 @@ struct Running<R> {
 }
 
 /// What is wanted and what came. It outlasts an engine.
+#[derive(Drop)]
 struct Synchroniser {
     plan: Plan<Key, u16>,
     /// The least height that was not asked for.
@@ -54,18 +55,6 @@ struct Synchroniser {
     /// How many blocks of even heights came from the peer that has them.
     even: u8,
     alloc: Global,
-}
-
-impl Drop for Synchroniser {
-    fn drop(self) {
-        let Self {
-            plan: _,
-            next: _,
-            got: _,
-            even: _,
-            alloc: _,
-        } = self;
-    }
 }
 
 impl Synchroniser {
@@ -174,9 +163,7 @@ where
     R: Print + Threads + Wait + RandomSource + AllocGlobal + Copy + Drop + Send + 'static,
 {
     let mut sync = Synchroniser::new(rt.alloc());
-    let shown = show(rt, &mut sync);
-    drop(sync);
-    shown
+    show(rt, &mut sync)
 }
 
 fn show<R>(rt: R, sync: &mut Synchroniser) -> Result<()>

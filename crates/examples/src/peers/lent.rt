@@ -10,15 +10,10 @@ use resolver::p2p::mocks::{Key, Quiet};
 use std::alloc::Global;
 
 /// One set of peers, and no other.
+#[derive(Drop)]
 pub struct Sets {
     pub set: Option<Vec<Peer>>,
     pub rest: Quiet<Peer>,
-}
-
-impl Drop for Sets {
-    fn drop(self) {
-        let Self { set: _, rest: _ } = self;
-    }
 }
 
 impl Provider for Sets {
@@ -33,22 +28,12 @@ impl Provider for Sets {
 }
 
 /// Blocks the peer that it is asked to block, and tells.
+#[derive(Drop)]
 pub struct Guard {
     pub alloc: Global,
     pub told: Told,
     pub blocked: Option<Peer>,
     pub rest: Quiet<Peer>,
-}
-
-impl Drop for Guard {
-    fn drop(self) {
-        let Self {
-            alloc: _,
-            told: _,
-            blocked: _,
-            rest: _,
-        } = self;
-    }
 }
 
 impl Blocker for Guard {
@@ -68,15 +53,10 @@ impl Blocker for Guard {
 }
 
 /// A clock that comes at once to each moment that is 100 nanoseconds away, and to none that is later.
+#[derive(Drop)]
 pub struct Hasty {
     pub now: u64,
     pub rest: Quiet<Peer>,
-}
-
-impl Drop for Hasty {
-    fn drop(self) {
-        let Self { now: _, rest: _ } = self;
-    }
 }
 
 impl Clock for Hasty {

@@ -57,20 +57,11 @@ impl Receiver for Inbox {
 }
 
 /// The way of an engine to the others, whose posts stand in the order of their names.
+#[derive(Drop)]
 pub struct Wire {
     pub me: Peer,
     pub posts: Vec<Post>,
     pub told: Told,
-}
-
-impl Drop for Wire {
-    fn drop(self) {
-        let Self {
-            me: _,
-            posts: _,
-            told: _,
-        } = self;
-    }
 }
 
 impl Wire {

@@ -18,21 +18,12 @@ pub const SPARSE: Peer = Peer(1);
 pub const FULL: Peer = Peer(2);
 
 /// The way to the peers. They answer as soon as they are asked, and not at all of heights that they haven't reached.
+#[derive(Drop)]
 pub struct Wire {
     pub alloc: Global,
     pub post: mpsc::UnboundedSender<(Peer, Bytes)>,
     /// The height that they have reached.
     pub tip: u8,
-}
-
-impl Drop for Wire {
-    fn drop(self) {
-        let Self {
-            alloc: _,
-            post: _,
-            tip: _,
-        } = self;
-    }
 }
 
 impl Wire {
