@@ -8,8 +8,6 @@
 #[cfg(test)]
 mod ample;
 #[cfg(test)]
-mod asserting;
-#[cfg(test)]
 mod chaos;
 #[cfg(test)]
 mod closing;
@@ -39,6 +37,8 @@ mod running;
 mod scan;
 #[cfg(test)]
 mod script;
+#[cfg(test)]
+mod support;
 #[cfg(test)]
 mod twin;
 #[cfg(test)]

@@ -1,8 +1,8 @@
 //! How many messages an engine's mailbox has room for.
 
-use crate::asserting::assert_same;
 use crate::fakes::acts::Asks;
 use crate::fakes::world::{Setting, make_world};
+use crate::support::assert_same;
 use resolver_base::Feedback;
 use std::alloc::{AllocGlobal, Global};
 use std::num::NonZeroUsize;

@@ -1,6 +1,6 @@
 ghost use Rattle.std.specs.Prelude.{◌≡◌, ◌<◌, true};
 
-use crate::asserting::assert_same;
+use crate::support::assert_same;
 use bytes::BytesMut;
 use resolver::Fetch;
 use resolver::base::Span;

@@ -1,9 +1,9 @@
 //! Several sources that are ready at one poll: in which order the engine's loop takes what they give.
 
-use crate::asserting::assert_same;
 use crate::fakes::acts::Act;
 use crate::fakes::world::Setting;
 use crate::pair::{Acts, Play, with_pairs};
+use crate::support::assert_same;
 use resolver::{Outcome, Resolution};
 use std::alloc::AllocGlobal;
 use std::io::Print;

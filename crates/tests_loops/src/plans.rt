@@ -1,8 +1,8 @@
 //! Plans that an engine is told through its mailbox.
 
-use crate::asserting::assert_same;
 use crate::fakes::acts::Act;
 use crate::fakes::world::{Asked, Setting, World, make_loop};
+use crate::support::assert_same;
 use futures::test::MockTask;
 use resolver::backfill::{Plan, Without, fill, refill, settle, settle_below};
 use resolver::{Outcome, Resolution, TargetedResolver};

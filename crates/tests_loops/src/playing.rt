@@ -1,8 +1,8 @@
 //! What a test does to a loop that it polls by hand, and what is seen of that.
 
-use crate::asserting::assert_same;
 use crate::fakes::acts::{Act, Asks};
 use crate::fakes::world::{Setting, World, make_loop};
+use crate::support::assert_same;
 use futures::test::MockTask;
 use std::alloc::{AllocGlobal, Global};
 use std::panic::Expect;

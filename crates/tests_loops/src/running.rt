@@ -1,6 +1,6 @@
-use crate::asserting::assert_same;
 use crate::fakes::acts::{Act, Asks};
 use crate::fakes::world::{Setting, World, make_world, start};
+use crate::support::assert_same;
 use bytes::Bytes;
 use futures::channel::{mpsc, oneshot};
 use resolver::base::Fault;

@@ -1,9 +1,9 @@
 //! What an engine's core takes, as lines of a script for `resolver-replay`, and what such a script has.
 
-use crate::asserting::assert_same;
 use crate::fakes::acts::Act;
 use crate::fakes::world::Setting;
 use crate::pair::{Acts, Play, with_pairs};
+use crate::support::assert_same;
 use crate::twin::Happened;
 use resolver::base::Check;
 use resolver::p2p::FetchKey;

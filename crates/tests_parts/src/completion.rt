@@ -1,4 +1,4 @@
-use crate::asserts::{copied, equal, holds};
+use crate::support::{copied, equal, holds};
 use resolver_delivery::{Aborted, Completion};
 use resolver_types::{Delivery, NonEmptyVec, Outcome, Resolution};
 use std::alloc::Global;
@@ -25,7 +25,6 @@ fn completed(rt: &impl Abort, alloc: Global) -> Over {
 fn is_same(rt: &impl Abort, same: Over, completion: &Over) {
     holds(rt, same == *completion);
     equal(rt, same.delivery.subscribers.first(), &(10, 7));
-    drop(same);
 }
 
 fn compares_clones(rt: &impl Abort, completion: &Over) {
@@ -34,7 +33,6 @@ fn compares_clones(rt: &impl Abort, completion: &Over) {
     let mut other = copied(rt, completion);
     other.canceled = false;
     holds(rt, other != *completion);
-    drop(other);
 }
 
 #[test]

@@ -1,5 +1,4 @@
-use crate::asserts::equal;
-use crate::names::{Letter, delivery};
+use crate::support::{delivery, equal};
 use futures::Stream;
 use futures::channel::mpsc::UnboundedReceiver;
 use futures::task::Poll;
@@ -9,6 +8,7 @@ use resolver_types::{Outcome, Resolution};
 use std::alloc::Global;
 use std::panic::Expect;
 use std::process::Abort;
+use tests_support::names::Letter;
 
 const RIGHT: Option<Outcome> = Some(Outcome::Resolved(Resolution::Complete));
 
@@ -100,8 +100,6 @@ fn what_is_expected_or_not_is_right(rt: HostRuntime) {
     judges_what_is_expected(rt, alloc, &task, &mut consumer);
     drop(consumer);
     told(rt, &task, &mut taken);
-    drop(taken);
-    drop(task);
 }
 
 /// What a dummy expects is right, and nothing else.
@@ -114,5 +112,4 @@ fn a_dummy_judges_too(rt: HostRuntime) {
     let mut consumer = mocks::Consumer::dummy(alloc).expect(rt, "memory");
     judges(rt, alloc, &task, &mut consumer, &[(1, 7), (2, 8)], JUDGED);
     drop(consumer);
-    drop(task);
 }

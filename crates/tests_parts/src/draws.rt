@@ -1,6 +1,6 @@
 ghost use Rattle.std.proofs.Common.{arith};
 
-use crate::asserts::equal;
+use crate::support::equal;
 use resolver_base::{Draws, Seeded};
 
 /// Draws below six bounds in turn.

@@ -1,58 +1,26 @@
 //! Deliveries by their numbers, and what is known once one is over.
 //!
-//! A test is a table of calls, and the text of what they answer. The entries are made, used and dropped
-//! in few places, so that the tests are proved without what they are.
+//! | Line | Says | Prints |
+//! |---|---|---|
+//! | `insert K`, `insert-new K`, `insert-below K` | the key is there, which wasn't before, or each below it | whether it is new; how many are |
+//! | `remove K`, `take K`, `retain K`, `drain`, `clear` | the key goes, the keys from K on, or all | whether it was there; its entry; how many go |
+//! | `deliver K CONTEXT`, `deliver-below K` | the value 5 is handed out for the key, or for each below it, which is put first | the number |
+//! | `redeliver K`, `accept K`, `discard K` | the key's response is handed out again, accepted or discarded | the number |
+//! | `verdict N W`, `verdict-below N` | the verdict on delivery N, or none on each below it, from the last on | what is over; how many were open |
+//! | `contains K`, `is-accepted K`, `response K`, `number K`, `entry K`, `open N`, `keys` | | what is there |
+//! | `put-state K N`, `set-state K N`, `state K` | the key is there with a state; it has another one | whether it is new; the state |
 
 ghost use Rattle.std.specs.Prelude.{◌≡◌};
 
-use crate::asserts::{equal_texts, holds, spell};
+use crate::support::{Part, holds, outcome, plays, print, unreadable, value};
 use resolver_delivery::Entries;
-use resolver_types::{Delivery, NonEmptyVec, Outcome, Resolution};
+use resolver_types::{Delivery, NonEmptyVec};
 use std::alloc::Global;
 use std::panic::Expect;
 use std::process::Abort;
+use tests_support::transcript::{Line, Said, cases};
 
 type Tracked = Entries<u16, u16, u8, u64, ()>;
-
-/// What changes, and what is looked at.
-#[derive(Clone, Copy)]
-enum Call {
-    Insert(u16),
-    /// This key isn't there.
-    InsertNew(u16),
-    /// Each key below this one is put, and those that are new are counted.
-    InsertBelow(u16),
-    Remove(u16),
-    Take(u16),
-    /// The value 5 is handed out for this key, in this context.
-    Deliver(u16, u64),
-    /// Each key below this one is put, and the value 5 handed out for it.
-    DeliverBelow(u16),
-    /// The response of this key is handed out again.
-    Redeliver(u16),
-    Accept(u16),
-    Discard(u16),
-    Complete(u64, Option<Outcome>),
-    /// The deliveries below this number are closed from the last on, and those that were open are counted.
-    CompleteBelow(u64),
-    /// The keys below this one are kept.
-    Retain(u16),
-    Drain,
-    Clear,
-    Look(Look),
-}
-
-/// What is looked at, of this key or of this number.
-#[derive(Clone, Copy)]
-enum Look {
-    Contains(u16),
-    IsAccepted(u16),
-    Response(u16),
-    Number(u16),
-    Open(u64),
-    Entry(u16),
-    Keys,
-}
 
 fn insert(rt: &impl Abort, entries: &mut Tracked, key: u16) -> bool {
     entries.insert(key).expect(rt, "memory")
@@ -117,7 +85,6 @@ fn complete_below(entries: &mut Tracked, end: u64) -> u64 {
         if over.is_ok() {
             count = count.wrapping_add(1);
         }
-        drop(over);
     }
     count
 }
@@ -126,296 +93,362 @@ fn retain(entries: &mut Tracked, end: u16) -> usize {
     entries.retain(|key| *key < end)
 }
 
-/// Makes a call that changes something, and writes what it answers.
-fn change(rt: &impl Abort, text: &mut String, entries: &mut Tracked, call: Call) {
-    let alloc = *text.allocator();
-    match call {
-        Call::Insert(key) => spell(rt, text, insert(rt, entries, key)),
-        Call::InsertNew(key) => insert_new(rt, entries, key),
-        Call::InsertBelow(end) => spell(rt, text, insert_below(rt, entries, end)),
-        Call::Remove(key) => spell(rt, text, entries.remove(&key)),
-        Call::Take(key) => spell(rt, text, entries.take(&key)),
-        Call::Deliver(key, of) => spell(rt, text, deliver(rt, alloc, entries, key, of)),
-        Call::DeliverBelow(end) => deliver_below(rt, alloc, entries, end),
-        Call::Redeliver(key) => spell(rt, text, redeliver(rt, alloc, entries, key)),
-        Call::Accept(key) => accept(rt, entries, key),
-        Call::Discard(key) => entries.discard_response(&key),
-        Call::Complete(number, verdict) => spell(rt, text, entries.completed(number, verdict)),
-        Call::CompleteBelow(end) => spell(rt, text, complete_below(entries, end)),
-        Call::Retain(end) => spell(rt, text, retain(entries, end)),
-        Call::Drain => spell(rt, text, entries.drain()),
-        Call::Clear => entries.clear(),
-        Call::Look(look) => spell_look(rt, text, entries, look),
-    }
-}
-
-/// Writes what is seen.
-fn spell_look(rt: &impl Abort, text: &mut String, entries: &Tracked, look: Look) {
-    match look {
-        Look::Contains(key) => spell(rt, text, entries.contains(&key)),
-        Look::IsAccepted(key) => spell(rt, text, entries.response_accepted(&key)),
-        Look::Response(key) => spell(rt, text, entries.response(&key)),
-        Look::Number(key) => spell(rt, text, entries.number(&key)),
-        Look::Open(number) => spell(rt, text, entries.open(number)),
-        Look::Entry(key) => spell(rt, text, entries.get(&key)),
-        Look::Keys => spell_keys(rt, text, entries),
-    }
-}
-
-fn spell_keys(rt: &impl Abort, text: &mut String, entries: &Tracked) {
+/// Prints the keys that are there.
+fn print_keys(rt: &impl Abort, printed: &mut String, entries: &Tracked) {
     for (key, _) in entries.iter() {
-        spell(rt, text, key);
+        print(rt, printed, key);
     }
 }
 
-/// What calls of new entries answer.
-fn told(rt: &impl Abort, alloc: Global, calls: &[Call]) -> String {
-    let mut text = String::new(alloc);
-    let mut entries = Entries::new(alloc);
-    for call in calls {
-        change(rt, &mut text, &mut entries, *call);
+/// Looks at a key or a number. Ends the test where no line has this word.
+fn look(rt: &impl Abort, printed: &mut String, entries: &Tracked, word: &str, line: &mut Line) {
+    match word {
+        "contains" => print(rt, printed, entries.contains(&value(rt, line))),
+        "is-accepted" => print(rt, printed, entries.response_accepted(&value(rt, line))),
+        "response" => print(rt, printed, entries.response(&value(rt, line))),
+        "number" => print(rt, printed, entries.number(&value(rt, line))),
+        "open" => print(rt, printed, entries.open(value(rt, line))),
+        "entry" => print(rt, printed, entries.get(&value(rt, line))),
+        "keys" => print_keys(rt, printed, entries),
+        _ => unreadable(rt, line),
     }
-    drop(entries);
-    text
 }
 
-/// Calls, and what they answer together.
-type Row<'a> = (&'a [Call], &'a str);
+/// Says a line of deliveries and their responses, or looks.
+fn hand_out(
+    rt: &impl Abort,
+    printed: &mut String,
+    entries: &mut Tracked,
+    word: &str,
+    line: &mut Line,
+) {
+    let alloc = *printed.allocator();
+    match word {
+        "deliver" => {
+            let key = value(rt, line);
+            print(
+                rt,
+                printed,
+                deliver(rt, alloc, entries, key, value(rt, line)),
+            );
+        }
+        "deliver-below" => deliver_below(rt, alloc, entries, value(rt, line)),
+        "redeliver" => print(rt, printed, redeliver(rt, alloc, entries, value(rt, line))),
+        "accept" => accept(rt, entries, value(rt, line)),
+        "discard" => entries.discard_response(&value(rt, line)),
+        "verdict" => {
+            let number = value(rt, line);
+            print(rt, printed, entries.completed(number, outcome(rt, line)));
+        }
+        "verdict-below" => print(rt, printed, complete_below(entries, value(rt, line))),
+        word => look(rt, printed, entries, word, line),
+    }
+}
 
-const COMPLETE: Option<Outcome> = Some(Outcome::Resolved(Resolution::Complete));
+impl<R: Abort> Said<R> for Part<'_, Tracked> {
+    fn say(&mut self, rt: &R, line: &mut Line, printed: &mut String) {
+        match line.field() {
+            "insert" => print(rt, printed, insert(rt, self.0, value(rt, line))),
+            "insert-new" => insert_new(rt, self.0, value(rt, line)),
+            "insert-below" => print(rt, printed, insert_below(rt, self.0, value(rt, line))),
+            "remove" => print(rt, printed, self.0.remove(&value(rt, line))),
+            "take" => print(rt, printed, self.0.take(&value(rt, line))),
+            "retain" => print(rt, printed, retain(self.0, value(rt, line))),
+            "drain" => print(rt, printed, self.0.drain()),
+            "clear" => self.0.clear(),
+            word => hand_out(rt, printed, self.0, word, line),
+        }
+    }
+}
 
-const INVALID: Option<Outcome> = Some(Outcome::Invalid);
-
-const IGNORED: Option<Outcome> = Some(Outcome::Ignored);
+/// Plays each case, of new entries.
+fn play_each(rt: &impl Abort, alloc: Global, transcript: &str) {
+    for case in cases(transcript) {
+        let mut entries: Tracked = Entries::new(alloc);
+        plays(rt, alloc, &mut Part(&mut entries), case);
+        drop(entries);
+    }
+}
 
 /// Keys come and go: each for itself, all but the first, and all at once. What was kept of one is given as it
 /// goes, and the numbers of deliveries go on.
-const KEYS: &[Row] = &[
-    (
-        &[
-            Call::Look(Look::Contains(1)),
-            Call::Insert(1),
-            Call::Look(Look::Contains(1)),
-            Call::Insert(1),
-            Call::Remove(1),
-            Call::Look(Look::Contains(1)),
-            Call::Remove(1),
-        ],
-        " false true true false true false false",
-    ),
-    (
-        &[
-            Call::InsertBelow(10),
-            Call::Retain(3),
-            Call::Look(Look::Keys),
-            Call::Drain,
-            Call::Look(Look::Contains(0)),
-        ],
-        " 10 7 0 1 2 3 false",
-    ),
-    (
-        &[
-            Call::Insert(1),
-            Call::Deliver(1, 40),
-            Call::Look(Look::Entry(1)),
-            Call::Look(Look::Entry(2)),
-            Call::Clear,
-            Call::Look(Look::Entry(1)),
-            Call::Look(Look::Open(0)),
-            Call::Insert(1),
-            Call::Deliver(1, 41),
-        ],
-        " true 0 Some(Entry { number: Some(0), response: Some(Response { name: 0, value: 5, context: 40, \
-        accepted: false }), state: () }) None None None true 1",
-    ),
-    (
-        &[
-            Call::InsertNew(1),
-            Call::InsertNew(2),
-            Call::Deliver(1, 40),
-            Call::Take(1),
-            Call::Look(Look::Contains(1)),
-            Call::Take(1),
-            Call::InsertNew(1),
-            Call::Take(2),
-            Call::Look(Look::Keys),
-            Call::Look(Look::Number(1)),
-        ],
-        " 0 Some(Entry { number: Some(0), response: Some(Response { name: 0, value: 5, context: 40, \
-        accepted: false }), state: () }) false None \
-        Some(Entry { number: None, response: None, state: () }) 1 None",
-    ),
-];
+const KEYS: &str = "# entries
+contains 1
+> false
+insert 1
+> true
+contains 1
+> true
+insert 1
+> false
+remove 1
+> true
+contains 1
+> false
+remove 1
+> false
+
+# keys that are kept, and drained
+insert-below 10
+> 10
+retain 3
+> 7
+keys
+> 0
+> 1
+> 2
+drain
+> 3
+contains 0
+> false
+
+# an entry that is cleared
+insert 1
+> true
+deliver 1 40
+> 0
+entry 1
+> Some(Entry { number: Some(0), response: Some(Response { name: 0, value: 5, context: 40, accepted: false }), state: () })
+entry 2
+> None
+clear
+entry 1
+> None
+open 0
+> None
+insert 1
+> true
+deliver 1 41
+> 1
+
+# an entry that is taken
+insert-new 1
+insert-new 2
+deliver 1 40
+> 0
+take 1
+> Some(Entry { number: Some(0), response: Some(Response { name: 0, value: 5, context: 40, accepted: false }), state: () })
+contains 1
+> false
+take 1
+> None
+insert-new 1
+take 2
+> Some(Entry { number: None, response: None, state: () })
+keys
+> 1
+number 1
+> None";
 
 /// A response is kept until it is discarded, and handed out again. An old delivery of a key that came back is
 /// told from its new one.
-const RESPONSES: &[Row] = &[
-    (
-        &[
-            Call::Insert(1),
-            Call::Look(Look::IsAccepted(1)),
-            Call::Deliver(1, 40),
-            Call::Look(Look::Number(1)),
-            Call::Look(Look::IsAccepted(1)),
-            Call::Accept(1),
-            Call::Look(Look::IsAccepted(1)),
-            Call::Look(Look::Response(1)),
-            Call::Look(Look::Open(0)),
-            Call::Discard(1),
-            Call::Look(Look::Response(1)),
-            Call::Look(Look::IsAccepted(1)),
-        ],
-        " true false 0 Some(0) false true Some(Response { name: 0, value: 5, context: 40, accepted: true }) \
-        Some(Open { response: 0, delivery: Delivery { key: 1, subscribers: NonEmptyVec { items: [(10, 7)] } }, \
-        context: 40, accepted: false }) None false",
-    ),
-    (
-        &[
-            Call::Insert(1),
-            Call::Deliver(1, 40),
-            Call::Remove(1),
-            Call::Insert(1),
-            Call::Deliver(1, 41),
-            Call::Complete(0, INVALID),
-            Call::Look(Look::Number(1)),
-            Call::Accept(1),
-            Call::Complete(1, None),
-            Call::Redeliver(1),
-            Call::Complete(2, INVALID),
-        ],
-        " true 0 true true 1 Ok(Completion { response: 0, context: 40, delivery: Delivery { key: 1, \
-        subscribers: NonEmptyVec { items: [(10, 7)] } }, outcome: Some(Invalid), canceled: true, \
-        previously_accepted: false }) Some(1) Ok(Completion { response: 1, context: 41, \
-        delivery: Delivery { key: 1, subscribers: NonEmptyVec { items: [(10, 7)] } }, outcome: None, \
-        canceled: false, previously_accepted: false }) 2 Ok(Completion { response: 1, context: 41, \
-        delivery: Delivery { key: 1, subscribers: NonEmptyVec { items: [(10, 7)] } }, outcome: Some(Invalid), \
-        canceled: false, previously_accepted: true })",
-    ),
-];
+const RESPONSES: &str = "# a response is kept until it is discarded
+insert 1
+> true
+is-accepted 1
+> false
+deliver 1 40
+> 0
+number 1
+> Some(0)
+is-accepted 1
+> false
+accept 1
+is-accepted 1
+> true
+response 1
+> Some(Response { name: 0, value: 5, context: 40, accepted: true })
+open 0
+> Some(Open { response: 0, delivery: Delivery { key: 1, subscribers: NonEmptyVec { items: [(10, 7)] } }, context: 40, accepted: false })
+discard 1
+response 1
+> None
+is-accepted 1
+> false
 
-/// A key is put, its delivery begun and closed twice with this verdict, and its number asked for. The key stays
-/// there, goes before, or goes and comes back.
-macro_rules! closing {
-    ([$($call:expr),*], $verdict:expr, $wanted:expr) => {
-        (
-            &[
-                Call::Insert(1),
-                Call::Deliver(1, 40),
-                $($call,)*
-                Call::Complete(0, $verdict),
-                Call::Complete(0, $verdict),
-                Call::Look(Look::Number(1)),
-            ],
-            $wanted,
-        )
-    };
-}
+# an old delivery of a key that came back
+insert 1
+> true
+deliver 1 40
+> 0
+remove 1
+> true
+insert 1
+> true
+deliver 1 41
+> 1
+verdict 0 invalid
+> Ok(Completion { response: 0, context: 40, delivery: Delivery { key: 1, subscribers: NonEmptyVec { items: [(10, 7)] } }, outcome: Some(Invalid), canceled: true, previously_accepted: false })
+number 1
+> Some(1)
+accept 1
+verdict 1 dropped
+> Ok(Completion { response: 1, context: 41, delivery: Delivery { key: 1, subscribers: NonEmptyVec { items: [(10, 7)] } }, outcome: None, canceled: false, previously_accepted: false })
+redeliver 1
+> 2
+verdict 2 invalid
+> Ok(Completion { response: 1, context: 41, delivery: Delivery { key: 1, subscribers: NonEmptyVec { items: [(10, 7)] } }, outcome: Some(Invalid), canceled: false, previously_accepted: true })";
 
 /// A delivery's number is closed twice: with its key there, without it, and with it removed and back.
-const CLOSINGS: &[Row] = &[
-    closing!(
-        [],
-        COMPLETE,
-        " true 0 Ok(Completion { response: 0, context: 40, delivery: Delivery { key: 1, \
-        subscribers: NonEmptyVec { items: [(10, 7)] } }, outcome: Some(Resolved(Complete)), canceled: false, \
-        previously_accepted: false }) Err(Aborted) None"
-    ),
-    closing!(
-        [],
-        None,
-        " true 0 Ok(Completion { response: 0, context: 40, delivery: Delivery { key: 1, \
-        subscribers: NonEmptyVec { items: [(10, 7)] } }, outcome: None, canceled: false, \
-        previously_accepted: false }) Err(Aborted) None"
-    ),
-    closing!(
-        [],
-        INVALID,
-        " true 0 Ok(Completion { response: 0, context: 40, delivery: Delivery { key: 1, \
-        subscribers: NonEmptyVec { items: [(10, 7)] } }, outcome: Some(Invalid), canceled: false, \
-        previously_accepted: false }) Err(Aborted) None"
-    ),
-    closing!(
-        [Call::Remove(1)],
-        COMPLETE,
-        " true 0 true Ok(Completion { response: 0, context: 40, delivery: Delivery { key: 1, \
-        subscribers: NonEmptyVec { items: [(10, 7)] } }, outcome: Some(Resolved(Complete)), canceled: true, \
-        previously_accepted: false }) Err(Aborted) None"
-    ),
-    closing!(
-        [Call::Remove(1)],
-        None,
-        " true 0 true Err(Aborted) Err(Aborted) None"
-    ),
-    closing!(
-        [Call::Remove(1), Call::Insert(1)],
-        IGNORED,
-        " true 0 true true Ok(Completion { response: 0, context: 40, delivery: Delivery { key: 1, \
-        subscribers: NonEmptyVec { items: [(10, 7)] } }, outcome: Some(Ignored), canceled: true, \
-        previously_accepted: false }) Err(Aborted) None"
-    ),
-    closing!(
-        [Call::Remove(1), Call::Insert(1)],
-        None,
-        " true 0 true true Err(Aborted) Err(Aborted) None"
-    ),
-];
+const CLOSINGS: &str = "# complete, its key stays
+insert 1
+> true
+deliver 1 40
+> 0
+verdict 0 complete
+> Ok(Completion { response: 0, context: 40, delivery: Delivery { key: 1, subscribers: NonEmptyVec { items: [(10, 7)] } }, outcome: Some(Resolved(Complete)), canceled: false, previously_accepted: false })
+verdict 0 complete
+> Err(Aborted)
+number 1
+> None
+
+# dropped, its key stays
+insert 1
+> true
+deliver 1 40
+> 0
+verdict 0 dropped
+> Ok(Completion { response: 0, context: 40, delivery: Delivery { key: 1, subscribers: NonEmptyVec { items: [(10, 7)] } }, outcome: None, canceled: false, previously_accepted: false })
+verdict 0 dropped
+> Err(Aborted)
+number 1
+> None
+
+# invalid, its key stays
+insert 1
+> true
+deliver 1 40
+> 0
+verdict 0 invalid
+> Ok(Completion { response: 0, context: 40, delivery: Delivery { key: 1, subscribers: NonEmptyVec { items: [(10, 7)] } }, outcome: Some(Invalid), canceled: false, previously_accepted: false })
+verdict 0 invalid
+> Err(Aborted)
+number 1
+> None
+
+# complete, its key is gone
+insert 1
+> true
+deliver 1 40
+> 0
+remove 1
+> true
+verdict 0 complete
+> Ok(Completion { response: 0, context: 40, delivery: Delivery { key: 1, subscribers: NonEmptyVec { items: [(10, 7)] } }, outcome: Some(Resolved(Complete)), canceled: true, previously_accepted: false })
+verdict 0 complete
+> Err(Aborted)
+number 1
+> None
+
+# dropped, its key is gone
+insert 1
+> true
+deliver 1 40
+> 0
+remove 1
+> true
+verdict 0 dropped
+> Err(Aborted)
+verdict 0 dropped
+> Err(Aborted)
+number 1
+> None
+
+# ignored, its key came back
+insert 1
+> true
+deliver 1 40
+> 0
+remove 1
+> true
+insert 1
+> true
+verdict 0 ignored
+> Ok(Completion { response: 0, context: 40, delivery: Delivery { key: 1, subscribers: NonEmptyVec { items: [(10, 7)] } }, outcome: Some(Ignored), canceled: true, previously_accepted: false })
+verdict 0 ignored
+> Err(Aborted)
+number 1
+> None
+
+# dropped, its key came back
+insert 1
+> true
+deliver 1 40
+> 0
+remove 1
+> true
+insert 1
+> true
+verdict 0 dropped
+> Err(Aborted)
+verdict 0 dropped
+> Err(Aborted)
+number 1
+> None";
 
 /// Of ten thousand deliveries each was open. None is then, and no key has one.
-const TEN_THOUSAND: &[Row] = &[(
-    &[
-        Call::DeliverBelow(10_000),
-        Call::CompleteBelow(10_000),
-        Call::Look(Look::Open(0)),
-        Call::Look(Look::Number(9_999)),
-    ],
-    " 10000 None None",
-)];
-
-/// The calls of each row, of new entries, answer what stands there.
-fn answer(rt: &impl Abort, alloc: Global, rows: &[Row]) {
-    for (calls, wanted) in rows {
-        let text = told(rt, alloc, calls);
-        equal_texts(rt, text.as_str(), wanted);
-        drop(text);
-    }
-}
+const TEN_THOUSAND: &str = "# ten thousand, from the last on
+deliver-below 10000
+verdict-below 10000
+> 10000
+open 0
+> None
+number 9999
+> None";
 
 #[test]
 fn closed_with_each_verdict(rt: HostRuntime) {
-    answer(&rt, rt.alloc(), CLOSINGS);
+    play_each(&rt, rt.alloc(), CLOSINGS);
 }
 
 #[test]
 fn keys_and_responses(rt: HostRuntime) {
-    answer(&rt, rt.alloc(), KEYS);
-    answer(&rt, rt.alloc(), RESPONSES);
+    play_each(&rt, rt.alloc(), KEYS);
+    play_each(&rt, rt.alloc(), RESPONSES);
 }
 
 #[test]
 fn closes_ten_thousand_backwards(rt: HostRuntime) {
-    answer(&rt, rt.alloc(), TEN_THOUSAND);
+    play_each(&rt, rt.alloc(), TEN_THOUSAND);
 }
 
-/// A key is put with a state twice, and then states are set, of it and of a key that isn't there. Writes
-/// whether it was new, and the states that are there.
-fn stages(rt: &impl Abort, text: &mut String, entries: &mut Entries<u16, u16, u8, u64, u32>) {
-    let is_new = entries.insert_state(1, 20).expect(rt, "memory");
-    let is_new_again = entries.insert_state(1, 30).expect(rt, "memory");
-    spell(rt, text, is_new);
-    spell(rt, text, is_new_again);
-    spell(rt, text, entries.state(&1));
-    entries.set_state(&1, 40);
-    entries.set_state(&2, 50);
-    spell(rt, text, entries.state(&1));
-    spell(rt, text, entries.state(&2));
+/// Entries whose keys have a state.
+type Stated = Entries<u16, u16, u8, u64, u32>;
+
+impl<R: Abort> Said<R> for Part<'_, Stated> {
+    fn say(&mut self, rt: &R, line: &mut Line, printed: &mut String) {
+        match line.field() {
+            "put-state" => {
+                let key = value(rt, line);
+                let is_new = self.0.insert_state(key, value(rt, line));
+                print(rt, printed, is_new.expect(rt, "memory"));
+            }
+            "set-state" => {
+                let key = value(rt, line);
+                self.0.set_state(&key, value(rt, line));
+            }
+            "state" => print(rt, printed, self.0.state(&value(rt, line))),
+            _ => unreadable(rt, line),
+        }
+    }
 }
 
 #[test]
 fn keeps_a_state(rt: HostRuntime) {
-    let mut text = String::new(rt.alloc());
-    let mut entries = Entries::new(rt.alloc());
-    stages(&rt, &mut text, &mut entries);
+    const CASE: &str = "# keeps_a_state
+put-state 1 20
+> true
+put-state 1 30
+> false
+state 1
+> Some(20)
+set-state 1 40
+set-state 2 50
+state 1
+> Some(40)
+state 2
+> None";
+    let mut entries: Stated = Entries::new(rt.alloc());
+    plays(&rt, rt.alloc(), &mut Part(&mut entries), CASE);
     drop(entries);
-    equal_texts(&rt, text.as_str(), " true false Some(20) Some(40) None");
-    drop(text);
 }

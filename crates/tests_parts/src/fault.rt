@@ -1,4 +1,4 @@
-use crate::asserts::{equal, equal_texts};
+use crate::support::{equal, equal_texts};
 use resolver_base::Fault;
 use std::alloc::{AllocError, AllocFailed};
 use std::panic::Expect;
@@ -56,6 +56,5 @@ fn says_why(rt: HostRuntime) {
     for (fault, text) in SAID {
         let said = fault.to_string(rt.alloc()).expect(&rt, "memory");
         equal_texts(&rt, said.as_str(), text);
-        drop(said);
     }
 }

@@ -7,17 +7,9 @@
 #[cfg(test)]
 mod actor;
 #[cfg(test)]
-mod asserts;
-#[cfg(test)]
-mod calls;
-#[cfg(test)]
 mod completion;
 #[cfg(test)]
 mod consumer;
-#[cfg(test)]
-mod counting;
-#[cfg(test)]
-mod drawing;
 #[cfg(test)]
 mod draws;
 #[cfg(test)]
@@ -27,21 +19,11 @@ mod fault;
 #[cfg(test)]
 mod fetcher;
 #[cfg(test)]
-mod fetching;
-#[cfg(test)]
-mod joining;
-#[cfg(test)]
-mod keys;
-#[cfg(test)]
-mod laws;
-#[cfg(test)]
-mod lines;
+mod handle;
 #[cfg(test)]
 mod mail;
 #[cfg(test)]
 mod messages;
-#[cfg(test)]
-mod names;
 #[cfg(test)]
 mod non_empty_vec;
 #[cfg(test)]
@@ -51,7 +33,7 @@ mod opaque;
 #[cfg(test)]
 mod pending;
 #[cfg(test)]
-mod plans;
+mod plan;
 #[cfg(test)]
 mod predicate;
 #[cfg(test)]
@@ -59,27 +41,29 @@ mod priority_set;
 #[cfg(test)]
 mod producer;
 #[cfg(test)]
+mod public_key;
+#[cfg(test)]
 mod quiet;
 #[cfg(test)]
 mod requests;
 #[cfg(test)]
-mod retrying;
+mod retries;
 #[cfg(test)]
 mod sampling;
 #[cfg(test)]
 mod score;
 #[cfg(test)]
-mod scripts;
-#[cfg(test)]
 mod sender;
 #[cfg(test)]
-mod slow;
-#[cfg(test)]
-mod sources;
+mod span;
 #[cfg(test)]
 mod subscribers;
 #[cfg(test)]
+mod support;
+#[cfg(test)]
 mod tracker;
+#[cfg(test)]
+mod traits;
 #[cfg(test)]
 mod types;
 #[cfg(test)]

@@ -1,8 +1,8 @@
 //! The mailbox, its desk and its handles.
 
-mod calls;
 mod desk;
-mod handle;
-pub mod mailbox;
+mod handles;
+mod mailbox;
+mod messages;
 mod names;
 mod threads;

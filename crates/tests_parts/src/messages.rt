@@ -1,6 +1,4 @@
-use crate::asserts::{equal, holds, is_written};
-use crate::counting::{Counting, Tally};
-use crate::names::All;
+use crate::support::{equal, holds, is_written};
 use resolver_desk::Pending;
 use resolver_messages::{FetchKey, Message, laws};
 use resolver_types::{Fetch, NonEmptyVec};
@@ -8,6 +6,8 @@ use std::alloc::Global;
 use std::cell::Cell;
 use std::panic::Expect;
 use std::process::Abort;
+use tests_support::counting::{Counting, Tally};
+use tests_support::names::All;
 
 #[test]
 fn fetch_of_one_subscriber(rt: HostRuntime) {

@@ -1,7 +1,7 @@
 ghost use Rattle.std.specs.Prelude.{nat_le};
 ghost use Rattle.std.proofs.Common.{rules};
 
-use crate::asserts::{equal, equal_lists, holds};
+use crate::support::{equal, equal_lists, holds};
 use resolver_types::{NonEmptyVec, Predicate};
 use std::alloc::Global;
 use std::panic::Expect;
@@ -18,7 +18,6 @@ fn grows_in_order(rt: HostRuntime) {
     equal_lists(rt, list.as_slice(), &[5, 6, 7]);
     holds(rt, list.contains(&6));
     holds(rt, !list.contains(&8));
-    drop(list);
 }
 
 #[test]
@@ -26,11 +25,9 @@ fn takes_a_list_that_has_items(rt: HostRuntime) {
     let rt = &rt;
     let items = list_of(rt, rt.alloc(), &[5u8, 6]).into_vec();
     equal_lists(rt, items.as_slice(), &[5, 6]);
-    drop(items);
     let back = NonEmptyVec::<u8>::try_from(Vec::new(rt.alloc()));
     let back = back.err().expect(rt, "the empty list");
     holds(rt, back.is_empty());
-    drop(back);
 }
 
 #[test]
@@ -39,7 +36,6 @@ fn gives_its_items(rt: HostRuntime) {
     let mut items = list.iter();
     let given = [items.next(), items.next(), items.next()];
     equal(&rt, &given, &[Some(&5), Some(&6), None]);
-    drop(list);
 }
 
 fn half(item: u8) -> u16 {
@@ -53,9 +49,7 @@ fn is_cloned_and_mapped(rt: HostRuntime) {
     let same = list.clone().expect(rt, "memory");
     let halves = list.map_into(rt.alloc(), half).expect(rt, "memory");
     equal_lists(rt, halves.as_slice(), &[2, 3]);
-    drop(halves);
     equal_lists(rt, same.as_slice(), &[5, 6]);
-    drop(same);
 }
 
 /// Keeps the subscribers up to a bound.
@@ -85,7 +79,6 @@ fn keeps_subscribers_or_all(rt: HostRuntime) {
     equal(rt, &kept(&mut list, &UpTo(9)), &(false, false, 2));
     equal(rt, &kept(&mut list, &UpTo(10)), &(true, true, 1));
     equal_lists(rt, list.as_slice(), &[(10, 7)]);
-    drop(list);
 }
 
 /// A list of these items, of which there is one at least.
@@ -100,7 +93,6 @@ fn joins(rt: &impl Abort, alloc: Global, more: &[u8], all: &[u8]) {
     let more = list_of(rt, alloc, more);
     peers.join(alloc, more).expect(rt, "memory");
     equal_lists(rt, peers.as_slice(), all);
-    drop(peers);
 }
 
 #[test]
@@ -118,7 +110,6 @@ fn joins_subscribers(rt: &impl Abort, alloc: Global, more: &[(u8, u64)], all: &[
         .join_subscribers(alloc, more)
         .expect(rt, "memory");
     equal_lists(rt, subscribers.as_slice(), all);
-    drop(subscribers);
 }
 
 #[test]

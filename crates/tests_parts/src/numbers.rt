@@ -1,4 +1,4 @@
-use crate::asserts::equal_lists;
+use crate::support::equal_lists;
 use resolver_base::Numbers;
 
 #[test]

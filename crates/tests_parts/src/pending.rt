@@ -1,19 +1,30 @@
 //! What waits while a mailbox is full, what is said of a fetch beside its key, and copies of messages.
 //!
-//! A test is a script of calls with what they answer. What waits is made, used and dropped in one place, so that the
-//! tests are proved without what it is.
+//! | Line | Says | Prints |
+//! |---|---|---|
+//! | `fetch K S`, `fetch-below K` | a fetch of the key, or of each below it for subscriber 10, comes to what waits | |
+//! | `retain K` | a retain that keeps the keys from this one on | |
+//! | `hand KEYS`, `hand-from K PEERS` | the copy of a message: one batch of these keys for subscriber 10, or a key with these peers as its targets | |
+//! | `drain -`, `drain retains`, `drain all` | what waits is drained to one that takes nothing, the retains, or all | how many retains were taken, and the batch that was |
+//! | `pop` | what waits first goes | the message |
+//! | `is-empty` | | whether nothing waits |
+//!
+//! A message is printed as `retain` with its test, or as `batch` with a line for each key.
 
 ghost use Rattle.std.specs.Prelude.{nat_le};
 ghost use Rattle.std.proofs.Common.{rules};
 
-use crate::asserts::{equal, holds, is_written, spell};
-use crate::lines::{Called, goes, short};
+use crate::support::{
+    Part, equal, is_written, list, plays, print, unreadable, value, write_subscribers,
+};
 use resolver_desk::Pending;
 use resolver_messages::{FetchKey, Kept, Message, Metadata, Test};
 use resolver_types::{Fetch, NonEmptyVec, Predicate};
 use std::alloc::Global;
+use std::fmt::Write;
 use std::panic::Expect;
 use std::process::Abort;
+use tests_support::transcript::{Line, Said, cases};
 
 /// Passes the subscribers of the keys from a first one on.
 #[derive(Clone, Debug, Drop)]
@@ -36,8 +47,6 @@ type Told = Message<u16, u16, Targets, Kept<FirstKey>>;
 
 type Waiting = Pending<u16, u16, Targets, Kept<FirstKey>>;
 
-// The calls promise nothing, so that their callers are proved without what waits.
-
 fn fetch(rt: &impl Abort, alloc: Global, pending: &mut Waiting, key: u16, subscriber: u16) {
     let fetch = Fetch {
         key,
@@ -56,15 +65,6 @@ fn fetch_below(rt: &impl Abort, alloc: Global, pending: &mut Waiting, end: u16) 
     }
 }
 
-/// These peers; with none of them any peer may be asked.
-fn targets(rt: &impl Abort, alloc: Global, peers: &[u128]) -> Targets {
-    let mut targets = Vec::new(alloc);
-    for place in 0..peers.len() {
-        targets.push(short(peers, place)).expect(rt, "memory");
-    }
-    NonEmptyVec::try_from(targets).ok()
-}
-
 /// A fetch of a key with its targets for the subscriber 10.
 fn item(
     rt: &impl Abort,
@@ -79,23 +79,19 @@ fn item(
     }
 }
 
-/// A message that fetches a key of the peers behind it.
-fn aimed(rt: &impl Abort, alloc: Global, numbers: &[u128]) -> Told {
-    let peers = targets(rt, alloc, numbers.get(1..).expect(rt, "a key"));
+/// A message that fetches a key of these peers.
+fn targeted(rt: &impl Abort, alloc: Global, key: u16, peers: Vec<u16>) -> Told {
+    let peers = NonEmptyVec::try_from(peers).ok();
     let mut items = Vec::new(alloc);
-    items
-        .push(item(rt, alloc, short(numbers, 0), peers))
-        .expect(rt, "memory");
+    items.push(item(rt, alloc, key, peers)).expect(rt, "memory");
     Message::Fetch(items)
 }
 
 /// A message that fetches these keys of any peer.
-fn untargeted(rt: &impl Abort, alloc: Global, keys: &[u128]) -> Told {
+fn untargeted(rt: &impl Abort, alloc: Global, keys: &[u16]) -> Told {
     let mut items = Vec::new(alloc);
-    for place in 0..keys.len() {
-        items
-            .push(item(rt, alloc, short(keys, place), None))
-            .expect(rt, "memory");
+    for key in keys {
+        items.push(item(rt, alloc, *key, None)).expect(rt, "memory");
     }
     Message::Fetch(items)
 }
@@ -137,132 +133,237 @@ fn drain<M: Metadata + Drop, Q: Predicate<u16, u16> + Drop>(
     (tests, batch)
 }
 
-/// Drains, or takes what waits first. Ends the test where no call has this word.
-fn take(rt: &impl Abort, text: &mut String, pending: &mut Waiting, word: &str, numbers: &[u128]) {
-    let (takes_tests, takes_fetches) = (short(numbers, 0) == 1, short(numbers, 1) == 1);
-    match word {
-        "drain" => spell(rt, text, drain(pending, takes_tests, takes_fetches)),
-        "pop" => spell(rt, text, pending.pop()),
-        "is_empty" => spell(rt, text, pending.is_empty()),
-        _ => holds(rt, false),
+/// Prints a fetch of a message.
+fn print_item(rt: &impl Abort, printed: &mut String, item: &FetchKey<u16, u16, Targets>) {
+    write!(printed, "> key {} subs ", item.key).expect(rt, "memory");
+    write_subscribers(rt, printed, &item.subscribers);
+    match &item.metadata {
+        Some(peers) => writeln!(printed, " targets {:?}", peers.as_slice()).expect(rt, "memory"),
+        None => writeln!(printed, " targets all").expect(rt, "memory"),
     }
 }
 
-impl Called for Waiting {
-    fn call(&mut self, rt: &impl Abort, text: &mut String, word: &str, numbers: &[u128]) {
-        let alloc = *text.allocator();
-        let key = short(numbers, 0);
-        match word {
-            "fetch" => fetch(rt, alloc, self, key, short(numbers, 1)),
-            "fetch_below" => fetch_below(rt, alloc, self, key),
-            "aim" => hand_copy(rt, alloc, self, aimed(rt, alloc, numbers)),
-            "hand" => hand_copy(rt, alloc, self, untargeted(rt, alloc, numbers)),
-            "retain" => retain(rt, self, key),
-            _ => take(rt, text, self, word, numbers),
+/// Prints a message, or that there is none.
+fn print_message(rt: &impl Abort, printed: &mut String, message: &Option<Told>) {
+    match message {
+        Some(Message::Fetch(items)) => {
+            writeln!(printed, "> batch").expect(rt, "memory");
+            for item in items {
+                print_item(rt, printed, item);
+            }
+        }
+        Some(Message::Retain(test)) => writeln!(printed, "> retain {test:?}").expect(rt, "memory"),
+        None => writeln!(printed, "> none").expect(rt, "memory"),
+    }
+}
+
+/// Drains what waits, and prints how many retains were taken, and the batch that was.
+fn print_drained(rt: &impl Abort, printed: &mut String, pending: &mut Waiting, line: &mut Line) {
+    let (takes_tests, takes_fetches) = match line.field() {
+        "-" => (false, false),
+        "retains" => (true, false),
+        "all" => (true, true),
+        _ => unreadable(rt, line),
+    };
+    let (tests, batch) = drain(pending, takes_tests, takes_fetches);
+    print(rt, printed, tests);
+    print_message(rt, printed, &batch);
+}
+
+/// Drains, or takes what waits first. Ends the test where no line has this word.
+fn take(rt: &impl Abort, printed: &mut String, pending: &mut Waiting, word: &str, line: &mut Line) {
+    match word {
+        "drain" => print_drained(rt, printed, pending, line),
+        "pop" => {
+            let message = pending.pop();
+            print_message(rt, printed, &message);
+        }
+        "is-empty" => print(rt, printed, pending.is_empty()),
+        _ => unreadable(rt, line),
+    }
+}
+
+/// Hands on the copy of a message with the keys of a line.
+fn hand(rt: &impl Abort, alloc: Global, pending: &mut Waiting, line: &mut Line) {
+    let keys = list(rt, alloc, line);
+    hand_copy(rt, alloc, pending, untargeted(rt, alloc, keys.as_slice()));
+}
+
+impl<R: Abort> Said<R> for Part<'_, Waiting> {
+    fn say(&mut self, rt: &R, line: &mut Line, printed: &mut String) {
+        let alloc = *printed.allocator();
+        match line.field() {
+            "fetch" => {
+                let key = value(rt, line);
+                fetch(rt, alloc, self.0, key, value(rt, line));
+            }
+            "fetch-below" => fetch_below(rt, alloc, self.0, value(rt, line)),
+            "hand" => hand(rt, alloc, self.0, line),
+            "hand-from" => {
+                let key = value(rt, line);
+                let message = targeted(rt, alloc, key, list(rt, alloc, line));
+                hand_copy(rt, alloc, self.0, message);
+            }
+            "retain" => retain(rt, self.0, value(rt, line)),
+            word => take(rt, printed, self.0, word, line),
         }
     }
 }
 
-/// Makes the calls of each script, of what waits where nothing did.
-fn answer(rt: &impl Abort, alloc: Global, scripts: &[&str]) {
-    for script in scripts {
+/// Plays each case, where nothing waits before.
+fn play_each(rt: &impl Abort, alloc: Global, transcript: &str) {
+    for case in cases(transcript) {
         let mut pending: Waiting = Pending::new(alloc);
-        goes(rt, alloc, &mut pending, script);
+        plays(rt, alloc, &mut Part(&mut pending), case);
         drop(pending);
     }
 }
 
 /// Drains that take nothing and tests alone; tests that keep the last key; and what is taken one by one.
-const WAITING: &[&str] = &[
-    "
-        fetch 2 10
-        fetch 1 20
-        retain 0
-        drain 0 0 = (0, None)
-        drain 1 0 = (1, None)
-        fetch 2 11
-        fetch 3 30
-        drain 1 1 = (0, Some(Fetch([FetchKey { key: 2, subscribers: NonEmptyVec { items: [(10, 0), (11, 0)] }, metadata: None }, FetchKey { key: 1, subscribers: NonEmptyVec { items: [(20, 0)] }, metadata: None }, FetchKey { key: 3, subscribers: NonEmptyVec { items: [(30, 0)] }, metadata: None }])))
-        is_empty = true",
-    "
-        fetch_below 100
-        retain 99
-        fetch 99 11
-        fetch 0 12
-        drain 1 1 = (1, Some(Fetch([FetchKey { key: 99, subscribers: NonEmptyVec { items: [(10, 0), (11, 0)] }, metadata: None }, FetchKey { key: 0, subscribers: NonEmptyVec { items: [(12, 0)] }, metadata: None }])))
-        is_empty = true",
-    "
-        pop = None
-        fetch 1 10
-        retain 0
-        fetch 2 20
-        pop = Some(Retain(Kept { test: FirstKey(0) }))
-        pop = Some(Fetch([FetchKey { key: 1, subscribers: NonEmptyVec { items: [(10, 0)] }, metadata: None }, FetchKey { key: 2, subscribers: NonEmptyVec { items: [(20, 0)] }, metadata: None }]))
-        pop = None",
-];
+const WAITING: &str = "# overflow_rejected_drain
+fetch 2 10
+fetch 1 20
+retain 0
+drain -
+> 0
+> none
+drain retains
+> 1
+> none
+fetch 2 11
+fetch 3 30
+drain all
+> 0
+> batch
+> key 2 subs 10:0,11:0 targets all
+> key 1 subs 20:0 targets all
+> key 3 subs 30:0 targets all
+is-empty
+> true
+
+# overflow_retain
+fetch-below 100
+retain 99
+fetch 99 11
+fetch 0 12
+drain all
+> 1
+> batch
+> key 99 subs 10:0,11:0 targets all
+> key 0 subs 12:0 targets all
+is-empty
+> true
+
+# one by one
+pop
+> none
+fetch 1 10
+retain 0
+fetch 2 20
+pop
+> retain Kept { test: FirstKey(0) }
+pop
+> batch
+> key 1 subs 10:0 targets all
+> key 2 subs 20:0 targets all
+pop
+> none";
 
 #[test]
 fn what_waits_is_taken(rt: HostRuntime) {
-    answer(&rt, rt.alloc(), WAITING);
+    play_each(&rt, rt.alloc(), WAITING);
 }
 
 /// Messages that are copied and handed on, and what waits then: targets that are joined, or that any peer may be
 /// asked, and messages of no fetch, of one and of three, where nothing waits and where key 1 does.
-const COPIED: &[&str] = &[
-    "
-        aim 1 2 3
-        pop = Some(Fetch([FetchKey { key: 1, subscribers: NonEmptyVec { items: [(10, 0)] }, metadata: Some(NonEmptyVec { items: [2, 3] }) }]))",
-    "
-        aim 1 2 3
-        aim 1 3 4
-        pop = Some(Fetch([FetchKey { key: 1, subscribers: NonEmptyVec { items: [(10, 0)] }, metadata: Some(NonEmptyVec { items: [2, 3, 4] }) }]))",
-    "
-        aim 1 2
-        hand 1
-        aim 1 3
-        pop = Some(Fetch([FetchKey { key: 1, subscribers: NonEmptyVec { items: [(10, 0)] }, metadata: None }]))",
-    "
-        hand
-        pop = None",
-    "
-        hand 4
-        pop = Some(Fetch([FetchKey { key: 4, subscribers: NonEmptyVec { items: [(10, 0)] }, metadata: None }]))",
-    "
-        hand 4 1 3
-        pop = Some(Fetch([FetchKey { key: 4, subscribers: NonEmptyVec { items: [(10, 0)] }, metadata: None }, FetchKey { key: 1, subscribers: NonEmptyVec { items: [(10, 0)] }, metadata: None }, FetchKey { key: 3, subscribers: NonEmptyVec { items: [(10, 0)] }, metadata: None }]))",
-    "
-        hand 1
-        hand
-        pop = Some(Fetch([FetchKey { key: 1, subscribers: NonEmptyVec { items: [(10, 0)] }, metadata: None }]))",
-    "
-        hand 1
-        hand 4
-        pop = Some(Fetch([FetchKey { key: 1, subscribers: NonEmptyVec { items: [(10, 0)] }, metadata: None }, FetchKey { key: 4, subscribers: NonEmptyVec { items: [(10, 0)] }, metadata: None }]))",
-    "
-        hand 1
-        hand 4 1 3
-        pop = Some(Fetch([FetchKey { key: 1, subscribers: NonEmptyVec { items: [(10, 0)] }, metadata: None }, FetchKey { key: 4, subscribers: NonEmptyVec { items: [(10, 0)] }, metadata: None }, FetchKey { key: 3, subscribers: NonEmptyVec { items: [(10, 0)] }, metadata: None }]))",
-];
+const COPIED: &str = "# targets
+hand-from 1 2,3
+pop
+> batch
+> key 1 subs 10:0 targets [2, 3]
+
+# overflow_targets, of two lists
+hand-from 1 2,3
+hand-from 1 3,4
+pop
+> batch
+> key 1 subs 10:0 targets [2, 3, 4]
+
+# overflow_targets, of none between two
+hand-from 1 2
+hand 1
+hand-from 1 3
+pop
+> batch
+> key 1 subs 10:0 targets all
+
+# no key
+hand -
+pop
+> none
+
+# one key
+hand 4
+pop
+> batch
+> key 4 subs 10:0 targets all
+
+# three keys
+hand 4,1,3
+pop
+> batch
+> key 4 subs 10:0 targets all
+> key 1 subs 10:0 targets all
+> key 3 subs 10:0 targets all
+
+# no key behind one
+hand 1
+hand -
+pop
+> batch
+> key 1 subs 10:0 targets all
+
+# one key behind another
+hand 1
+hand 4
+pop
+> batch
+> key 1 subs 10:0 targets all
+> key 4 subs 10:0 targets all
+
+# three keys behind one of them
+hand 1
+hand 4,1,3
+pop
+> batch
+> key 1 subs 10:0 targets all
+> key 4 subs 10:0 targets all
+> key 3 subs 10:0 targets all";
 
 #[test]
 fn copies_wait(rt: HostRuntime) {
-    answer(&rt, rt.alloc(), COPIED);
+    play_each(&rt, rt.alloc(), COPIED);
+}
+
+/// These peers; with none of them any peer may be asked.
+fn targets(rt: &impl Abort, alloc: Global, peers: &[u16]) -> Targets {
+    let peers = Vec::from_slice(alloc, peers).expect(rt, "memory");
+    NonEmptyVec::try_from(peers).ok()
 }
 
 /// Ends the test where the copy of what an earlier and a later fetch say together is something else.
-fn joins(rt: &impl Abort, alloc: Global, earlier: &[u128], later: &[u128], wanted: &str) {
+fn joins(rt: &impl Abort, alloc: Global, earlier: &[u16], later: &[u16], wanted: &str) {
     let mut all = targets(rt, alloc, earlier);
     all.merge(alloc, targets(rt, alloc, later))
         .expect(rt, "memory");
     is_written(rt, alloc, all.copy().expect(rt, "memory"), wanted);
-    drop(all);
 }
 
 #[test]
 fn targets_are_joined_and_copied(rt: HostRuntime) {
     let rt = &rt;
-    const EARLIER: &[u128] = &[2, 3];
-    const LATER: &[u128] = &[9, 8, 7, 6, 5, 4, 3, 4, 5, 6];
+    const EARLIER: &[u16] = &[2, 3];
+    const LATER: &[u16] = &[9, 8, 7, 6, 5, 4, 3, 4, 5, 6];
     joins(
         rt,
         rt.alloc(),

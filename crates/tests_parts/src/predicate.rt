@@ -1,7 +1,7 @@
 ghost use Rattle.std.specs.Prelude.{◌==◌, ◌%◌};
 ghost use Rattle.std.proofs.Common.{rules};
 
-use crate::asserts::holds;
+use crate::support::holds;
 use resolver_types::Predicate;
 
 /// Keeps the even subscribers of every key.

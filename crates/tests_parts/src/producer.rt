@@ -1,5 +1,4 @@
-use crate::asserts::equal;
-use crate::names::Letter;
+use crate::support::equal;
 use bytes::Bytes;
 use futures::channel::oneshot::Canceled;
 use futures::task::Poll;
@@ -7,6 +6,7 @@ use futures::test::MockTask;
 use resolver_runtime::{Producer, mocks};
 use std::panic::Expect;
 use std::process::Abort;
+use tests_support::names::Letter;
 
 /// The bytes that are there at once, or none where the sender was dropped.
 fn seen(found: &Poll<Result<Bytes, Canceled>>) -> Poll<Option<&[u8]>> {
@@ -29,7 +29,6 @@ fn has<O: Producer<Key = Letter>>(
     let found = task.poll(&mut served);
     drop(served);
     equal(rt, &seen(&found), &Poll::Ready(wanted));
-    drop(found);
 }
 
 const INSERTED: &[(u8, &str)] = &[(1, "one"), (2, "zwei"), (2, "two")];
@@ -62,5 +61,4 @@ fn an_absent_key_drops_its_sender(rt: HostRuntime) {
     let mut producer = mocks::Producer::new(rt.alloc());
     gives_what_was_inserted(rt, &task, &mut producer);
     drop(producer);
-    drop(task);
 }

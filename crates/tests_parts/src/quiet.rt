@@ -1,10 +1,10 @@
-use crate::asserts::holds;
-use crate::names::Letter;
+use crate::support::holds;
 use futures::task::Poll;
 use futures::test::MockTask;
 use resolver_runtime::mocks::Quiet;
 use resolver_runtime::{Blocker, Provider};
 use std::panic::Expect;
+use tests_support::names::Letter;
 
 /// Whether a provider has no set so far, and a blocker nothing to say, also once it was asked to block a peer.
 fn gives_nothing<S: Provider<PublicKey = Letter> + Blocker<PublicKey = Letter>>(
@@ -27,5 +27,4 @@ fn quiet_sources_give_nothing(rt: HostRuntime) {
         holds(rt, gives_nothing(&task, &mut quiet));
         holds(rt, !task.is_woken());
     }
-    drop(task);
 }

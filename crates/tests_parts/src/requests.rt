@@ -1,17 +1,27 @@
 //! Requests by their ids, by their deadlines and by their keys.
+//!
+//! | Line | Says | Prints |
+//! |---|---|---|
+//! | `insert K DEADLINE` | key K is asked of peer 4 at 0, under its number | |
+//! | `overdue T` | the time of a request may be over | the request |
+//! | `answer ID PEER` | a peer answers | the request |
+//! | `remove ID` | a request goes | whether it was there |
+//! | `keep-not-six` | the request for key 6 goes | |
+//! | `next-id ID`, `left`, `has ID`, `asked-for K` | | the id after it; how many are left, and the soonest deadline; whether there is one; its id and deadline |
 
-use crate::asserts::{holds, spell};
-use crate::lines::{Called, byte, goes, long, number};
-use crate::names::Letter;
+use crate::support::{Part, holds, plays, print, unreadable, value};
 use resolver_fetch_requests::requests::{ID, Request, Requests};
 use std::alloc::Global;
 use std::panic::Expect;
 use std::process::Abort;
+use tests_support::names::Letter;
+use tests_support::transcript::{Line, Said, cases};
 
 type Asked = Requests<Letter, Letter>;
 
-/// Holds a request under an id for the key of its number, of peer 4, sent at 0, and with this deadline.
-fn insert(rt: &impl Abort, requests: &mut Asked, id: ID, key: Letter, deadline: u128) {
+/// Holds a request for a key under its number, of peer 4, sent at 0, and with this deadline.
+fn insert(rt: &impl Abort, requests: &mut Asked, key: Letter, deadline: u128) {
+    let id = ID::from(key.0);
     holds(rt, requests.get(id).is_none());
     holds(rt, !requests.is_asked(&key));
     let request = Request {
@@ -33,109 +43,144 @@ fn asked_for(requests: &Asked, key: &Letter) -> Option<(ID, u128)> {
     Some((id, request.deadline))
 }
 
-/// Looks at requests. Ends the test where no call has this word.
-fn look(rt: &impl Abort, text: &mut String, requests: &Asked, word: &str, numbers: &[u128]) {
-    let id = long(numbers, 0);
+/// Looks at requests. Ends the test where no line has this word.
+fn look(rt: &impl Abort, printed: &mut String, requests: &Asked, word: &str, line: &mut Line) {
     match word {
-        "next_id" => spell(rt, text, requests.next_id(id)),
-        "left" => spell(rt, text, (requests.len(), requests.deadline())),
-        "has" => spell(rt, text, requests.get(id).is_some()),
-        "asked_for" => spell(rt, text, asked_for(requests, &Letter(byte(numbers, 0)))),
-        _ => holds(rt, false),
+        "next-id" => print(rt, printed, requests.next_id(value(rt, line))),
+        "left" => print(rt, printed, (requests.len(), requests.deadline())),
+        "has" => print(rt, printed, requests.get(value(rt, line)).is_some()),
+        "asked-for" => print(rt, printed, asked_for(requests, &Letter(value(rt, line)))),
+        _ => unreadable(rt, line),
     }
 }
 
-impl Called for Asked {
-    fn call(&mut self, rt: &impl Abort, text: &mut String, word: &str, numbers: &[u128]) {
-        let id = long(numbers, 0);
-        match word {
-            "insert" => insert(rt, self, id, Letter(byte(numbers, 0)), number(numbers, 1)),
-            "overdue" => spell(rt, text, self.take_overdue(number(numbers, 0))),
-            "answer" => spell(rt, text, self.take_matching(id, &Letter(byte(numbers, 1)))),
-            "remove" => spell(rt, text, self.remove(id).is_some()),
-            "keep_not_six" => self.retain(is_not_six),
-            _ => look(rt, text, self, word, numbers),
+impl<R: Abort> Said<R> for Part<'_, Asked> {
+    fn say(&mut self, rt: &R, line: &mut Line, printed: &mut String) {
+        match line.field() {
+            "insert" => {
+                let key = Letter(value(rt, line));
+                insert(rt, self.0, key, value(rt, line));
+            }
+            "overdue" => print(rt, printed, self.0.take_overdue(value(rt, line))),
+            "answer" => {
+                let id = value(rt, line);
+                print(
+                    rt,
+                    printed,
+                    self.0.take_matching(id, &Letter(value(rt, line))),
+                );
+            }
+            "remove" => print(rt, printed, self.0.remove(value(rt, line)).is_some()),
+            "keep-not-six" => self.0.retain(is_not_six),
+            word => look(rt, printed, self.0, word, line),
         }
     }
 }
 
-/// Makes the calls of a script, of no request.
-fn plays(rt: &impl Abort, alloc: Global, script: &str) {
-    let mut requests: Asked = Requests::new(alloc);
-    goes(rt, alloc, &mut requests, script);
-    drop(requests);
-}
-
-#[test]
-fn next_id_passes_held_ids(rt: HostRuntime) {
-    const SCRIPTS: &[&str] = &[
-        "next_id 4 = 5",
-        "
-            insert 5 0
-            insert 6 0
-            next_id 4 = 7",
-        "
-            insert 6 0
-            next_id 4 = 5",
-        "next_id 18446744073709551615 = 0",
-        "
-            insert 0 0
-            next_id 18446744073709551615 = 1",
-    ];
-    for script in SCRIPTS {
-        plays(&rt, rt.alloc(), script);
+/// Plays each case, where there is no request before.
+fn play_each(rt: &impl Abort, alloc: Global, transcript: &str) {
+    for case in cases(transcript) {
+        let mut requests: Asked = Requests::new(alloc);
+        plays(rt, alloc, &mut Part(&mut requests), case);
+        drop(requests);
     }
 }
 
 #[test]
+fn next_id_passes_held_ids(rt: HostRuntime) {
+    const CASES: &str = "# nothing is held
+next-id 4
+> 5
+
+# the next two are held
+insert 5 0
+insert 6 0
+next-id 4
+> 7
+
+# the one after the next is held
+insert 6 0
+next-id 4
+> 5
+
+# the last id
+next-id 18446744073709551615
+> 0
+
+# the last id, and the first is held
+insert 0 0
+next-id 18446744073709551615
+> 1";
+    play_each(&rt, rt.alloc(), CASES);
+}
+
+#[test]
 fn the_soonest_is_over_first(rt: HostRuntime) {
-    const CALLS: &str = "
-        insert 1 30
-        insert 2 10
-        insert 3 40
-        insert 4 20
-        overdue 30 = Some(Request { key: Letter(2), peer: Letter(4), start: 0, deadline: 10 })
-        overdue 30 = Some(Request { key: Letter(4), peer: Letter(4), start: 0, deadline: 20 })
-        overdue 30 = Some(Request { key: Letter(1), peer: Letter(4), start: 0, deadline: 30 })
-        overdue 30 = None
-        left = (1, Some(40))";
-    plays(&rt, rt.alloc(), CALLS);
+    const CASE: &str = "# the_soonest_is_over_first
+insert 1 30
+insert 2 10
+insert 3 40
+insert 4 20
+overdue 30
+> Some(Request { key: Letter(2), peer: Letter(4), start: 0, deadline: 10 })
+overdue 30
+> Some(Request { key: Letter(4), peer: Letter(4), start: 0, deadline: 20 })
+overdue 30
+> Some(Request { key: Letter(1), peer: Letter(4), start: 0, deadline: 30 })
+overdue 30
+> None
+left
+> (1, Some(40))";
+    play_each(&rt, rt.alloc(), CASE);
 }
 
 #[test]
 fn an_answer_of_another_peer_finds_nothing(rt: HostRuntime) {
-    const CALLS: &str = "
-        insert 5 10
-        insert 6 20
-        answer 5 3 = None
-        left = (2, Some(10))
-        answer 5 4 = Some(Request { key: Letter(5), peer: Letter(4), start: 0, deadline: 10 })
-        left = (1, Some(20))";
-    plays(&rt, rt.alloc(), CALLS);
+    const CASE: &str = "# an_answer_of_another_peer_finds_nothing
+insert 5 10
+insert 6 20
+answer 5 3
+> None
+left
+> (2, Some(10))
+answer 5 4
+> Some(Request { key: Letter(5), peer: Letter(4), start: 0, deadline: 10 })
+left
+> (1, Some(20))";
+    play_each(&rt, rt.alloc(), CASE);
 }
 
 #[test]
 fn requests_are_let_go(rt: HostRuntime) {
-    const CALLS: &str = "
-        insert 5 10
-        insert 6 20
-        remove 5 = true
-        has 5 = false
-        left = (1, Some(20))
-        keep_not_six
-        left = (0, None)";
-    plays(&rt, rt.alloc(), CALLS);
+    const CASE: &str = "# requests_are_let_go
+insert 5 10
+insert 6 20
+remove 5
+> true
+has 5
+> false
+left
+> (1, Some(20))
+keep-not-six
+left
+> (0, None)";
+    play_each(&rt, rt.alloc(), CASE);
 }
 
 #[test]
 fn a_key_is_asked_for_under_its_id(rt: HostRuntime) {
-    const CALLS: &str = "
-        insert 5 10
-        insert 6 20
-        asked_for 5 = Some((5, 10))
-        asked_for 7 = None
-        remove 5 = true
-        asked_for 5 = None
-        asked_for 6 = Some((6, 20))";
-    plays(&rt, rt.alloc(), CALLS);
+    const CASE: &str = "# a_key_is_asked_for_under_its_id
+insert 5 10
+insert 6 20
+asked-for 5
+> Some((5, 10))
+asked-for 7
+> None
+remove 5
+> true
+asked-for 5
+> None
+asked-for 6
+> Some((6, 20))";
+    play_each(&rt, rt.alloc(), CASE);
 }

@@ -2,7 +2,7 @@
 
 ghost use Rattle.std.specs.Prelude.{◌≡◌};
 
-use crate::asserts::{equal, equal_at, holds};
+use crate::support::{equal, equal_at, holds};
 use resolver_sampling::sampling::{Selection, Visits, WeightedIndex, is_weighted};
 use std::alloc::Global;
 use std::panic::Expect;
@@ -144,7 +144,7 @@ fn updates_of_each_length(rt: HostRuntime) {
 }
 
 #[test]
-fn widest_weights(rt: HostRuntime) {
+fn index_wide_weights(rt: HostRuntime) {
     const CHOICES: &[(u128, usize)] = &[
         (18_446_744_073_709_551_614, 0),
         (36_893_488_147_419_103_230, 2),
@@ -161,7 +161,6 @@ fn thousand_places(rt: &impl Abort, alloc: Global) -> WeightedIndex {
         weights.push(weight).expect(rt, "memory");
     }
     let index = index_of(rt, alloc, &weights);
-    drop(weights);
     index
 }
 

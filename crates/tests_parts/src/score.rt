@@ -1,6 +1,6 @@
 //! Weights of observed peers, computed outside of this crate.
 
-use crate::asserts::{equal, equal_at};
+use crate::support::{equal, equal_at};
 use resolver_sampling::score::{DURATION_MAX, Score};
 use std::panic::Expect;
 use std::process::Abort;

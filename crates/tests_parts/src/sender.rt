@@ -1,10 +1,10 @@
-use crate::asserts::{equal, holds};
-use crate::names::Letter;
+use crate::support::{equal, holds};
 use bytes::Bytes;
 use resolver_base::{Check, Feedback, Sender, Unreliable};
 use std::alloc::Global;
 use std::panic::Expect;
 use std::process::Abort;
+use tests_support::names::Letter;
 
 /// Knows one peer, and takes messages for it up to a length.
 #[derive(Drop)]

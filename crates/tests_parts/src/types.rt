@@ -1,4 +1,4 @@
-use crate::asserts::{copied, equal, holds, is_written};
+use crate::support::{copied, equal, holds, is_written};
 use resolver_types::{Delivery, Fetch, NonEmptyVec, Outcome, Resolution, laws};
 use std::alloc::Global;
 use std::cmp::Ordering;
@@ -41,8 +41,6 @@ fn deliveries_compare_by_key_and_subscribers(rt: HostRuntime) {
         let one = delivery(rt, rt.alloc(), key, subscribers);
         let other = delivery(rt, rt.alloc(), other_key, others);
         compares(rt, &one, &other, order);
-        drop(one);
-        drop(other);
     }
 }
 
@@ -92,8 +90,6 @@ fn fetches_compare_by_key_and_subscriber(rt: HostRuntime) {
         let other = fetch(other_fields);
         compares(&rt, &one, &other, order);
         obeys_laws(&rt, &one, &other, order);
-        drop(one);
-        drop(other);
     }
 }
 
@@ -108,8 +104,6 @@ fn deliveries_compare_whatever_their_marks(rt: HostRuntime) {
         &laws::order_of_deliveries(&one, &other),
         &Ordering::Equal,
     );
-    drop(one);
-    drop(other);
 }
 
 #[test]
@@ -119,7 +113,6 @@ fn clones_of_a_fetch_keep_the_mark(rt: HostRuntime) {
     let fetch = fetch((1, 10, 7));
     is_written(rt, alloc, fetch.clone().expect(rt, "memory"), FETCH);
     is_written(rt, alloc, copied(rt, &fetch), FETCH);
-    drop(fetch);
 }
 
 #[test]
@@ -130,7 +123,6 @@ fn clones_of_a_delivery_keep_the_marks(rt: HostRuntime) {
     let handed = delivery(rt, alloc, 1, &[(10, 7), (11, 8)]);
     let same = handed.clone().expect(rt, "memory");
     let again = copied(rt, &handed);
-    drop(handed);
     is_written(rt, alloc, same, DELIVERY);
     is_written(rt, alloc, again, DELIVERY);
 }

@@ -3,9 +3,7 @@
 ghost use Rattle.std.specs.Prelude.{◌<◌, ◌^◌, length};
 ghost use Rattle.resolver_wire.specs.Spelling.{IsShort};
 
-use crate::asserts::{equal, equal_at, equal_lists};
-use crate::keys::Zeros;
-use crate::names::Letter;
+use crate::support::{equal, equal_at, equal_lists};
 use bytes::{Bytes, BytesMut};
 use resolver_base::Fault;
 use resolver_wire::wire::{Message, Payload, max_message_size};
@@ -13,6 +11,7 @@ use std::alloc::Global;
 use std::fmt::Debug;
 use std::panic::Expect;
 use std::process::Abort;
+use tests_support::names::{Letter, Zeros};
 
 const REQUEST_BYTES: &[u8] = &[0, 0, 0, 0, 0, 0, 0x04, 0xd2, 0, 0x7b];
 
@@ -79,10 +78,8 @@ fn spelled(rt: &impl Abort, alloc: Global, message: Message<Letter>, bytes: &[u8
     let mut buffer = followed(rt, alloc, bytes, 7);
     gives(rt, Message::read(&mut buffer), &message);
     equal_lists(rt, buffer.as_slice(), &[7]);
-    drop(buffer);
     let alone = Bytes::copy_from_slice(alloc, bytes).expect(rt, "memory");
     gives(rt, Message::decode(alone), &message);
-    drop(message);
 }
 
 /// These bytes, and one behind them.
@@ -97,7 +94,6 @@ fn followed(rt: &impl Abort, alloc: Global, bytes: &[u8], last: u8) -> Bytes {
 fn gives<T: PartialEq + Debug + Drop>(rt: &impl Abort, found: Result<T, Fault>, wanted: &T) {
     let found = found.expect(rt, "a message");
     equal(rt, &found, wanted);
-    drop(found);
 }
 
 /// The bytes are refused so, or spell a message which is written as they are.
@@ -108,7 +104,6 @@ fn decodes(rt: &impl Abort, alloc: Global, bytes: &[u8], fault: Option<Fault>) {
         Ok(message) => {
             equal_at(rt, &bytes, &None, &fault);
             is_spelled(rt, alloc, &message, bytes);
-            drop(message);
         }
     }
 }
@@ -119,7 +114,6 @@ fn is_spelled(rt: &impl Abort, alloc: Global, message: &Message<Letter>, bytes: 
 {
     let written = written(rt, alloc, message);
     equal_lists(rt, written.as_slice(), bytes);
-    drop(written);
 }
 
 /// What the message is written as.
@@ -153,7 +147,6 @@ fn altered(rt: &impl Abort, alloc: Global, bytes: &[u8], changes: &[Change]) {
             let mut changed = Vec::from_slice(alloc, bytes).expect(rt, "memory");
             changed[place] = value;
             decodes(rt, alloc, &changed, refusal(changes, place, value));
-            drop(changed);
         }
     }
 }
@@ -208,7 +201,6 @@ fn responses_of_zeros(rt: HostRuntime) {
         let message = Message { id: 0, payload };
         equal(rt, &sizes(rt, rt.alloc(), &message), wanted);
         begins_with(rt, rt.alloc(), &message, head);
-        drop(message);
     }
 }
 
@@ -218,7 +210,6 @@ fn sizes(rt: &impl Abort, alloc: Global, message: &Message<Letter>) -> (usize, u
 {
     let pieces = message.write_bufs(alloc).expect(rt, "memory");
     let count = pieces.len();
-    drop(pieces);
     (message.encode_size(), message.encode_inline_size(), count)
 }
 

@@ -1,5 +1,5 @@
-use crate::asserting::assert_same;
 use crate::cores::{Given, PlainEffect, PlainInput, input_of, make_core};
+use crate::support::assert_same;
 use bytes::Bytes;
 use resolver::base::Fault;
 use resolver::p2p::effects::Effect;

@@ -2,8 +2,8 @@
 
 ghost use Rattle.std.specs.Prelude.{◌≡◌};
 
-use crate::asserting::assert_same;
 use crate::cores::{make_core_of, numbered};
+use crate::support::assert_same;
 use bytes::Bytes;
 use resolver::backfill::Without;
 use resolver::base::{Check, Fault, NonEmptyVec};

@@ -11,7 +11,7 @@ use resolver::p2p::mocks::Key;
 use resolver_model::ruling::{Ruling, rule_on};
 
 #[test]
-fn at_numbers(_rt: HostRuntime) {
+fn laws_of_machines_at_numbers(_rt: HostRuntime) {
     dead_verdicts_pass::<u8, u32, u16>();
     opaque_keeps_demand::<u8, u32, u16>();
     opaque_runs_join::<u8, u32, u16>();

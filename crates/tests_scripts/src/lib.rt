@@ -6,8 +6,6 @@
 #![tactic(auto)]
 
 #[cfg(test)]
-mod asserting;
-#[cfg(test)]
 mod cores;
 #[cfg(test)]
 mod engine;
@@ -23,3 +21,5 @@ mod replayed;
 mod serves;
 #[cfg(test)]
 mod subscribers;
+#[cfg(test)]
+mod support;

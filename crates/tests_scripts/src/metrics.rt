@@ -1,7 +1,7 @@
 //! What an engine counts.
 
-use crate::asserting::assert_same;
 use crate::cores::{Given, Plain, make_core, take};
+use crate::support::assert_same;
 use resolver::p2p::{Durations, Metrics, Tally};
 use resolver::{Outcome, Resolution};
 use resolver_script::peer::Peer;

@@ -1,6 +1,6 @@
 //! Scripts, and what they print.
 
-use crate::asserting::assert_text;
+use crate::support::assert_text;
 use log::sink::Memory;
 use resolver_script::endings::{Ending, Fault};
 use resolver_script::replay::run;

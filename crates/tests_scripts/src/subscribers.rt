@@ -25,7 +25,7 @@ fn pending(tracker: &Tracker<u16, u16>, key: u16) -> Result<Vec<(u16, u64)>, Fai
 }
 
 #[test]
-fn tracker(rt: HostRuntime) -> Result<(), Fail> {
+fn a_tracker_as_its_docs_show_it(rt: HostRuntime) -> Result<(), Fail> {
     let alloc = rt.alloc();
     let mut tracker = Tracker::new(alloc);
     assert!(rt; insert(&mut tracker, alloc, 1, &[(10, 0), (11, 0)])?);

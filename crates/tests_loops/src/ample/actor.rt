@@ -1,7 +1,7 @@
 //! An actor over an opaque source.
 
 use crate::ample::{FOUR_MIB, Low, padded, subscribers};
-use crate::asserting::assert_same;
+use crate::support::assert_same;
 use bytes::Bytes;
 use resolver::ingress::FetchKey;
 use resolver::opaque::{Actor, Effect, Event, Input};

@@ -1,7 +1,7 @@
 //! The core of an engine.
 
 use crate::ample::{FOUR_MIB, Low, padded, subscribers};
-use crate::asserting::assert_same;
+use crate::support::assert_same;
 use bytes::Bytes;
 use resolver::base::{Check, NonEmptyVec};
 use resolver::p2p::effects::Effect;

@@ -3,7 +3,7 @@
 ghost use Rattle.std.specs.Prelude.{◌≡◌, ◌<◌, true};
 ghost use Rattle.std.proofs.Common.{rules};
 
-use crate::asserts::{copied, holds, is_written};
+use crate::support::{copied, holds, is_written};
 use bytes::Bytes;
 use resolver_base::Faithful;
 use resolver_mailbox::mailbox::{Entry, Exact, Naming, Pages, Receiver, Sender, recorded};

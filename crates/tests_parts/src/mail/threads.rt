@@ -2,10 +2,9 @@
 
 ghost use Rattle.std.specs.Prelude.{◌≡◌, ◌<◌, true};
 
-use crate::asserts::{equal, equal_texts, holds, spell};
-use crate::mail::calls::{Told, fetch};
-use crate::mail::mailbox::{Handle, next, shares_of};
-use crate::names::{All, Letter};
+use crate::mail::mailbox::{Handle, shares_of};
+use crate::mail::messages::{Told, fetch};
+use crate::support::{equal, equal_texts, holds, next, print};
 use futures::task::Poll;
 use futures::test::MockTask;
 use resolver_base::{Fault, Feedback};
@@ -18,6 +17,7 @@ use std::process::Abort;
 use std::random::RandomSource;
 use std::sync::Wait;
 use std::thread::{self, JoinHandle, Threads};
+use tests_support::names::{All, Letter};
 
 /// How often a handle was answered so.
 #[derive(Clone, Copy)]
@@ -175,21 +175,21 @@ fn size_of(message: &Told) -> Option<(usize, u8, usize)> {
     Some((items.len(), item.key.0, item.subscribers.len()))
 }
 
-/// Writes how large the message is that a poll gives, or that there is none. Whether there was one.
-fn spell_polled(
+/// Prints how large the message is that a poll gives, or that there is none. Whether there was one.
+fn print_polled(
     rt: &impl Abort,
     text: &mut String,
     polled: &Poll<Option<Result<Told, Fault>>>,
 ) -> bool {
     let Poll::Ready(Some(Ok(message))) = polled else {
-        spell(rt, text, polled);
+        print(rt, text, polled);
         return false;
     };
-    spell(rt, text, size_of(message));
+    print(rt, text, size_of(message));
     true
 }
 
-/// Polls up to the end, and writes what the receiver gives.
+/// Polls up to the end, and prints what the receiver gives.
 fn take_all<N: Naming, R: Wait + Drop>(
     rt: &impl Abort,
     text: &mut String,
@@ -198,7 +198,7 @@ fn take_all<N: Naming, R: Wait + Drop>(
 ) {
     for _ in 0..1000_u64 {
         let polled = next(task, receiver);
-        let is_message = spell_polled(rt, text, &polled);
+        let is_message = print_polled(rt, text, &polled);
         drop(polled);
         if !is_message {
             return;
@@ -392,7 +392,7 @@ fn the_book_holds_what_four_threads_put(rt: HostRuntime) {
     };
     let found = run_by_itself(rt, &mut text, &jobs, how);
     equal(&rt, &numbers_of(&found), &[1000, 0, 1000, 1000, 0, 0]);
-    holds(&rt, text.as_str().ends_with(" Pending"));
+    holds(&rt, text.as_str().ends_with("> Pending\n"));
 }
 
 /// Three threads put while a fourth closes, which is started after this many of them.
@@ -417,7 +417,7 @@ fn closing(rt: HostRuntime) {
         let found = run_by_itself(rt, &mut text, &jobs, how);
         let put = found.tally.ok.saturating_add(found.tally.backoff);
         equal(&rt, &numbers_of(&found), &[300, 0, put, put, 1, 0]);
-        holds(&rt, text.as_str().ends_with(" Ready(None)"));
+        holds(&rt, text.as_str().ends_with("> Ready(None)\n"));
     }
 }
 
@@ -443,7 +443,7 @@ fn full_desk(rt: HostRuntime) {
     equal_texts(
         &rt,
         text.as_str(),
-        " Some((1, 7, 1)) Some((1, 7, 999)) Ready(None)",
+        "> Some((1, 7, 1))\n> Some((1, 7, 999))\n> Ready(None)\n",
     );
     equal(&rt, &[found.tally.ok, found.tally.backoff], &[1, 999]);
     equal(&rt, &numbers_of(&found), &[1000, 0, 1000, 1000, 1, 0]);

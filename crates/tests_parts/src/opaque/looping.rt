@@ -1,7 +1,7 @@
 //! An actor's loop that is polled by hand.
 
-use crate::asserts::equal_texts;
 use crate::opaque::lent::{Asking, Ends, Held, Lent, Looped, Pollable, lend};
+use crate::support::equal_texts;
 use futures::channel::oneshot;
 use futures::test::MockTask;
 use resolver_base::Fault;
@@ -189,7 +189,6 @@ where
     let opened = open(rt, alloc, clock, source, consumer, size, 100);
     let text = written(&rt, opened, held, acts);
     equal_texts(&rt, text.as_str(), seen);
-    drop(text);
 }
 
 #[test]
@@ -199,7 +198,7 @@ fn every_input_every_effect_of_the_actor(rt: HostRuntime) {
 
 /// What was put before the close is still taken, and looked for.
 #[test]
-fn the_mailbox_is_closed_and_nothing_waits(rt: HostRuntime) {
+fn the_mailbox_of_an_actor_is_closed_and_nothing_waits(rt: HostRuntime) {
     const ACTS: &[Act] = &[
         Act::Want(1, 10),
         Act::Close,
@@ -218,7 +217,7 @@ fn the_end_of_the_actor_calls_a_delivery_off(rt: HostRuntime) {
 }
 
 #[test]
-fn the_consumer_answers_1(rt: HostRuntime) {
+fn the_consumer_of_an_actor_answers_1(rt: HostRuntime) {
     const ACTS: &[Act] = &[
         Act::Want(1, 10),
         Act::Turn,
@@ -259,8 +258,6 @@ where
     text.push_str(JUDGED_SEEN).expect(&rt, "memory");
     text.push_str(seen).expect(&rt, "memory");
     sees(rt, Wrong::Nothing, all.as_slice(), text.as_str());
-    drop(all);
-    drop(text);
 }
 
 /// A value that has come is handed out before the response that a verdict has handed out again.

@@ -1,7 +1,7 @@
 //! An actor's loop in a thread.
 
-use crate::asserts::{equal, equal_texts};
 use crate::opaque::lent::{Asking, Gated, Held, Lent, Looked, answer_look, lend};
+use crate::support::{equal, equal_texts};
 use futures::channel::mpsc;
 use resolver_base::Fault;
 use resolver_opaque_loop::init;
@@ -33,7 +33,6 @@ where
 {
     if let Some(seen) = next(rt, told).expect(rt, "a wait") {
         writeln!(text, "{seen}").expect(rt, "memory");
-        drop(seen);
     }
 }
 
@@ -88,7 +87,6 @@ where
     let (text, found) = retry_in_thread(rt, wrong);
     equal(&rt, &found, &ended);
     equal_texts(&rt, text.as_str(), seen);
-    drop(text);
 }
 
 #[test]
@@ -153,7 +151,6 @@ where
     drop(held);
     drop(gate);
     equal_texts(&rt, text.as_str(), seen);
-    drop(text);
 }
 
 #[test]

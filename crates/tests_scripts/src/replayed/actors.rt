@@ -284,6 +284,6 @@ show
 > wake none";
 
 #[test]
-fn scripts(rt: HostRuntime) {
+fn scripts_of_actors(rt: HostRuntime) {
     print_as_worked(&rt, rt.alloc(), "", SCRIPTS);
 }

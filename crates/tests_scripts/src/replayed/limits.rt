@@ -455,7 +455,7 @@ fetch 2 10 8
 > draw 4";
 
 #[test]
-fn rows(rt: HostRuntime) {
+fn rows_of_limits(rt: HostRuntime) {
     let alloc = rt.alloc();
     print_as_worked(&rt, alloc, FULL, BEHIND_FULL);
     print_as_worked(&rt, alloc, ONE_IS_FULL, BEHIND_ONE_IS_FULL);

@@ -204,7 +204,7 @@ show
 > wake none";
 
 #[test]
-fn rows(rt: HostRuntime) {
+fn rows_of_peers(rt: HostRuntime) {
     let alloc = rt.alloc();
     print_as_worked(&rt, alloc, "", OPENED);
     print_as_worked(&rt, alloc, ASKED, BEHIND_ASKED);

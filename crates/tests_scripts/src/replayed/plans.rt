@@ -297,7 +297,7 @@ show
 > wake none";
 
 #[test]
-fn scripts(rt: HostRuntime) {
+fn scripts_of_plans(rt: HostRuntime) {
     print_as_worked(&rt, rt.alloc(), "", OF_ACTORS);
     print_as_worked(&rt, rt.alloc(), "", OF_ENGINES);
     print_as_worked(&rt, rt.alloc(), ASKED, BEHIND_ASKED);

@@ -1,7 +1,10 @@
 //! Scripts that stand with what they print: behind a line stand those that it prints, each with `> ` before it. How a
-//! script ends stands there, too, unless it ends with status 0. A blank line stands between two scripts.
+//! script ends stands there, too, unless it ends with status 0. A blank line stands between two scripts. The name of
+//! a script stands in its first line, behind `# `.
 
 use super::*;
+use std::str;
+use tests_support::transcript::compare;
 
 /// Peer 4 was asked for key 1, under id 5.
 pub const ASKED: &str = "p2p 9 50 10
@@ -44,22 +47,32 @@ pub fn print_as_worked(rt: &impl Abort, alloc: Global, before: &str, scripts: &s
 }
 
 fn print_one(rt: &impl Abort, alloc: Global, before: &str, after: &str) {
-    let mut script = Vec::new(alloc);
-    let mut printed = Vec::new(alloc);
-    add_lines(rt, before, &mut script, &mut printed);
-    add_lines(rt, after, &mut script, &mut printed);
-    assert_prints(rt, alloc, &script, &printed);
-    drop((script, printed));
+    let case = format!(in alloc; "{before}\n{after}").expect(rt, "memory");
+    let script = script_of(rt, alloc, case.as_str());
+    let log = Memory::new(alloc);
+    let printed = replayed(rt, alloc, &log, &script, WHOLE);
+    drop((log, script));
+    assert_case(rt, alloc, case.as_str(), &printed);
+    drop((case, printed));
 }
 
-/// Adds lines to a script, and what they print.
-fn add_lines(rt: &impl Abort, text: &str, script: &mut Vec<u8>, printed: &mut Vec<u8>) {
-    for line in text.split('\n') {
-        match line.strip_prefix("> ") {
-            Some(said) => put_line(rt, printed, said),
-            None => put_line(rt, script, line),
+/// Ends the test by the line of a case that printed something else.
+fn assert_case(rt: &impl Abort, alloc: Global, case: &str, printed: &[u8]) {
+    let printed = str::from_utf8(printed).ok().expect(rt, "a text");
+    if let Some(turn) = compare(alloc, case, printed).expect(rt, "memory") {
+        panic!(rt; "{turn}");
+    }
+}
+
+/// The lines of a case, without what they print.
+fn script_of(rt: &impl Abort, alloc: Global, case: &str) -> Vec<u8> {
+    let mut script = Vec::new(alloc);
+    for line in case.lines() {
+        if !line.starts_with("> ") {
+            put_line(rt, &mut script, line);
         }
     }
+    script
 }
 
 /// Adds a line, with its LF.

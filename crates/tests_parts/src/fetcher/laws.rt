@@ -1,4 +1,6 @@
-use crate::calls::{Node, delayed};
+//! Laws of scans, called at numbers.
+
+use crate::fetcher::words::{Node, delayed};
 use resolver_fetch::fetcher::Fetcher;
 use resolver_fetch::fetcher::laws::draw_counts;
 use resolver_fetch_scan::laws::{
@@ -7,7 +9,7 @@ use resolver_fetch_scan::laws::{
 };
 
 #[test]
-fn at_numbers(rt: HostRuntime) {
+fn laws_of_scans_at_numbers(rt: HostRuntime) {
     eligible_means::<u8, u32>();
     tries_all::<u8, u32>();
     tries_pairs::<u8, u32>();

@@ -1,7 +1,6 @@
 //! Messages of the tests, and what handles show.
 
-use crate::asserts::equal_texts;
-use crate::names::{All, Letter};
+use crate::support::equal_texts;
 use resolver_base::Fault;
 use resolver_mailbox::mailbox::{Names, Share};
 use resolver_messages::{FetchKey, Message};
@@ -9,6 +8,7 @@ use resolver_types::Fetch;
 use std::alloc::Global;
 use std::panic::Expect;
 use std::process::Abort;
+use tests_support::names::{All, Letter};
 
 pub type Told = Message<Letter, u16, (), All>;
 
@@ -38,5 +38,4 @@ pub fn shown<'a, K, S, M, Q, N: Names>(
 pub fn equal_pieces(rt: &impl Abort, found: &String, pieces: &[&str]) {
     let wanted = pieces.join(*found.allocator(), "").expect(rt, "memory");
     equal_texts(rt, found.as_str(), wanted.as_str());
-    drop(wanted);
 }

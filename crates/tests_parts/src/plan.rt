@@ -2,8 +2,7 @@
 
 pub mod fake;
 
-use crate::asserts::{equal, equal_at, equal_texts, holds};
-use crate::names::Letter;
+use crate::support::{equal, equal_at, equal_texts, holds};
 use fake::{Fake, Refusal, spell_fetch, spell_without};
 use resolver_backfill::{Plan, Without, fill, laws, refill, settle, settle_below};
 use resolver_base::{Fault, Feedback};
@@ -13,6 +12,7 @@ use std::collections::BTreeSet;
 use std::fmt::Write;
 use std::panic::Expect;
 use std::process::Abort;
+use tests_support::names::Letter;
 
 /// Ends the test where other keys are wanted.
 fn wants(rt: &impl Abort, alloc: Global, plan: &Plan<Letter, u8>, keys: &str) {
@@ -21,7 +21,6 @@ fn wants(rt: &impl Abort, alloc: Global, plan: &Plan<Letter, u8>, keys: &str) {
         write!(found, " {}", key.0).expect(rt, "memory");
     }
     equal_texts(rt, found.as_str(), keys);
-    drop(found);
 }
 
 /// Ends the test where other fetches are answered.
@@ -36,9 +35,7 @@ fn fetches(
     for fetch in &fetches {
         spell_fetch(&mut found, fetch).expect(rt, "memory");
     }
-    drop(fetches);
     equal_texts(rt, found.as_str(), wanted);
-    drop(found);
 }
 
 /// Ends the test where another predicate is answered, or another one is wanted than none.
@@ -53,7 +50,6 @@ fn lets_go(
         spell_without(&mut found, &without).expect(rt, "memory");
     }
     equal_texts(rt, found.as_str(), wanted);
-    drop(found);
 }
 
 #[test]
@@ -128,7 +124,6 @@ fn one_subscriber_of_some_keys_is_let_go(rt: HostRuntime) {
     let clone = without.clone().expect(rt, "memory");
     drop(without);
     keeps_all_but(rt, &clone, &[0, 1, 2]);
-    drop(clone);
 }
 
 /// One of the five calls that these tests have a resolver told.
@@ -291,20 +286,16 @@ fn a_hundred_thousand_keys(rt: HostRuntime) {
     let keys = first_numbers(rt, alloc, 100_000);
     let fetches = plan.want(&keys).expect(rt, "memory");
     equal(rt, &fetches.len(), &100_000);
-    drop(fetches);
     for key in 0..50_000_u32 {
         plan.forget(&[key]);
     }
     equal(rt, &plan.wanted().len(), &50_000);
     let fetches = plan.again().expect(rt, "memory");
     equal(rt, &fetches.len(), &50_000);
-    drop(fetches);
     let fetches = plan.want(&keys).expect(rt, "memory");
     equal(rt, &fetches.len(), &50_000);
-    drop(fetches);
     plan.forget_below(&99_999);
     equal(rt, &plan.wanted().first(), &Some(&99_999));
-    drop(keys);
     drop(plan);
 }
 

@@ -1,6 +1,6 @@
 //! What the owner of a loop in a thread is told at its end.
 
-use crate::asserts::equal;
+use crate::support::equal;
 use futures::Future;
 use futures::task::{Context, Poll};
 use resolver_base::Fault;

@@ -1,5 +1,5 @@
 use Rattle.std.proofs.Common.{true}
-use Rattle.tests_parts.proofs.mail.handle.what_an_engine_is_asked_stands_in_the_share.Given as goal
+use Rattle.tests_parts.proofs.mail.handles.what_an_engine_is_asked_stands_in_the_share.Given as goal
 
 abbrev pub ghosts-recorded_engine-N-Names : goal.ghosts-recorded_engine-N-Names
 ghosts-recorded_engine-N-Names g a = record { puts = a.pages.puts.name; takes = a.pages.takes.name }

@@ -3,13 +3,13 @@
 ghost use Rattle.std.specs.Prelude.{◌≡◌, ◌≤◌, ◌+◌, ◌≢◌, IfErr};
 ghost use Rattle.resolver_base.specs.declared.fault.Fault.TheVariants.{Exhausted, OutOfMemory};
 
-use crate::names::Letter;
 use resolver_backfill::Without;
 use resolver_base::{Fault, Feedback};
 use resolver_runtime::{Resolver, TargetedResolver};
 use resolver_types::{Fetch, NonEmptyVec};
 use std::alloc::{AllocError, Global};
 use std::fmt::Write;
+use tests_support::names::Letter;
 
 /// What the refused call answers.
 #[derive(Clone, Copy, Debug)]

@@ -1,10 +1,15 @@
+//! The handles of a source and of an engine, which are asked the same, by the traits that both have.
+//!
+//! | Line | Says | Prints |
+//! |---|---|---|
+//! | `fetch K`, `fetch-all LIST` | a fetch of the key, or of each of these, for the subscriber of ten times its number | the answer |
+//! | `fetch-targeted K`, `fetch-all-targeted LIST` | the same from one peer, whose number is the key's and a hundred | the answer |
+//! | `retain` | a retain that keeps all | the answer |
+
 ghost use Rattle.std.specs.Prelude.{◌≡◌, true};
 
-use crate::asserts::spell;
-use crate::lines::{Called, byte, goes};
-use crate::mail::calls::{equal_pieces, shown};
-use crate::mail::mailbox::next;
-use crate::names::{All, Letter};
+use crate::mail::messages::{equal_pieces, shown};
+use crate::support::{list, next, plays, print, unreadable, value};
 use futures::task::Poll;
 use futures::test::MockTask;
 use resolver_base::Fault;
@@ -20,8 +25,8 @@ use std::marker::Brand;
 use std::panic::Expect;
 use std::process::Abort;
 use std::sync::Wait;
-
-// Both handles are asked the same, by the traits that both have.
+use tests_support::names::{All, Letter};
+use tests_support::transcript::{Line, Said};
 
 type Targets = Option<NonEmptyVec<Letter>>;
 
@@ -30,73 +35,85 @@ type Putter<M, N, R> = Sender<Letter, u16, M, All, N, R>;
 type Mail<M, N, R> = Receiver<Letter, u16, M, All, N, R>;
 
 /// Each call of the two traits is made.
-const ASKED: &str = "
-    fetch 1 = Ok
-    fetch_all = Ok
-    fetch_all 2 = Ok
-    fetch_all 3 4 5 = Ok
-    fetch_targeted 6 = Ok
-    fetch_all_targeted = Ok
-    fetch_all_targeted 7 = Ok
-    fetch_all_targeted 8 9 10 = Ok
-    retain = Ok";
+const ASKED: &str = "# asked
+fetch 1
+> Ok
+fetch-all -
+> Ok
+fetch-all 2
+> Ok
+fetch-all 3,4,5
+> Ok
+fetch-targeted 6
+> Ok
+fetch-all-targeted -
+> Ok
+fetch-all-targeted 7
+> Ok
+fetch-all-targeted 8,9,10
+> Ok
+retain
+> Ok";
 
 /// The same once the mailbox is closed.
-const CLOSED: &str = "
-    fetch 1 = Closed
-    fetch_all = Closed
-    fetch_all 2 = Closed
-    fetch_all 3 4 5 = Closed
-    fetch_targeted 6 = Closed
-    fetch_all_targeted = Closed
-    fetch_all_targeted 7 = Closed
-    fetch_all_targeted 8 9 10 = Closed
-    retain = Closed";
+const CLOSED: &str = "# asked once the mailbox is closed
+fetch 1
+> Closed
+fetch-all -
+> Closed
+fetch-all 2
+> Closed
+fetch-all 3,4,5
+> Closed
+fetch-targeted 6
+> Closed
+fetch-all-targeted -
+> Closed
+fetch-all-targeted 7
+> Closed
+fetch-all-targeted 8,9,10
+> Closed
+retain
+> Closed";
 
 /// What was put of the source's handle, each call one message.
-const PUT: &str = " Retain(All) \
-    Fetch([FetchKey { key: Letter(1), subscribers: NonEmptyVec { items: [(10, 7)] }, metadata: () }]) \
-    Fetch([]) \
-    Fetch([FetchKey { key: Letter(2), subscribers: NonEmptyVec { items: [(20, 7)] }, metadata: () }]) \
-    Fetch([FetchKey { key: Letter(3), subscribers: NonEmptyVec { items: [(30, 7)] }, metadata: () }, \
-    FetchKey { key: Letter(4), subscribers: NonEmptyVec { items: [(40, 7)] }, metadata: () }, \
-    FetchKey { key: Letter(5), subscribers: NonEmptyVec { items: [(50, 7)] }, metadata: () }]) \
-    Fetch([FetchKey { key: Letter(6), subscribers: NonEmptyVec { items: [(60, 7)] }, metadata: () }]) \
-    Fetch([]) \
-    Fetch([FetchKey { key: Letter(7), subscribers: NonEmptyVec { items: [(70, 7)] }, metadata: () }]) \
-    Fetch([FetchKey { key: Letter(8), subscribers: NonEmptyVec { items: [(80, 7)] }, metadata: () }, \
-    FetchKey { key: Letter(9), subscribers: NonEmptyVec { items: [(90, 7)] }, metadata: () }, \
-    FetchKey { key: Letter(10), subscribers: NonEmptyVec { items: [(100, 7)] }, metadata: () }]) \
-    Retain(All)";
+const PUT: &str = "> Retain(All)
+> Fetch([FetchKey { key: Letter(1), subscribers: NonEmptyVec { items: [(10, 7)] }, metadata: () }])
+> Fetch([])
+> Fetch([FetchKey { key: Letter(2), subscribers: NonEmptyVec { items: [(20, 7)] }, metadata: () }])
+> Fetch([FetchKey { key: Letter(3), subscribers: NonEmptyVec { items: [(30, 7)] }, metadata: () }, FetchKey { key: Letter(4), subscribers: NonEmptyVec { items: [(40, 7)] }, metadata: () }, FetchKey { key: Letter(5), subscribers: NonEmptyVec { items: [(50, 7)] }, metadata: () }])
+> Fetch([FetchKey { key: Letter(6), subscribers: NonEmptyVec { items: [(60, 7)] }, metadata: () }])
+> Fetch([])
+> Fetch([FetchKey { key: Letter(7), subscribers: NonEmptyVec { items: [(70, 7)] }, metadata: () }])
+> Fetch([FetchKey { key: Letter(8), subscribers: NonEmptyVec { items: [(80, 7)] }, metadata: () }, FetchKey { key: Letter(9), subscribers: NonEmptyVec { items: [(90, 7)] }, metadata: () }, FetchKey { key: Letter(10), subscribers: NonEmptyVec { items: [(100, 7)] }, metadata: () }])
+> Retain(All)
+";
 
 /// What was put of the engine's handle.
-const PUT_TARGETED: &str = " Retain(All) \
-    Fetch([FetchKey { key: Letter(1), subscribers: NonEmptyVec { items: [(10, 7)] }, metadata: None }]) \
-    Fetch([]) \
-    Fetch([FetchKey { key: Letter(2), subscribers: NonEmptyVec { items: [(20, 7)] }, metadata: None }]) \
-    Fetch([FetchKey { key: Letter(3), subscribers: NonEmptyVec { items: [(30, 7)] }, metadata: None }, \
-    FetchKey { key: Letter(4), subscribers: NonEmptyVec { items: [(40, 7)] }, metadata: None }, \
-    FetchKey { key: Letter(5), subscribers: NonEmptyVec { items: [(50, 7)] }, metadata: None }]) \
-    Fetch([FetchKey { key: Letter(6), subscribers: NonEmptyVec { items: [(60, 7)] }, metadata: Some(NonEmptyVec { items: [Letter(106)] }) }]) \
-    Fetch([]) \
-    Fetch([FetchKey { key: Letter(7), subscribers: NonEmptyVec { items: [(70, 7)] }, metadata: Some(NonEmptyVec { items: [Letter(107)] }) }]) \
-    Fetch([FetchKey { key: Letter(8), subscribers: NonEmptyVec { items: [(80, 7)] }, metadata: Some(NonEmptyVec { items: [Letter(108)] }) }, \
-    FetchKey { key: Letter(9), subscribers: NonEmptyVec { items: [(90, 7)] }, metadata: Some(NonEmptyVec { items: [Letter(109)] }) }, \
-    FetchKey { key: Letter(10), subscribers: NonEmptyVec { items: [(100, 7)] }, metadata: Some(NonEmptyVec { items: [Letter(110)] }) }]) \
-    Retain(All)";
+const PUT_TARGETED: &str = "> Retain(All)
+> Fetch([FetchKey { key: Letter(1), subscribers: NonEmptyVec { items: [(10, 7)] }, metadata: None }])
+> Fetch([])
+> Fetch([FetchKey { key: Letter(2), subscribers: NonEmptyVec { items: [(20, 7)] }, metadata: None }])
+> Fetch([FetchKey { key: Letter(3), subscribers: NonEmptyVec { items: [(30, 7)] }, metadata: None }, FetchKey { key: Letter(4), subscribers: NonEmptyVec { items: [(40, 7)] }, metadata: None }, FetchKey { key: Letter(5), subscribers: NonEmptyVec { items: [(50, 7)] }, metadata: None }])
+> Fetch([FetchKey { key: Letter(6), subscribers: NonEmptyVec { items: [(60, 7)] }, metadata: Some(NonEmptyVec { items: [Letter(106)] }) }])
+> Fetch([])
+> Fetch([FetchKey { key: Letter(7), subscribers: NonEmptyVec { items: [(70, 7)] }, metadata: Some(NonEmptyVec { items: [Letter(107)] }) }])
+> Fetch([FetchKey { key: Letter(8), subscribers: NonEmptyVec { items: [(80, 7)] }, metadata: Some(NonEmptyVec { items: [Letter(108)] }) }, FetchKey { key: Letter(9), subscribers: NonEmptyVec { items: [(90, 7)] }, metadata: Some(NonEmptyVec { items: [Letter(109)] }) }, FetchKey { key: Letter(10), subscribers: NonEmptyVec { items: [(100, 7)] }, metadata: Some(NonEmptyVec { items: [Letter(110)] }) }])
+> Retain(All)
+";
 
 /// What both handles have besides.
 trait Handle {
-    /// Writes what it has put.
-    fn spell_puts(&self, rt: &impl Abort, text: &mut String);
+    /// Prints what it has put.
+    fn print_puts(&self, rt: &impl Abort, text: &mut String);
 
     /// Closes its mailbox.
     fn shut(&mut self);
 }
 
 impl<N: Naming, R: Wait> Handle for Resolver<Letter, u16, Letter, All, N, R> {
-    fn spell_puts(&self, rt: &impl Abort, text: &mut String) {
-        spell_each(rt, text, self.share());
+    fn print_puts(&self, rt: &impl Abort, text: &mut String) {
+        print_each(rt, text, self.share());
     }
 
     fn shut(&mut self) {
@@ -105,8 +122,8 @@ impl<N: Naming, R: Wait> Handle for Resolver<Letter, u16, Letter, All, N, R> {
 }
 
 impl<N: Naming, R: Wait> Handle for Mailbox<Letter, Letter, u16, All, N, R> {
-    fn spell_puts(&self, rt: &impl Abort, text: &mut String) {
-        spell_each(rt, text, self.share());
+    fn print_puts(&self, rt: &impl Abort, text: &mut String) {
+        print_each(rt, text, self.share());
     }
 
     fn shut(&mut self) {
@@ -135,10 +152,10 @@ fn fetch_from(
 }
 
 /// A fetch of each of these keys.
-fn fetches(rt: &impl Abort, alloc: Global, keys: &[u128]) -> Vec<Fetch<Letter, u16>> {
+fn fetches(rt: &impl Abort, alloc: Global, keys: &[u8]) -> Vec<Fetch<Letter, u16>> {
     let mut fetches = Vec::new(alloc);
-    for place in 0..keys.len() {
-        fetches.push(fetch(byte(keys, place))).expect(rt, "memory");
+    for key in keys {
+        fetches.push(fetch(*key)).expect(rt, "memory");
     }
     fetches
 }
@@ -147,11 +164,11 @@ fn fetches(rt: &impl Abort, alloc: Global, keys: &[u128]) -> Vec<Fetch<Letter, u
 fn fetches_from(
     rt: &impl Abort,
     alloc: Global,
-    keys: &[u128],
+    keys: &[u8],
 ) -> Vec<(Fetch<Letter, u16>, NonEmptyVec<Letter>)> {
     let mut fetches = Vec::new(alloc);
-    for place in 0..keys.len() {
-        let fetch = fetch_from(rt, alloc, byte(keys, place));
+    for key in keys {
+        let fetch = fetch_from(rt, alloc, *key);
         fetches.push(fetch).expect(rt, "memory");
     }
     fetches
@@ -163,57 +180,63 @@ struct Asking<'a, H> {
     handle: &'a mut H,
 }
 
-impl<H> Called for Asking<'_, H>
+impl<H, R: Abort> Said<R> for Asking<'_, H>
 where
     H: TargetedResolver<PublicKey = Letter> + Asks<Key = Letter, Subscriber = u16, Predicate = All>,
 {
-    fn call(&mut self, rt: &impl Abort, text: &mut String, word: &str, keys: &[u128]) {
-        let alloc = *text.allocator();
-        let answer = match word {
-            "fetch" => self.handle.fetch(fetch(byte(keys, 0))),
-            "fetch_all" => self.handle.fetch_all(fetches(rt, alloc, keys)),
-            "fetch_targeted" => {
-                let (fetch, targets) = fetch_from(rt, alloc, byte(keys, 0));
+    fn say(&mut self, rt: &R, line: &mut Line, printed: &mut String) {
+        let alloc = *printed.allocator();
+        let answer = match line.field() {
+            "fetch" => self.handle.fetch(fetch(value(rt, line))),
+            "fetch-all" => {
+                let keys = list(rt, alloc, line);
+                let fetches = fetches(rt, alloc, keys.as_slice());
+                self.handle.fetch_all(fetches)
+            }
+            "fetch-targeted" => {
+                let (fetch, targets) = fetch_from(rt, alloc, value(rt, line));
                 self.handle.fetch_targeted(fetch, targets)
             }
-            "fetch_all_targeted" => {
-                self.handle
-                    .fetch_all_targeted(fetches_from(rt, alloc, keys))
+            "fetch-all-targeted" => {
+                let keys = list(rt, alloc, line);
+                let fetches = fetches_from(rt, alloc, keys.as_slice());
+                self.handle.fetch_all_targeted(fetches)
             }
-            _ => self.handle.retain(All),
+            "retain" => self.handle.retain(All),
+            _ => unreadable(rt, line),
         };
-        spell(rt, text, answer.expect(rt, "an answer"));
+        print(rt, printed, answer.expect(rt, "an answer"));
     }
 }
 
-/// Writes what a handle has put.
-fn spell_each<M: Debug, N: Naming>(
+/// Prints what a handle has put.
+fn print_each<M: Debug, N: Naming>(
     rt: &impl Abort,
     text: &mut String,
     share: Option<&Share<Letter, u16, M, All, N>>,
 ) {
     let (share, puts) = shown(share);
-    spell(rt, text, share);
+    print(rt, text, share);
     for message in puts {
-        spell(rt, text, message);
+        print(rt, text, message);
     }
 }
 
 /// What a poll of a receiver gives.
 type Polled<M> = Poll<Option<Result<Message<Letter, u16, M, All>, Fault>>>;
 
-/// Writes the message that a poll gives, or that there is none. Whether the receiver may have more.
-fn spell_polled<M: Debug>(rt: &impl Abort, text: &mut String, polled: &Polled<M>) -> bool {
+/// Prints the message that a poll gives, or that there is none. Whether the receiver may have more.
+fn print_polled<M: Debug>(rt: &impl Abort, text: &mut String, polled: &Polled<M>) -> bool {
     let Poll::Ready(Some(Ok(message))) = polled else {
-        spell(rt, text, polled);
+        print(rt, text, polled);
         return false;
     };
-    spell(rt, text, message);
+    print(rt, text, message);
     true
 }
 
-/// Writes what the receiver gives, up to the end or where it waits.
-fn spell_taken<M: Metadata + Debug + Drop, N: Naming, R: Wait + Drop>(
+/// Prints what the receiver gives, up to the end or where it waits.
+fn print_taken<M: Metadata + Debug + Drop, N: Naming, R: Wait + Drop>(
     rt: &impl Abort,
     text: &mut String,
     task: &MockTask,
@@ -221,7 +244,7 @@ fn spell_taken<M: Metadata + Debug + Drop, N: Naming, R: Wait + Drop>(
 ) {
     for _ in 0..11_u64 {
         let polled = next(task, receiver);
-        let goes_on = spell_polled(rt, text, &polled);
+        let goes_on = print_polled(rt, text, &polled);
         drop(polled);
         if !goes_on {
             break;
@@ -229,30 +252,29 @@ fn spell_taken<M: Metadata + Debug + Drop, N: Naming, R: Wait + Drop>(
     }
 }
 
-/// Closes the mailbox by a clone of a handle, and writes what the clone has put.
+/// Closes the mailbox by a clone of a handle, and prints what the clone has put.
 fn close_by_clone<H: Handle + Clone + Drop>(rt: &impl Abort, text: &mut String, handle: &H) {
     let mut other = handle.clone().expect(rt, "memory");
-    other.spell_puts(rt, text);
+    other.print_puts(rt, text);
     other.shut();
-    drop(other);
 }
 
-/// Asks, writes what was put then, and takes it.
+/// Asks, prints what was put then, and takes it.
 fn ask_and_take<H, M: Metadata + Debug + Drop, N: Naming, R: Wait + Drop>(
     rt: &impl Abort,
     text: &mut String,
     task: &MockTask,
     handle: &mut H,
     receiver: &mut Mail<M, N, R>,
-    script: &str,
+    case: &str,
 )
 where
     H: Asks<Key = Letter, Subscriber = u16, Predicate = All>,
     H: TargetedResolver<PublicKey = Letter> + Handle,
 {
-    goes(rt, *text.allocator(), &mut Asking { handle }, script);
-    handle.spell_puts(rt, text);
-    spell_taken(rt, text, task, receiver);
+    plays(rt, *text.allocator(), &mut Asking { handle }, case);
+    handle.print_puts(rt, text);
+    print_taken(rt, text, task, receiver);
 }
 
 /// Asks, takes what was put, closes the mailbox, and asks and takes once more. Both are let go then.
@@ -274,14 +296,14 @@ where
     drop(receiver);
 }
 
-/// Puts by a sender of which no handle is made yet, and writes the answer.
+/// Puts by a sender of which no handle is made yet, and prints the answer.
 fn put<M: Metadata + Drop, N: Naming, R: Wait>(
     rt: &impl Abort,
     text: &mut String,
     sender: &mut Putter<M, N, R>,
 ) {
     let feedback = sender.enqueue(Message::Retain(All)).expect(rt, "an answer");
-    spell(rt, text, feedback);
+    print(rt, text, feedback);
 }
 
 /// The mailbox of a source that was made is used by a handle of its sender.
@@ -350,19 +372,23 @@ where
 /// Ends the test where something else is seen of a handle whose share lists what was put.
 fn is_recorded_sight(rt: &impl Abort, text: &String, put: &str) {
     let pieces = [
-        " Ok Some((0, false))",
+        "> Ok\n> Some((0, false))\n",
         put,
         put,
-        " Pending None Some((0, true))",
+        "> Pending\n> None\n> Some((0, true))\n",
         put,
-        " Ready(None)",
+        "> Ready(None)\n",
     ];
     equal_pieces(rt, text, &pieces);
 }
 
 /// Ends the test where something else is seen of a handle that has no share.
 fn is_sight(rt: &impl Abort, text: &String, put: &str) {
-    let pieces = [" Ok None", put, " Pending None None Ready(None)"];
+    let pieces = [
+        "> Ok\n> None\n",
+        put,
+        "> Pending\n> None\n> None\n> Ready(None)\n",
+    ];
     equal_pieces(rt, text, &pieces);
 }
 
@@ -393,5 +419,4 @@ fn what_is_asked_is_taken(rt: HostRuntime) {
     text.clear();
     use_engine(&rt, &mut text, &task, new(rt, alloc, 10));
     is_sight(&rt, &text, PUT_TARGETED);
-    drop(task);
 }

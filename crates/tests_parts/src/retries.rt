@@ -1,6 +1,6 @@
 //! How often a key was put back to be tried again.
 
-use crate::asserts::equal;
+use crate::support::equal;
 use resolver_base::Fault;
 use resolver_fetch_scan::place::Place;
 use resolver_fetch_waiting::pending::Pending;

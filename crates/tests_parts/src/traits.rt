@@ -1,5 +1,4 @@
-use crate::asserts::equal;
-use crate::names::Letter;
+use crate::support::equal;
 use bytes::Bytes;
 use futures::Stream;
 use futures::channel::mpsc;
@@ -8,6 +7,7 @@ use futures::test::MockTask;
 use resolver_runtime::{Clock, Receiver};
 use std::panic::Expect;
 use std::process::Abort;
+use tests_support::names::Letter;
 
 /// A network over memory.
 #[derive(Drop)]
@@ -59,8 +59,6 @@ fn comes<I: Receiver<PublicKey = Letter>>(
 ) {
     let found = task.enter(|cx| network.poll_recv(cx));
     equal(rt, &found, &wanted);
-    drop(found);
-    drop(wanted);
 }
 
 /// A message comes, and then the end.
@@ -87,7 +85,6 @@ fn a_network_gives_what_was_sent(rt: HostRuntime) {
     let mut network = Wire { messages };
     gives_hi(rt, &task, sender, &mut network);
     drop(network);
-    drop(task);
 }
 
 #[test]
@@ -102,5 +99,4 @@ fn a_moment_comes_at_its_time(rt: HostRuntime) {
     equal(rt, &left(&task, &mut clock, 5), &(0, true));
     equal(rt, &left(&task, &mut clock, 8), &(3, false));
     drop(clock);
-    drop(task);
 }
