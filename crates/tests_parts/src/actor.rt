@@ -16,7 +16,8 @@ ghost use Rattle.std.specs.Prelude.{not, true, ◌==◌};
 ghost use Rattle.std.proofs.Common.{rules};
 
 use crate::support::{
-    equal_lists, list, outcome, plays, print_refused, unreadable, value, write_subscribers,
+    equal_lists, list, outcome, plays, plays_parts, print_refused, unreadable, value,
+    write_subscribers,
 };
 use resolver_base::{Fault, Numbers};
 use resolver_messages::{FetchKey, Predicate};
@@ -219,9 +220,7 @@ fn play_parts(rt: &impl Abort, alloc: Global, actor: Plain, parts: &[&str]) {
         actor: &mut actor,
         now: 0,
     };
-    for part in parts {
-        plays(rt, alloc, &mut stepped, part);
-    }
+    plays_parts(rt, alloc, &mut stepped, parts);
     drop(stepped);
     drop(actor);
 }

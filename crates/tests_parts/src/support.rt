@@ -74,6 +74,13 @@ pub fn plays<R: Abort, S: Said<R>>(rt: &R, alloc: Global, said: &mut S, case: &s
     }
 }
 
+/// The same of the parts of a case, one after another.
+pub fn plays_parts<R: Abort, S: Said<R>>(rt: &R, alloc: Global, said: &mut S, parts: &[&str]) {
+    for part in parts {
+        plays(rt, alloc, said, part);
+    }
+}
+
 /// The next field of a line as a value. Ends the test by the line where it is missing or no such value.
 pub fn value<T: FromStr>(rt: &impl Abort, line: &mut Line) -> T
 where

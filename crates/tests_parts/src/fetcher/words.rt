@@ -18,7 +18,9 @@ ghost use Rattle.std.specs.Prelude.{◌≡◌};
 ghost use Rattle.resolver_fetch_scan.specs.Fetcher.{IsTimely};
 
 use crate::fetcher::network::{Answers, Network, Numbers, Told};
-use crate::support::{Part, equal, holds, list, plays, print, print_refused, unreadable, value};
+use crate::support::{
+    Part, equal, holds, list, plays_parts, print, print_refused, unreadable, value,
+};
 use resolver_base::{Check, Fault, Feedback, Unreliable};
 use resolver_fetch::fetcher::{Answer, Ask, Config, Fetcher, ID};
 use resolver_priority_set::PrioritySet;
@@ -471,9 +473,7 @@ pub fn play_parts(rt: &impl Abort, alloc: Global, config: Config<Letter>, parts:
     requires timely { IsTimely config.fetch_timeout config.retry_delay }
 {
     let mut fetcher: Node = Fetcher::new(alloc, config);
-    for part in parts {
-        plays(rt, alloc, &mut Part(&mut fetcher), part);
-    }
+    plays_parts(rt, alloc, &mut Part(&mut fetcher), parts);
     drop(fetcher);
 }
 

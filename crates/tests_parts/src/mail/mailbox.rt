@@ -10,7 +10,7 @@
 ghost use Rattle.std.specs.Prelude.{◌≡◌, ◌<◌, true};
 
 use crate::mail::messages::{fetch, shown};
-use crate::support::{next, plays, print, unreadable, value};
+use crate::support::{next, plays_parts, print, unreadable, value};
 use futures::test::MockTask;
 use resolver_base::Fault;
 use resolver_mailbox::mailbox::{Naming, Pages, Receiver, Sender, Share, new, recorded};
@@ -153,9 +153,7 @@ fn play_in<N: Naming, R: Wait + Copy + Drop>(
         handles: &mut handles,
         receiver: &mut receiver,
     };
-    for part in parts {
-        plays(rt, alloc, &mut mailed, part);
-    }
+    plays_parts(rt, alloc, &mut mailed, parts);
     drop(mailed);
     drop(handles);
     drop(receiver);
