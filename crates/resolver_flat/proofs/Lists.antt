@@ -45,10 +45,10 @@ module _ {A : Type 0} (at : Reads A) (items more : List A) (bytes : List ℕ) (t
   no_more (suc left) none makes = absurd (omega (arith, none))
 
 -- one more is written
-pub written_more : {A : Type 0} (spell : A → List ℕ) (before now all : List ℕ) (xs : List A) (i : ℕ) (d one : A) → i < length xs → one ≡ get_or xs i d
-    → now ≡ before ++ spell one → before ++ concat (map spell (drop i xs)) ≡ all → now ++ concat (map spell (drop (i + 1) xs)) ≡ all
-written_more spell before now all xs i d one below is next makes =
-    let rest : drop i xs ≡ one ∷ drop (i + 1) xs = drop-cons xs i d below ∙ rw (add-one i, ← is) refl in
+pub written_more : {A : Type 0} (spell : A → List ℕ) (before now all : List ℕ) (xs : List A) (i : ℕ) (one : A) → i < length xs → now ≡ before ++ spell one
+    → before ++ concat (map spell (drop i xs)) ≡ all → one ≡ get_or xs i one → now ++ concat (map spell (drop (i + 1) xs)) ≡ all
+written_more spell before now all xs i one below next makes is =
+    let rest : drop i xs ≡ one ∷ drop (i + 1) xs = drop-cons xs i one below ∙ ap (λ x. x ∷ drop (suc i) xs) (sym is) ∙ ap (λ j. one ∷ drop j xs) (sym (add-one i)) in
     ap (λ out. out ++ concat (map spell (drop (i + 1) xs))) next
     ∙ append_assoc before (spell one) (concat (map spell (drop (i + 1) xs)))
     ∙ ap (λ list. before ++ concat (map spell list)) (sym rest) ∙ makes

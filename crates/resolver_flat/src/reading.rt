@@ -150,7 +150,7 @@ pub fn wide(bytes: &[u8]) -> Result<(u128, &[u8]), Misread>
 
 /// How many there are: a number of four bytes.
 #[tactic(auto, unfolding(crate::specs::Reading::number_at))]
-fn count(bytes: &[u8]) -> Result<(u32, &[u8]), Misread>
+pub fn count(bytes: &[u8]) -> Result<(u32, &[u8]), Misread>
     ensures { Gives (λ x. (x.0, x.1.now)) result (number_at w32 bytes.now) }
 {
     let (count, bytes) = chunk::<4>(bytes)?;
@@ -250,7 +250,7 @@ fn targets(alloc: Global, bytes: &[u8]) -> Result<(Option<NonEmptyVec<Name>>, &[
 
 /// All that is left.
 #[tactic(auto, unfolding(crate::specs::Reading::rest_at))]
-fn rest(alloc: Global, bytes: &[u8]) -> Result<(Bytes, &[u8]), Misread>
+pub fn rest(alloc: Global, bytes: &[u8]) -> Result<(Bytes, &[u8]), Misread>
     ensures { Gives (λ x. (x.0, x.1.now)) result (rest_at bytes.now) }
 {
     Ok((Bytes::copy_from_slice(alloc, bytes)?, &[]))

@@ -2,10 +2,10 @@
 //! of it may have been written.
 
 ghost use Rattle.std.specs.Prelude.{◌≡◌, ◌∷◌, ◌++◌, [], OnOk};
-ghost use Rattle.std.specs.Int.{w128, to_le_bytes};
 ghost use Rattle.resolver_flat.specs.Spelling as spelling;
 
 use crate::name::Name;
+use resolver_types::{Delivery, NonEmptyVec};
 use std::alloc::AllocError;
 
 /// Appends one byte.
@@ -16,6 +16,7 @@ pub fn put_octet(out: &mut Vec<u8>, octet: u8) -> Result<(), AllocError>
 }
 
 /// Appends a number of eight bytes.
+#[tactic(auto, unfolding(crate::specs::Spelling::number))]
 pub fn put_number(out: &mut Vec<u8>, number: u64) -> Result<(), AllocError>
     ensures { OnOk result (out.new.items ≡ out.old.items ++ spelling.number number) }
 {
@@ -23,8 +24,9 @@ pub fn put_number(out: &mut Vec<u8>, number: u64) -> Result<(), AllocError>
 }
 
 /// Appends a number of sixteen bytes.
+#[tactic(auto, unfolding(crate::specs::Spelling::wide))]
 pub fn put_wide(out: &mut Vec<u8>, number: u128) -> Result<(), AllocError>
-    ensures { OnOk result (out.new.items ≡ out.old.items ++ to_le_bytes w128 number) }
+    ensures { OnOk result (out.new.items ≡ out.old.items ++ spelling.wide number) }
 {
     out.extend_from_slice(&number.to_le_bytes())
 }
@@ -68,4 +70,32 @@ fn put_subscriber(out: &mut Vec<u8>, one: &(u64, u64)) -> Result<(), AllocError>
 {
     put_number(out, one.0)?;
     put_number(out, one.1)
+}
+
+/// Appends a key, and who wants it.
+pub fn put_demanded(
+    out: &mut Vec<u8>,
+    key: &Name,
+    subscribers: &NonEmptyVec<(u64, u64)>,
+) -> Result<(), AllocError>
+    ensures { OnOk result
+        (out.new.items ≡ out.old.items ++ spelling.demanded key.now subscribers.now) }
+{
+    put_name(out, key)?;
+    put_subscribers(out, subscribers.as_slice())
+}
+
+/// Appends a delivery behind its number and that of its response.
+pub fn put_handed(
+    out: &mut Vec<u8>,
+    number: u64,
+    response: u64,
+    delivery: &Delivery<Name, u64>,
+) -> Result<(), AllocError>
+    ensures { OnOk result
+        (out.new.items ≡ out.old.items ++ spelling.handed number response delivery.now) }
+{
+    put_number(out, number)?;
+    put_number(out, response)?;
+    put_demanded(out, &delivery.key, &delivery.subscribers)
 }
