@@ -1,0 +1,5 @@
+pub mod Naming
+pub mod Leavings
+pub mod Reading
+pub mod Spelling
+pub mod Refusals

@@ -1,0 +1,76 @@
+//! Effects, as they are spelled.
+
+ghost use Rattle.std.specs.Prelude.{◌≡◌, ◌++◌, OnOk};
+ghost use Rattle.resolver_flat_actor.specs.Effects.{all_rows, all_spelled, row_spelled, spelled};
+
+use bytes::Bytes;
+use resolver_flat::Name;
+use resolver_flat::writing::{
+    put_demanded, put_handed, put_name, put_number, put_octet, put_value,
+};
+use resolver_model_opaque::effects::Effect;
+use resolver_model_opaque::rows::Row;
+use std::alloc::AllocError;
+
+/// What an actor over names of 32 bytes tells.
+pub type Told = Effect<Name, Bytes, u64>;
+
+/// A key that such an actor is asked for.
+pub type Demanded = Row<Name, u64>;
+
+/// Appends these effects, one behind the other. Where memory is wanting some may have been written.
+pub fn put_all(out: &mut Vec<u8>, effects: &[Told]) -> Result<(), AllocError>
+    ensures { OnOk result (out.new.items ≡ out.old.items ++ all_spelled effects.now) }
+{
+    for effect in effects {
+        put_effect(out, effect)?;
+    }
+    Ok(())
+}
+
+/// Appends these rows, one behind the other: the key, and its subscribers.
+pub fn put_rows(out: &mut Vec<u8>, rows: &[Demanded]) -> Result<(), AllocError>
+    ensures { OnOk result (out.new.items ≡ out.old.items ++ all_rows rows.now) }
+{
+    for row in rows {
+        put_row(out, row)?;
+    }
+    Ok(())
+}
+
+#[tactic(auto, unfolding(crate::specs::Effects::row_spelled))]
+fn put_row(out: &mut Vec<u8>, row: &Demanded) -> Result<(), AllocError>
+    ensures { OnOk result (out.new.items ≡ out.old.items ++ row_spelled row.now) }
+{
+    put_demanded(out, &row.key, &row.subscribers)
+}
+
+fn put_effect(out: &mut Vec<u8>, effect: &Told) -> Result<(), AllocError>
+    ensures { OnOk result (out.new.items ≡ out.old.items ++ spelled effect.now) }
+{
+    match effect {
+        Effect::Start { attempt, key } => {
+            put_octet(out, 0)?;
+            put_number(out, *attempt)?;
+            put_name(out, key)
+        }
+        Effect::Abort { attempt } => {
+            put_octet(out, 1)?;
+            put_number(out, *attempt)
+        }
+        Effect::Deliver {
+            number,
+            response,
+            delivery,
+            value,
+        } => {
+            put_octet(out, 2)?;
+            put_handed(out, *number, *response, delivery)?;
+            put_value(out, value.as_slice())
+        }
+        Effect::Cancel { number } => {
+            put_octet(out, 3)?;
+            put_number(out, *number)
+        }
+    }
+}

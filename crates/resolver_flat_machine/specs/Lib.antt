@@ -1,0 +1,5 @@
+pub mod Inputs
+pub mod Effects
+pub mod Settings
+pub mod Steps
+pub mod Either
