@@ -6,7 +6,6 @@ pub mod Dues
 pub mod OpaqueGoing
 pub mod Running
 pub mod Joined
-pub mod Inserted
 pub mod Agrees
 pub mod OpaqueDemand
 pub mod OpaqueKept
