@@ -32,8 +32,14 @@ impl Driven for Worker {
     /// It counts the effects.
     fn take(&mut self, alloc: Global, kind: Kind, i: u64) -> Result<u64, Fault> {
         let event = event_of(alloc, kind, i)?;
-        let effects = self.step(Input { now: 0, event })?;
-        Ok(effects.len() as u64)
+        match self.step(Input { now: 0, event }) {
+            Ok(effects) => {
+                let counted = effects.len() as u64;
+                drop(effects);
+                Ok(counted)
+            }
+            Err(fault) => Err(fault.into()),
+        }
     }
 }
 

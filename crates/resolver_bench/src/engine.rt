@@ -87,8 +87,15 @@ fn step(
     engine: &mut Engine,
     input: Input<Name, Peer, u16, All>,
 ) -> Result<(u64, Option<Answer>), Fault> {
-    let told = engine.step(input)?;
-    Ok((told.len() as u64, answer_to(&told)))
+    match engine.step(input) {
+        Ok(told) => {
+            let counted = told.len() as u64;
+            let answer = answer_to(&told);
+            drop(told);
+            Ok((counted, answer))
+        }
+        Err(fault) => Err(fault.into()),
+    }
 }
 
 /// A zero, or leave, where something is asked: the first peer is asked, and the first id is 0.

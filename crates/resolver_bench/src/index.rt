@@ -15,10 +15,18 @@ const STEPS: &[Steps] = &[
 ];
 
 /// An index, and the weights that it was made of.
-#[derive(Drop)]
 struct Choices {
     weights: Vec<u64>,
     index: WeightedIndex,
+}
+
+impl Drop for Choices {
+    fn drop(self) {
+        let Self {
+            weights: _,
+            index: _,
+        } = self;
+    }
 }
 
 /// Takes an index of as many places as there are peers through draws and weights.
@@ -55,7 +63,9 @@ impl Driven for Choices {
 #[inline(never)]
 fn make(alloc: Global, weights: &[u64]) -> Result<u64, Fault> {
     let index = WeightedIndex::new(alloc, weights)?;
-    Ok(index.count() as u64)
+    let places = index.count() as u64;
+    drop(index);
+    Ok(places)
 }
 
 /// Draws a place, and counts it where it has a weight.

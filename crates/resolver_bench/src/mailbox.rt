@@ -29,8 +29,15 @@ pub fn run<R: AllocGlobal + Clock + Print + Wait + RandomSource + Copy + Drop>(
     rt: R,
     load: &Load,
 ) -> Result<(), Fault> {
-    let (mut sender, mut receiver) = mailbox::new(rt, rt.alloc(), 1)?;
-    put_and_take(&rt, &mut sender, &mut receiver, load)
+    match mailbox::new(rt, rt.alloc(), 1) {
+        Ok((mut sender, mut receiver)) => {
+            let taken = put_and_take(&rt, &mut sender, &mut receiver, load);
+            drop(sender);
+            drop(receiver);
+            taken
+        }
+        Err(fault) => Err(fault.into()),
+    }
 }
 
 /// The same of a mailbox that is lent.
@@ -100,8 +107,10 @@ fn taken<R: AllocGlobal + Wait + RandomSource + Drop>(
 
 /// How many fetches a message has that was taken.
 fn fetches(message: Message<u64, u16, (), All>) -> u64 {
-    match message {
+    let count = match &message {
         Message::Fetch(items) => items.len() as u64,
         Message::Retain(_) => 0,
-    }
+    };
+    drop(message);
+    count
 }

@@ -115,7 +115,12 @@ fn asked(rt: &(impl AllocGlobal + Env)) -> Result<Work, Fault> {
     let first = arguments.next();
     let second = arguments.next();
     let third = arguments.next();
-    asked_by(first.as_deref(), second.as_deref(), third.as_deref())
+    drop(arguments);
+    let work = asked_by(first.as_deref(), second.as_deref(), third.as_deref());
+    drop(first);
+    drop(second);
+    drop(third);
+    work
 }
 
 /// The work that the first argument and the others ask for.

@@ -56,12 +56,19 @@ impl Fresh for Demand {
 impl Part<Call> for Demand {
     fn take(&mut self, alloc: Global, call: &Call) -> Result<(), Fault> {
         match call {
-            Call::Insert(key, named) => done(self.insert(*key, listed(alloc, named)?)),
+            Call::Insert(key, named) => match listed(alloc, named) {
+                Ok(subscribers) => done(self.insert(*key, subscribers)),
+                Err(fault) => Err(fault),
+            },
             Call::Pending(key) => done(self.pending(key)),
             Call::RetainEven => done(self.retain(&Even)),
             Call::RemoveDelivered(key, named) => {
-                let delivered = listed(alloc, named)?;
-                done(self.remove_delivered(key, &delivered))
+                let Ok(delivered) = listed(alloc, named) else {
+                    return Err(Fault::OutOfMemory);
+                };
+                let left = self.remove_delivered(key, &delivered);
+                drop(delivered);
+                done(left)
             }
             Call::Remove(key) => {
                 self.remove(key);

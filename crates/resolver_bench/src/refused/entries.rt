@@ -53,7 +53,7 @@ impl Part<Call> for Deliveries {
             Call::Deliver(key) => deliver(self, named(alloc, *key)?),
             Call::Redeliver(key) => redeliver(self, named(alloc, *key)?),
             Call::Complete(number) => {
-                self.completed(*number, Some(Outcome::Unresolved));
+                drop(self.completed(*number, Some(Outcome::Unresolved)));
                 Ok(())
             }
         }
@@ -75,6 +75,7 @@ fn deliver(entries: &mut Deliveries, delivery: Delivery<u64, u64>) -> Result<(),
     if entries.contains(&delivery.key) && entries.number(&delivery.key).is_none() {
         done(entries.deliver(delivery, (), 7))
     } else {
+        drop(delivery);
         Ok(())
     }
 }
@@ -84,6 +85,7 @@ fn redeliver(entries: &mut Deliveries, delivery: Delivery<u64, u64>) -> Result<(
     if entries.response(&delivery.key).is_some() && entries.number(&delivery.key).is_none() {
         done(entries.redeliver(delivery))
     } else {
+        drop(delivery);
         Ok(())
     }
 }

@@ -96,9 +96,14 @@ impl Fresh for Asker {
 }
 
 /// A fetcher that asks a peer for one key at once.
-#[derive(Drop)]
 pub struct Sparing {
     asker: Asker,
+}
+
+impl Drop for Sparing {
+    fn drop(self) {
+        let Self { asker: _ } = self;
+    }
 }
 
 impl Fresh for Sparing {
@@ -134,7 +139,7 @@ impl Part<Call> for Asker {
             Call::Block(peers) => self.set_blocked(peers.to_vec(alloc)?),
             Call::Fetch(now) => self.fetch(&mut Willing, &mut Zeros, u128::from(*now)),
             Call::Expire(now) => {
-                self.pop_active(u128::from(*now));
+                drop(self.pop_active(u128::from(*now)));
                 Ok(())
             }
         }

@@ -28,7 +28,8 @@ impl Part<Call> for Index {
     fn take(&mut self, alloc: Global, call: &Call) -> Result<(), Fault> {
         match call {
             Call::New(weights) => {
-                *self = Some(WeightedIndex::new(alloc, weights)?);
+                let made = WeightedIndex::new(alloc, weights)?;
+                drop(self.replace(made));
                 Ok(())
             }
             Call::Select => select(self),
@@ -47,11 +48,11 @@ fn select(kept: &mut Index) -> Result<(), Fault> {
     };
     match index.without_replacement() {
         Ok(selection) => {
-            *kept = Some(selection.end());
+            drop(kept.replace(selection.end()));
             Ok(())
         }
         Err(refused) => {
-            *kept = Some(refused.value);
+            drop(kept.replace(refused.value));
             Err(Fault::OutOfMemory)
         }
     }

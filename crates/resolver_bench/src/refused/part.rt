@@ -53,11 +53,19 @@ impl Way {
 }
 
 /// What a part shows, one value behind the other.
-#[derive(Drop)]
 pub struct Notes {
     text: String,
     /// Whether memory was refused for some of it.
     is_wanting: bool,
+}
+
+impl Drop for Notes {
+    fn drop(self) {
+        let Self {
+            text: _,
+            is_wanting: _,
+        } = self;
+    }
 }
 
 impl Notes {
@@ -74,6 +82,7 @@ impl Notes {
         if write!(self.text, "{value:?} ").is_err() {
             self.is_wanting = true;
         }
+        drop(value);
     }
 
     /// Writes a text as it is.
@@ -171,6 +180,11 @@ fn compared<Call, T: Part<Call>>(alloc: Global, way: Way, part: &mut T, twin: &m
 
 /// Drops what a call answers.
 pub fn done<T: Drop>(answered: Result<T, Fault>) -> Result<(), Fault> {
-    answered?;
-    Ok(())
+    match answered {
+        Ok(answer) => {
+            drop(answer);
+            Ok(())
+        }
+        Err(fault) => Err(fault),
+    }
 }

@@ -130,8 +130,16 @@ where
         *rt, alloc, pages, 1,
     );
     match opened {
-        Ok((mut first, mut taker)) => ended(task, alloc, way, &mut first, &mut taker),
-        Err(_) => Ending::Outside,
+        Ok((mut first, mut taker)) => {
+            let ending = ended(task, alloc, way, &mut first, &mut taker);
+            drop(first);
+            drop(taker);
+            ending
+        }
+        Err(_) => {
+            drop(task);
+            Ending::Outside
+        }
     }
 }
 
@@ -151,9 +159,15 @@ fn ended<N: Naming, R: Wait + Copy + Drop>(
                 second: &mut second,
                 taker,
             };
-            walked(alloc, way, &mut mail)
+            let ending = walked(alloc, way, &mut mail);
+            drop(mail);
+            drop(second);
+            ending
         }
-        Err(_) => Ending::Outside,
+        Err(_) => {
+            drop(task);
+            Ending::Outside
+        }
     }
 }
 
@@ -247,6 +261,7 @@ fn expect(
         Poll::Ready(Some(Err(fault))) => return Err(*fault),
         _ => named.is_empty(),
     };
+    drop(polled);
     if is_given { Ok(()) } else { Err(Fault::Uneven) }
 }
 
@@ -269,6 +284,7 @@ fn show_book(notes: &mut Notes, lent: Result<Vec<Entry<u64, u16, (), All>>, Faul
             for entry in book.as_slice() {
                 notes.add(entry);
             }
+            drop(book);
         }
         Err(fault) => notes.add(fault),
     }

@@ -75,12 +75,22 @@ enum Asked {
 }
 
 /// A core, what it was told to send last, the moment, and the number of the next delivery to be judged.
-#[derive(Drop)]
 struct Driver {
     engine: Engine,
     requests: Vec<(u64, Peer)>,
     now: u32,
     judged: u64,
+}
+
+impl Drop for Driver {
+    fn drop(self) {
+        let Self {
+            engine: _,
+            requests: _,
+            now: _,
+            judged: _,
+        } = self;
+    }
 }
 
 /// Takes each key the short way.
@@ -179,12 +189,14 @@ impl Driver {
 
 /// What is asked behind the other effects.
 fn asked_by(told: Told) -> Asked {
-    match told.last() {
+    let asked = match told.last() {
         Some(Effect::Ask(Ask::Draw(bound))) => Asked::Draw(*bound),
         Some(Effect::Ask(Ask::Check(_))) => Asked::Check,
         Some(Effect::Ask(Ask::Request { id, peer, .. })) => Asked::Request(*id, *peer),
         _ => Asked::Nothing,
-    }
+    };
+    drop(told);
+    asked
 }
 
 /// A number below this one.
