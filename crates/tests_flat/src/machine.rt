@@ -25,7 +25,7 @@ struct Opened {
 }
 
 /// Prints a value behind a word.
-fn print<T: Debug>(rt: &impl Abort, printed: &mut String, word: &str, value: T) {
+fn print<T: Debug + Drop>(rt: &impl Abort, printed: &mut String, word: &str, value: T) {
     writeln!(printed, "> {word} {value:?}").expect(rt, "memory");
 }
 
