@@ -12,6 +12,9 @@ use std::process::Abort;
 use std::str::FromStr;
 use tests_support::transcript::Line;
 
+/// How many pieces a line may have.
+const MOST: usize = 64;
+
 /// Ends the test by a line that can't be read.
 pub fn unreadable(rt: &impl Abort, line: &Line) -> ! {
     let place = line.place();
@@ -53,9 +56,12 @@ fn put_piece(rt: &impl Abort, out: &mut Vec<u8>, line: &Line, field: &str) {
 /// The bytes of the fields that are left.
 pub fn bytes(rt: &impl Abort, alloc: Global, line: &mut Line) -> Vec<u8> {
     let mut out = Vec::new(alloc);
-    while !line.is_over() {
+    for _ in 0..MOST {
+        if line.is_over() {
+            return out;
+        }
         let field = line.field();
         put_piece(rt, &mut out, line, field);
     }
-    out
+    unreadable(rt, line)
 }
