@@ -1,9 +1,0 @@
-//! Tests of the machines whose inputs and effects are bytes, through their public calls.
-//!
-//! They stand in a crate of their own, so that the libraries aren't proved a second time with them.
-#![tactic(auto)]
-
-#[cfg(test)]
-mod machine;
-#[cfg(test)]
-mod pieces;
