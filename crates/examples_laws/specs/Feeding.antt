@@ -7,7 +7,8 @@ use Rattle.resolver_fetch_scan.specs.FetcherLaws.{AllAre}
 use Rattle.resolver_model.specs.Account.{pairs, nothing_asked, account_of}
 use Rattle.resolver_model.specs.Steps.{stops}
 use Rattle.resolver_model_peer.specs.Parties.{Parties, names_of}
-use Rattle.resolver_model_peer.specs.Peer.{Machine, Effect, Failed, opening, step}
+use Rattle.resolver_model.specs.declared.status.Status.TheVariants.{Failed}
+use Rattle.resolver_model_peer.specs.Peer.{Machine, Effect, opening, step}
 use Rattle.resolver_model_peer.specs.PeerAccount.{account}
 use Rattle.resolver_model_peer.specs.PeerAwake.{IsAwake}
 use Rattle.resolver_model_peer.specs.PeerLaws.{AcceptsSend, AreWellAsked, EndsOrRetries, NeverGoBack, PaySenders, taken}

@@ -4,7 +4,8 @@ ghost use Rattle.std.specs.Prelude.{◌≡◌, ◌≢◌, ◌<◌, ◌^◌, ◌+
 ghost use Rattle.std.specs.List.{list_any};
 ghost use Rattle.resolver_model.specs.Steps.{stops};
 ghost use Rattle.resolver_types.specs.Names.{names};
-ghost use Rattle.resolver_model_opaque.specs.Opaque.{Failed, opening};
+ghost use Rattle.resolver_model.specs.declared.status.Status.TheVariants.{Failed};
+ghost use Rattle.resolver_model_opaque.specs.Opaque.{opening};
 ghost use Rattle.resolver_model_opaque.specs.OpaqueInputs.{input_of};
 ghost use Rattle.resolver_model_opaque.specs.OpaqueLaws.{HasDemand};
 ghost use Rattle.resolver_model_opaque.specs.OpaqueSteps.{Runs, answer_of};

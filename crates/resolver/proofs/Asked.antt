@@ -9,7 +9,9 @@ use Rattle.resolver_fetch_scan.specs.Fetcher.{AsksNewId}
 use Rattle.resolver_fetch_scan.specs.FetcherLaws.{AllAre}
 use Rattle.resolver_fetch_scan.specs.Scan.{Turn, is_over, takes}
 use Rattle.resolver_model_peer.specs.Parties.{Parties, orders_of}
-use Rattle.resolver_model_peer.specs.Peer.{Machine, Done, Effect, Ask, Event, Input, Happens, Answers, Status, Running, Ended, Failed, and_then, answer_of, does, is_due, question, scanned, scanned_if, snapshot, step_in, step_of, step_running, turned, wake_up}
+use Rattle.resolver_model.specs.declared.status.Status.{Status}
+use Rattle.resolver_model.specs.declared.status.Status.TheVariants.{Running, Ended, Failed}
+use Rattle.resolver_model_peer.specs.Peer.{Machine, Done, Effect, Ask, Event, Input, Happens, Answers, and_then, answer_of, does, is_due, question, scanned, scanned_if, snapshot, step_in, step_of, step_running, turned, wake_up}
 use Rattle.resolver_model_peer.specs.PeerLaws.{HasNewId}
 use Rattle.resolver_model_peer.specs.PeerRun.{Fed}
 use Rattle.resolver_model_peer.specs.PeerSteps.{step_on}

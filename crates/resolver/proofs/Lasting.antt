@@ -18,7 +18,9 @@ use Rattle.resolver_model.specs.Verdicts.{ruling}
 use Rattle.resolver_model_peer.specs.declared.named.Serve.{Serve}
 use Rattle.resolver_model_peer.specs.Parties.{Parties, orders_of}
 use Rattle.resolver_model_peer.specs.PeerRows.{Row, Phase, Waits, Asked, Judged}
-use Rattle.resolver_model_peer.specs.Peer.{Done, Effect, Event, Fetch, Retain, PeerSet, Blocked, ActiveDue, PendingDue, Verdict, Served, Net, End, Input, Happens, Answers, Item, Machine, Open, Status, Ended, account_for, and_then, answer_of, answered, closed, does, fetch, fetch_one, happen, is_due, is_newer, misses, quiet, receive, responds, row_of, ruled, ruled_at, ruled_in, scanned, scanned_if, served_by, serves_rest, snapshot, step_of, step_running, times_out, verdict_on, wake_up, with_sent}
+use Rattle.resolver_model.specs.declared.status.Status.{Status}
+use Rattle.resolver_model.specs.declared.status.Status.TheVariants.{Ended}
+use Rattle.resolver_model_peer.specs.Peer.{Done, Effect, Event, Fetch, Retain, PeerSet, Blocked, ActiveDue, PendingDue, Verdict, Served, Net, End, Input, Happens, Answers, Item, Machine, Open, account_for, and_then, answer_of, answered, closed, does, fetch, fetch_one, happen, is_due, is_newer, misses, quiet, receive, responds, row_of, ruled, ruled_at, ruled_in, scanned, scanned_if, served_by, serves_rest, snapshot, step_of, step_running, times_out, verdict_on, wake_up, with_sent}
 use Rattle.resolver_model_peer.specs.PeerRun.{Fed}
 use Rattle.resolver_peer_step.specs.EngineSteps.{running}
 

@@ -3,6 +3,5 @@ mod Running
 mod Stepped
 mod Shown
 mod RunLaws
-mod Settled
 mod Asked
 mod Taking

@@ -9,7 +9,8 @@ use Rattle.resolver_messages.specs.declared.message.FetchKey.{FetchKey}
 use Rattle.resolver_model.specs.Lawful.{AnswersAlike, Each, IsLawful}
 use Rattle.resolver_model.specs.Steps.{stops}
 use Rattle.resolver_model_peer.specs.Parties.{Parties, names_of}
-use Rattle.resolver_model_peer.specs.Peer.{Machine, Effect, Failed, Happens, opening}
+use Rattle.resolver_model.specs.declared.status.Status.TheVariants.{Failed}
+use Rattle.resolver_model_peer.specs.Peer.{Machine, Effect, Happens, opening}
 use Rattle.resolver_model_peer.specs.PeerLaws.{AllLawful}
 use Rattle.resolver_model_peer.specs.PeerRun.{Fed, change_of}
 use Rattle.resolver_model_peer.specs.PeerRunLaws.{AsksNew}

@@ -3,13 +3,13 @@ use Rattle.std.proofs.Common.{◌≡◌, ◌≢◌, refl, ap, sym, ◌∙◌, su
 use Rattle.resolver_base.specs.declared.fault.Fault.{Fault}
 use Rattle.resolver_base.specs.declared.fault.Fault.TheVariants as faults
 use Rattle.resolver_model_peer.specs.Parties.{Parties}
-use Rattle.resolver_model_peer.specs.Peer.{Machine, Status, Running, Ended, Failed}
+use Rattle.resolver_model.specs.declared.status.Status.{Status}
+use Rattle.resolver_model.specs.declared.status.Status.TheVariants.{Running, Ended, Failed}
+use Rattle.resolver_model_peer.specs.Peer.{Machine}
 use Rattle.resolver_model_peer.specs.Peer as machines
 use Rattle.resolver_model_peer.specs.PeerRun.{Fed}
 use Rattle.resolver_model_peer.specs.PeerSteps.{step_on}
 use Rattle.resolver_model_peer.specs.declared.effects.Effect.{Effect as Told}
-use Rattle.resolver.specs.declared.p2p.stepping.Status.{Status as CodeStatus}
-use Rattle.resolver.specs.declared.p2p.stepping.Status.TheVariants as statuses
 use Rattle.resolver_model_peer.specs.declared.inputs.Event.{Event as CodeEvent}
 use Rattle.resolver_model_peer.specs.declared.inputs.Event.TheVariants as events
 use Rattle.resolver_model_peer.specs.declared.inputs.Input.{Input as CodeInput}
@@ -18,7 +18,7 @@ use Rattle.resolver_peer_step.specs.declared.parts.Parts.{Parts}
 use Rattle.resolver.specs.Ending.{is_end, is_end_event}
 use Rattle.resolver_peer_step.specs.Going.{IsTied}
 use Rattle.resolver_peer_step.specs.EngineSteps.{Stepped, Taken, Takes, running, written_of}
-use Rattle.resolver.specs.Matching.{Engine, IsOf, IsTiedUnlessFailed, Matches, UnlessFailed, held_by, is_final, status_of}
+use Rattle.resolver.specs.Matching.{Engine, IsOf, IsTiedUnlessFailed, Matches, UnlessFailed, held_by, is_final}
 use Rattle.resolver_peer_step.specs.Said.{Codec, event_of, fed_of, written}
 use Rattle.resolver_peer_step.specs.Tied.{Agrees}
 use Rattle.resolver.proofs.Lasting.{behind, behind_input, status-behind}
@@ -149,29 +149,29 @@ module _ {K S P : Type 0} (a : Parties K S P) where
           )
 
   -- a core that runs has parts that agree
-  pub was-running : (e : Parts K P S) (code : CodeStatus) (now : Engine K S P) (m : Machine K S P) → core e (status_of code) ≡ now → code ≡ statuses.Running → Matches a now m
+  pub was-running : (e : Parts K P S) (code : Status) (now : Engine K S P) (m : Machine K S P) → core e code ≡ now → code ≡ Running → Matches a now m
       → Agrees a e m × (m.status ≡ Running)
   was-running e code now m view is matched =
-      let runs = subst (λ code. Matches a (core e (status_of code)) m) is (subst (λ now. Matches a now m) (sym view) matched) in
+      let runs = subst (λ code. Matches a (core e code) m) is (subst (λ now. Matches a now m) (sym view) matched) in
       (agrees-of e m runs.held, sym runs.status)
 
-  pub was-tied : (e : Parts K P S) (code : CodeStatus) → code ≡ statuses.Running → IsTiedUnlessFailed a (status_of code) e → IsTied a e
-  was-tied e code is tied = subst (λ code. IsTiedUnlessFailed a (status_of code) e) is tied
+  pub was-tied : (e : Parts K P S) (code : Status) → code ≡ Running → IsTiedUnlessFailed a code e → IsTied a e
+  was-tied e code is tied = subst (λ code. IsTiedUnlessFailed a code e) is tied
 
   -- the same of a core that has ended
-  pub was-ended : (e : Parts K P S) (code : CodeStatus) (now : Engine K S P) (m : Machine K S P) → core e (status_of code) ≡ now → code ≡ statuses.Ended → Matches a now m → Agrees a e m
+  pub was-ended : (e : Parts K P S) (code : Status) (now : Engine K S P) (m : Machine K S P) → core e code ≡ now → code ≡ Ended → Matches a now m → Agrees a e m
   was-ended e code now m view is matched =
-      let ends = subst (λ code. Matches a (core e (status_of code)) m) is (subst (λ now. Matches a now m) (sym view) matched) in
+      let ends = subst (λ code. Matches a (core e code) m) is (subst (λ now. Matches a now m) (sym view) matched) in
       agrees-of e m ends.held
 
-  pub still-tied : (e : Parts K P S) (code : CodeStatus) → code ≡ statuses.Running → IsTied a e → IsTiedUnlessFailed a (status_of code) e
-  still-tied e code is tied = subst (λ code. IsTiedUnlessFailed a (status_of code) e) (sym is) tied
+  pub still-tied : (e : Parts K P S) (code : Status) → code ≡ Running → IsTied a e → IsTiedUnlessFailed a code e
+  still-tied e code is tied = subst (λ code. IsTiedUnlessFailed a code e) (sym is) tied
 
   -- a core that hasn't failed has parts that agree
-  pub was-well : (e : Parts K P S) (code : CodeStatus) (now : Engine K S P) (m : Machine K S P) → core e (status_of code) ≡ now → Matches a now m → m.status ≢ Failed → Agrees a e m
+  pub was-well : (e : Parts K P S) (code : Status) (now : Engine K S P) (m : Machine K S P) → core e code ≡ now → Matches a now m → m.status ≢ Failed → Agrees a e m
   was-well e code now m view matched well = at code (subst (λ now. Matches a now m) (sym view) matched)
     where
-      at : (code : CodeStatus) → Matches a (core e (status_of code)) m → Agrees a e m
-      at statuses.Running is = agrees-of e m is.held
-      at statuses.Ended is = agrees-of e m is.held
-      at statuses.Failed is = absurd (well (sym is.status))
+      at : (code : Status) → Matches a (core e code) m → Agrees a e m
+      at Running is = agrees-of e m is.held
+      at Ended is = agrees-of e m is.held
+      at Failed is = absurd (well (sym is.status))

@@ -15,7 +15,9 @@ use Rattle.resolver_model.specs.Lawful.{AnswersAlike}
 use Rattle.resolver_model.specs.Steps.{stops}
 use Rattle.resolver_model.proofs.Runs.{goes-on as none-stops, runs-join}
 use Rattle.resolver_model_peer.specs.Parties.{Parties, names_of}
-use Rattle.resolver_model_peer.specs.Peer.{Machine, Effect, Event, Fetch, Retain, PeerSet, Blocked, ActiveDue, PendingDue, Verdict, Served, Net, End, Input, Happens, Answers, Status, Running, Ended, Failed, opening, step, step_in}
+use Rattle.resolver_model.specs.declared.status.Status.{Status}
+use Rattle.resolver_model.specs.declared.status.Status.TheVariants.{Running, Ended, Failed}
+use Rattle.resolver_model_peer.specs.Peer.{Machine, Effect, Event, Fetch, Retain, PeerSet, Blocked, ActiveDue, PendingDue, Verdict, Served, Net, End, Input, Happens, Answers, opening, step, step_in}
 use Rattle.resolver_model_peer.specs.PeerLaws.{AcceptsSend, EndsOrRetries, HasNewId}
 use Rattle.resolver_model_peer.specs.PeerRun.{Fed, after, effects_of}
 use Rattle.resolver_model_peer.specs.PeerSteps as machines

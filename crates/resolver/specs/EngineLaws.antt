@@ -5,7 +5,8 @@ use Rattle.resolver_fetch_scan.specs.declared.config.Config.{Config}
 use Rattle.resolver_fetch_scan.specs.FetcherLaws.{AllAre}
 use Rattle.resolver_model.specs.Steps as steps
 use Rattle.resolver_model_peer.specs.Parties.{Parties}
-use Rattle.resolver_model_peer.specs.Peer.{Machine, Effect, Failed, opening, step}
+use Rattle.resolver_model.specs.declared.status.Status.TheVariants.{Failed}
+use Rattle.resolver_model_peer.specs.Peer.{Machine, Effect, opening, step}
 use Rattle.resolver_model_peer.specs.PeerRun.{Fed, after, effects_of}
 use Rattle.resolver_model_peer.specs.PeerSteps as machines
 use Rattle.resolver_model_peer.specs.PeerSteps.{MayWant, step_on}

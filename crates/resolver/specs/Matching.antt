@@ -7,17 +7,12 @@ use Rattle.resolver_fetch_scan.specs.Fetcher.{Fetcher}
 use Rattle.resolver_model_peer.specs.declared.named.Serve.{Serve}
 use Rattle.resolver_model_peer.specs.declared.named.Source.{Source}
 use Rattle.resolver_model_peer.specs.Parties.{Parties}
-use Rattle.resolver_model_peer.specs.Peer.{Machine, Status, Running, Ended, Failed}
-use Rattle.resolver.specs.declared.p2p.stepping.Status.{Status as CodeStatus}
-use Rattle.resolver.specs.declared.p2p.stepping.Status.TheVariants as statuses
+use Rattle.resolver_model.specs.declared.status.Status.{Status}
+use Rattle.resolver_model.specs.declared.status.Status.TheVariants.{Failed}
+use Rattle.resolver_model_peer.specs.Peer.{Machine}
 use Rattle.resolver_peer_step.specs.declared.parts.Parts.{Parts}
 use Rattle.resolver_peer_step.specs.Going.{IsTied}
 use Rattle.resolver_peer_step.specs.Tied.{IsSound, demand_of, fetcher_of, held_of, holds_of, open_of}
-
-abbrev pub status_of : CodeStatus → Status
-status_of statuses.Running = Running
-status_of statuses.Ended = Ended
-status_of statuses.Failed = Failed
 
 -- what the parts hold, as contracts see it
 pub record Held (K S P : Type 0) : Type 0 where

@@ -3,7 +3,8 @@
 ghost use Rattle.std.specs.Prelude.{◌≡◌, ◌≢◌, ℕ, IfOk, map};
 ghost use Rattle.resolver.specs.Listed.{listed};
 ghost use Rattle.resolver.specs.Matching.{Matches};
-ghost use Rattle.resolver_model_peer.specs.Peer.{Failed, Machine, active_deadline, wake_up};
+ghost use Rattle.resolver_model.specs.declared.status.Status.TheVariants.{Failed};
+ghost use Rattle.resolver_model_peer.specs.Peer.{Machine, active_deadline, wake_up};
 ghost use Rattle.resolver_flat.specs.declared.name.Name.{Name};
 ghost use Rattle.resolver_flat_machine.specs.Effects.{all_rows, all_spelled};
 ghost use Rattle.resolver_flat_machine.specs.Inputs.{by_names};

@@ -95,18 +95,6 @@ module _ {K S : Type 0} (n : Names K S) (laws : IsEquivalence (same_key n)) wher
     pub Distinct-set : (test : K → Bool) (es : List (K × X)) (w : X) → IsDistinct (same_key n) (keys_of es) → IsDistinct (same_key n) (keys_of (set_value test es w))
     Distinct-set test es w distinct = subst (IsDistinct (same_key n)) (sym (keys-set_value test es w)) distinct
 
-    -- to set what is there changes nothing
-    pub set_value-same : (test : K → Bool) (es : List (K × X)) (v : X) → lookup test es ≡ Some v → set_value test es v ≡ es
-    set_value-same test [] v found = refl
-    set_value-same test (e ∷ es) v found = at (test e.0) found (set_value-same test es v)
-      where
-        at : (b : Bool) → cond b (Some e.1) (lookup test es) ≡ Some v → (lookup test es ≡ Some v → set_value test es v ≡ es) → cond b ((e.0, v) ∷ es) (e ∷ set_value test es v) ≡ e ∷ es
-        at true found rest = ap (λ x. (e.0, x) ∷ es) (sym here)
-          where
-            here : e.1 ≡ v
-            here = cc
-        at false found rest = ap (λ es. e ∷ es) (rest found)
-
     -- each row is found by its key
     pub each_found : (es : List (K × X)) → IsDistinct (same_key n) (keys_of es) → Each (λ e. lookup (same_key n e.0) es ≡ Some e.1) es
     each_found [] distinct = tt

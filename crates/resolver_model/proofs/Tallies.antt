@@ -28,7 +28,8 @@ use Rattle.resolver_model.specs.Standing.{Standing, Held, Judgment, asks, asks_o
 use Rattle.resolver_model.proofs.Mapped.{seen, set_value-seen, insert_entry-seen, remove_entry-seen}
 use Rattle.resolver_model.specs.Lawful.{Each}
 use Rattle.resolver_model.proofs.Deliveries.{Each-imply, Each-both, Each-push, Each-map, Each-remove_entry, Climbs, Climbs-remove_entry, Climbs-push, Climbs-below, Climbs-others, Climbs-watch, Climbs-insert, Separate, Separate-remove_entry, Separate-push, Separate-others, Separate-watch, Each-lookup, Each-found}
-use Rattle.resolver_model.proofs.Rows.{lookup-set, lookup-removed, lookup-same, lookup-inserted, Distinct-inserted, Distinct-removed, Distinct-set, set_value-same}
+use Rattle.std.proofs.lemmas.Map.Steps.{set_value_same}
+use Rattle.resolver_model.proofs.Rows.{lookup-set, lookup-removed, lookup-same, lookup-inserted, Distinct-inserted, Distinct-removed, Distinct-set}
 
 abbrev pub judging_in : {S : Type 0} → Option (Held S) → Option Judgment
 judging_in None = None
@@ -294,7 +295,7 @@ module _ {K S : Type 0} (n : Names K S) where
         → Tallies (record { rows = (drops n t key held.subscribers).rows; deliveries = seen (λ w. w.handed) left; next_number = t.next_number }) (record { demand = d; deliveries = map (watch (table n) d) left; completed = completed' })
     dropped t key held left completed completed' response found distinct climbs separate old rest d asked =
         made (drops n t key held.subscribers).rows t.next_number d left completed'
-        (sym (set_value-seen (λ h. h.subscribers) (same_key n key) t.rows new) ∙ (set_value-same n laws (same_key n key) (seen (λ h. h.subscribers) t.rows) held.subscribers there ∙ asked))
+        (sym (set_value-seen (λ h. h.subscribers) (same_key n key) t.rows new) ∙ (set_value_same (same_key n key) (seen (λ h. h.subscribers) t.rows) held.subscribers there ∙ asked))
         (Distinct-set n laws (same_key n key) t.rows new distinct)
         climbs separate
         (Each-imply (Rest t.rows completed completed' key response t.next_number) (λ e. e.1.handed.response < t.next_number) (λ e r. r.below) left rest)
@@ -375,7 +376,7 @@ module _ {K S : Type 0} (n : Names K S) where
         (handed_on t key held held.subscribers a.deliveries a.completed a.completed t.next_number false found tallies.distinct tallies.climbs tallies.separate
         (Each-imply (λ r. r < t.next_number) (λ r. r < t.next_number + 1) (λ r less. omega (arith, less)) a.completed tallies.completed)
         rest (omega arith) (never_completed a.completed t.next_number tallies.completed) a.demand
-        (set_value-same n laws (same_key n key) (seen (λ h. h.subscribers) t.rows) held.subscribers (lookup-map_values (λ h. h.subscribers) (same_key n key) t.rows ∙ ap (option_map (λ h. h.subscribers)) found) ∙ tallies.demand))
+        (set_value_same (same_key n key) (seen (λ h. h.subscribers) t.rows) held.subscribers (lookup-map_values (λ h. h.subscribers) (same_key n key) t.rows ∙ ap (option_map (λ h. h.subscribers)) found) ∙ tallies.demand))
       where
         not_judged : (j : Judgment) (number : ℕ) → judging_of t.rows key ≡ Some j → j.number ≢ number
         not_judged j number is = absurd (none (sym (ap judging_in found ∙ idle) ∙ is))

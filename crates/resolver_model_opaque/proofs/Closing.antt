@@ -33,7 +33,8 @@ use Rattle.resolver_model_opaque.specs.declared.effects.Effect.{Effect}
 use Rattle.resolver_model_opaque.specs.declared.effects.Effect.TheVariants.{Deliver}
 use Rattle.resolver_model.specs.Account.{Handed}
 use Rattle.resolver_model.specs.Verdicts.{ruling}
-use Rattle.resolver_model_opaque.specs.Opaque.{Machine, Row, Done, Status, quiet, hand_out, row_of, without_row, served, ruled, verdict, verdict_on, verdict_at, verdict_in}
+use Rattle.resolver_model.specs.declared.status.Status.{Status}
+use Rattle.resolver_model_opaque.specs.Opaque.{Machine, Row, Done, quiet, hand_out, row_of, without_row, served, ruled, verdict, verdict_on, verdict_at, verdict_in}
 use Rattle.resolver_model_opaque.specs.OpaquePhases.{Judged, Judging}
 use Rattle.resolver_model_opaque.specs.OpaqueStages.{Kept, resting}
 use Rattle.resolver_model_opaque.specs.OpaqueByPhase.{phase_in, phase_of}

@@ -25,7 +25,9 @@ use Rattle.resolver_model_opaque.specs.OpaqueLaws.{change_of, handed_out}
 use Rattle.std.proofs.Common.{Result, Ok, Err}
 use Rattle.resolver_base.specs.declared.fault.Fault.{Fault}
 use Rattle.resolver_base.specs.declared.fault.Fault.TheVariants as faults
-use Rattle.resolver_model_opaque.specs.Opaque.{Status, Running, Ended, Failed, step_in, step_done}
+use Rattle.resolver_model.specs.declared.status.Status.{Status}
+use Rattle.resolver_model.specs.declared.status.Status.TheVariants.{Running, Ended, Failed}
+use Rattle.resolver_model_opaque.specs.Opaque.{step_in, step_done}
 use Rattle.resolver_model_opaque.specs.OpaqueSteps.{Input, Runs}
 use Rattle.resolver_model_opaque.specs.OpaqueLaws.{taken, demanded}
 use Rattle.resolver_model.specs.Account.{nothing_asked}
@@ -35,7 +37,8 @@ use Rattle.resolver_model.proofs.Tallies.{opening-tallies}
 use Rattle.resolver_model.proofs.Mapped.{seen, set_value-seen, insert_entry-seen, remove_entry-seen}
 use Rattle.resolver_model.specs.Lawful.{Each}
 use Rattle.resolver_model.proofs.Deliveries.{Each-find, Each-lookup}
-use Rattle.resolver_model.proofs.Rows.{set_value-same, each_found}
+use Rattle.std.proofs.lemmas.Map.Steps.{set_value_same}
+use Rattle.resolver_model.proofs.Rows.{each_found}
 use Rattle.resolver_model.proofs.Tallies.{Tallies, Fits, judging_in, judging_of, stays, asks-tallies, keeps-tallies, ends-tallies, hands-tallies, closes-tallies, rules-tallies, judged_at, was_completed, remove_entry-absent}
 
 module _ {K V S : Type 0} where
@@ -171,7 +174,7 @@ module _ {K V S : Type 0} (n : Names K S) where
   idle_row m key subscribers phase laws idle found =
       sym (set_value-seen held_of (same_key n key) m.rows (record { subscribers = subscribers; phase = phase }))
       ∙ (ap (λ j. set_value (same_key n key) (seen held_of m.rows) (record { subscribers = subscribers; judging = j })) idle
-      ∙ set_value-same n laws (same_key n key) (seen held_of m.rows) (record { subscribers = subscribers; judging = None }) found)
+      ∙ set_value_same (same_key n key) (seen held_of m.rows) (record { subscribers = subscribers; judging = None }) found)
 
   asked_idle : (attempt : ℕ) (p : Phase V) → is_asked_by attempt p ≡ true → judgment_of p ≡ None
   asked_idle attempt (Waiting due) is = refl

@@ -19,7 +19,9 @@ use Rattle.resolver_model_opaque.specs.declared.phase.Stage.{Stage}
 use Rattle.resolver_model_opaque.specs.declared.phase.Stage.TheVariants as stages
 use Rattle.resolver_model_opaque.specs.declared.effects.Effect.{Effect}
 use Rattle.resolver_model_opaque.specs.declared.effects.Effect.TheVariants.{Start, Deliver}
-use Rattle.resolver_model_opaque.specs.Opaque.{Machine, Row, Done, Status, Item, quiet, retry, hand_out, fetch_one, row_of, start_new, start_again, retain, end, Ended, all_called_off, called_off}
+use Rattle.resolver_model.specs.declared.status.Status.{Status}
+use Rattle.resolver_model.specs.declared.status.Status.TheVariants.{Ended}
+use Rattle.resolver_model_opaque.specs.Opaque.{Machine, Row, Done, Item, quiet, retry, hand_out, fetch_one, row_of, start_new, start_again, retain, end, all_called_off, called_off}
 use Rattle.resolver_model_opaque.specs.OpaquePhases.{Phase, Asked, Waiting, Judged, is_asked_by}
 use Rattle.resolver_model_opaque.specs.OpaqueStages.{Kept, IsAsked, Staged, resting}
 use Rattle.resolver_model_opaque.specs.OpaqueByPhase.{staged, phase_in, phase_of, asked_key}

@@ -15,17 +15,14 @@ use Rattle.resolver_model_opaque.specs.declared.effects.Effect.TheVariants.{Star
 use Rattle.resolver_types.specs.Names.{Names, same_key}
 use Rattle.resolver_types.specs.Subscribers.{attached_all, without}
 use Rattle.resolver_model.specs.Account.{Handed}
+use Rattle.resolver_model.specs.declared.status.Status.{Status}
+use Rattle.resolver_model.specs.declared.status.Status.TheVariants.{Running, Ended, Failed}
 use Rattle.resolver_model_opaque.specs.OpaquePhases.{Judging, Phase, Waiting, Asked, Judged, is_asked_by, least_due}
 
 pub record Row (V S : Type 0) : Type 0 where
   -- in their order, with their marks
   pub subscribers : List (S × ℕ)
   pub phase : Phase V
-
-pub data Status : Type 0 where
-  Running : Status
-  Ended : Status
-  Failed : Status
 
 pub record Machine (K V S : Type 0) : Type 0 where
   -- in the order of the keys

@@ -10,7 +10,8 @@ use Rattle.resolver_types.specs.Demand.{all_pairs_of, IsSameDemand}
 use Rattle.resolver_model_opaque.specs.declared.effects.Effect.{Effect}
 use Rattle.resolver_model_opaque.specs.declared.effects.Effect.TheVariants.{Deliver}
 use Rattle.resolver_model.specs.Account.{Change, Adds, Keeps, Judges, Empties, Leaves, Handed, pairs, nothing_asked, account_of}
-use Rattle.resolver_model_opaque.specs.Opaque.{Machine, Row, Event, Fetch, Retain, Fetched, Verdict, RetriesDue, End, Running, Failed, opening, row_of, closed, step}
+use Rattle.resolver_model.specs.declared.status.Status.TheVariants.{Running, Failed}
+use Rattle.resolver_model_opaque.specs.Opaque.{Machine, Row, Event, Fetch, Retain, Fetched, Verdict, RetriesDue, End, opening, row_of, closed, step}
 use Rattle.resolver_model_opaque.specs.OpaquePhases.{Phase, Judged}
 use Rattle.resolver_model_opaque.specs.declared.inputs.Input.{Input as CodeInput}
 use Rattle.resolver_model_opaque.specs.OpaqueSteps.{Input, Runs}

@@ -11,7 +11,8 @@ use Rattle.std.specs.Prelude.{Bool, false, is_none, length, ◌==◌}
 use Rattle.std.specs.Map.{lookup}
 use Rattle.std.specs.BTreeMap.{is_at}
 use Rattle.std.specs.Ordering.{nat_cmp}
-use Rattle.resolver_model_opaque.specs.Opaque.{Fetch, Retain, Fetched, Verdict, RetriesDue, End, waiting_by_due, Machine, Event, Done, Running, Failed, step}
+use Rattle.resolver_model.specs.declared.status.Status.TheVariants.{Running, Failed}
+use Rattle.resolver_model_opaque.specs.Opaque.{Fetch, Retain, Fetched, Verdict, RetriesDue, End, waiting_by_due, Machine, Event, Done, step}
 
 -- an event, and its moment
 pub record Input (K V S : Type 0) : Type 0 where

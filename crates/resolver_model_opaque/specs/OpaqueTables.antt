@@ -9,7 +9,8 @@ use Rattle.resolver_delivery.specs.declared.entry.Response.{Response}
 use Rattle.resolver_delivery.specs.Entries.{Numbered}
 use Rattle.resolver_model_opaque.specs.declared.phase.Stage.{Stage}
 use Rattle.resolver_model.specs.Account.{Handed}
-use Rattle.resolver_model_opaque.specs.Opaque.{Machine, Row, Status}
+use Rattle.resolver_model.specs.declared.status.Status.{Status}
+use Rattle.resolver_model_opaque.specs.Opaque.{Machine, Row}
 use Rattle.resolver_model_opaque.specs.OpaqueStages.{Kept}
 use Rattle.resolver_model_opaque.specs.OpaqueByPhase.{phase_of}
 

@@ -23,7 +23,9 @@ use Rattle.resolver_model.specs.Verdicts.{ruling}
 use Rattle.resolver_model_peer.specs.Parties.{Parties, names_of, orders_of}
 use Rattle.resolver_model_peer.specs.PeerRows.{Row, Phase, Waits, Asked, Judged, Judging, change_entry}
 use Rattle.resolver_model_peer.specs.declared.named.Serve.{Serve}
-use Rattle.resolver_model_peer.specs.Peer.{Machine, Open, Done, Item, Status, Running, Ended, Failed, Input, Happens, Answers, Event, Fetch, Retain, PeerSet, Blocked, ActiveDue, PendingDue, Verdict, Served, Net, End, quiet, and_then, snapshot, closed, served_by, row_of, is_key, fetch, fetch_one, fails, times_out, hand_out, account_for, serves_rest, ruled, ruled_in, ruled_at, verdict_on, freed, responds, misses, answered, receive, does, retry, has_subscribers, pruned, is_newer, with_sent, is_due, wake_up, scanned_if, scanned, step_of, answer_of, step_running, step_in, step, opening}
+use Rattle.resolver_model.specs.declared.status.Status.{Status}
+use Rattle.resolver_model.specs.declared.status.Status.TheVariants.{Running, Ended, Failed}
+use Rattle.resolver_model_peer.specs.Peer.{Machine, Open, Done, Item, Input, Happens, Answers, Event, Fetch, Retain, PeerSet, Blocked, ActiveDue, PendingDue, Verdict, Served, Net, End, quiet, and_then, snapshot, closed, served_by, row_of, is_key, fetch, fetch_one, fails, times_out, hand_out, account_for, serves_rest, ruled, ruled_in, ruled_at, verdict_on, freed, responds, misses, answered, receive, does, retry, has_subscribers, pruned, is_newer, with_sent, is_due, wake_up, scanned_if, scanned, step_of, answer_of, step_running, step_in, step, opening}
 use Rattle.resolver_model_peer.specs.PeerRun.{Fed, after}
 use Rattle.resolver_model.proofs.Rows.{Distinct-inserted, Distinct-removed}
 

@@ -28,7 +28,9 @@ use Rattle.resolver_fetch_scan.proofs.Trails.{IsFine, IsFineAfter, IsFineTurn, I
 use Rattle.resolver_model_peer.specs.Parties.{Parties, orders_of}
 use Rattle.resolver_model_peer.specs.PeerRows.{Row, Phase, Waits, Asked, Judged}
 use Rattle.resolver_model_peer.specs.declared.named.Serve.{Serve}
-use Rattle.resolver_model_peer.specs.Peer.{Machine, Open, Done, Effect, Ask, Deliver, Cancel, Produce, Reply, Credit, Block, Status, Running, Ended, Failed, Item, Event, Fetch, Retain, PeerSet, Blocked, ActiveDue, PendingDue, Verdict, Served, Net, End, Input, Happens, Answers, quiet, and_then, snapshot, turned, with_sent, cancel_in, cancels, closed, served_by, row_of, fetch, fetch_one, times_out, account_for, serves_rest, ruled, ruled_in, ruled_at, verdict_on, responds, misses, answered, receive, does, is_due, wake_up, scanned_if, scanned, step_of, answer_of, step_running, step_in, step, opening, has_subscribers, pruned, is_newer}
+use Rattle.resolver_model.specs.declared.status.Status.{Status}
+use Rattle.resolver_model.specs.declared.status.Status.TheVariants.{Running, Ended, Failed}
+use Rattle.resolver_model_peer.specs.Peer.{Machine, Open, Done, Effect, Ask, Deliver, Cancel, Produce, Reply, Credit, Block, Item, Event, Fetch, Retain, PeerSet, Blocked, ActiveDue, PendingDue, Verdict, Served, Net, End, Input, Happens, Answers, quiet, and_then, snapshot, turned, with_sent, cancel_in, cancels, closed, served_by, row_of, fetch, fetch_one, times_out, account_for, serves_rest, ruled, ruled_in, ruled_at, verdict_on, responds, misses, answered, receive, does, is_due, wake_up, scanned_if, scanned, step_of, answer_of, step_running, step_in, step, opening, has_subscribers, pruned, is_newer}
 use Rattle.std.specs.List.{cons_option}
 use Rattle.resolver_model_peer.specs.PeerRun.{Fed, effects_of, after}
 use Rattle.resolver_model_peer.specs.PeerLaws.{IsWellAsked, AsksEligible}

@@ -4,7 +4,8 @@ use Rattle.resolver_base.specs.declared.fault.Fault.{Fault}
 use Rattle.resolver_base.specs.declared.fault.Fault.TheVariants as faults
 use Rattle.resolver_fetch_scan.specs.FetcherLaws.{AllAre}
 use Rattle.resolver_model_peer.specs.Parties.{Parties}
-use Rattle.resolver_model_peer.specs.Peer.{Machine, Effect, Failed, step}
+use Rattle.resolver_model.specs.declared.status.Status.TheVariants.{Failed}
+use Rattle.resolver_model_peer.specs.Peer.{Machine, Effect, step}
 use Rattle.resolver_model_peer.specs.PeerRun.{Fed, effects_of}
 use Rattle.resolver_model_peer.specs.PeerSteps.{Runs}
 use Rattle.resolver_model_peer.specs.PeerLaws.{IsWellAsked, AreWellAsked, IsWellAskedThroughout}

@@ -25,7 +25,9 @@ use Rattle.resolver_model.specs.declared.ruling.Ruling.{Ruling}
 use Rattle.resolver_model.specs.declared.ruling.Ruling.TheVariants as rulings
 use Rattle.resolver_model.specs.Verdicts.{ruling}
 use Rattle.resolver_model_peer.specs.declared.named.Serve.{Serve}
-use Rattle.resolver_model_peer.specs.Peer.{Machine, Open, Done, Effect, Ask, Deliver, Produce, Credit, Block, Status, Running, Ended, Failed, Item, Event, Fetch, Retain, PeerSet, Blocked, ActiveDue, PendingDue, Verdict, Served, Net, End, Input, Happens, Answers, quiet, and_then, snapshot, cancel_in, cancels, closed, served_by, row_of, fetch, fetch_one, times_out, account_for, serves_rest, ruled, ruled_in, ruled_at, verdict_on, responds, misses, answered, receive, does, with_sent, turned, question, asking, is_due, wake_up, scanned_if, scanned, step_of, answer_of, step_running, step_in, step, opening}
+use Rattle.resolver_model.specs.declared.status.Status.{Status}
+use Rattle.resolver_model.specs.declared.status.Status.TheVariants.{Running, Ended, Failed}
+use Rattle.resolver_model_peer.specs.Peer.{Machine, Open, Done, Effect, Ask, Deliver, Produce, Credit, Block, Item, Event, Fetch, Retain, PeerSet, Blocked, ActiveDue, PendingDue, Verdict, Served, Net, End, Input, Happens, Answers, quiet, and_then, snapshot, cancel_in, cancels, closed, served_by, row_of, fetch, fetch_one, times_out, account_for, serves_rest, ruled, ruled_in, ruled_at, verdict_on, responds, misses, answered, receive, does, with_sent, turned, question, asking, is_due, wake_up, scanned_if, scanned, step_of, answer_of, step_running, step_in, step, opening}
 use Rattle.resolver_types.specs.Subscribers.{without}
 use Rattle.resolver_sampling.specs.Times.{elapsed_since}
 use Rattle.resolver_fetch_requests.specs.Requests.{overdue}

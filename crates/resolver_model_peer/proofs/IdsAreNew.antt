@@ -22,7 +22,9 @@ use Rattle.resolver_fetch_scan.specs.Scan.{Scan, Turn, answered, asks_for, begin
 use Rattle.resolver_fetch_scan.specs.FetcherLaws.{AllAre}
 use Rattle.resolver_model_peer.specs.Parties.{Parties, orders_of}
 use Rattle.resolver_model_peer.specs.PeerRows.{Row, Phase, request_in, request_of}
-use Rattle.resolver_model_peer.specs.Peer.{Machine, Done, Effect, Ask, Deliver, Cancel, Produce, Reply, Credit, Block, Status, Running, Ended, Failed, Input, Happens, Answers, and_then, snapshot, turned, with_sent, does, is_due, wake_up, scanned_if, scanned, step_of, answer_of, step_running, step_in, step, opening}
+use Rattle.resolver_model.specs.declared.status.Status.{Status}
+use Rattle.resolver_model.specs.declared.status.Status.TheVariants.{Running, Ended, Failed}
+use Rattle.resolver_model_peer.specs.Peer.{Machine, Done, Effect, Ask, Deliver, Cancel, Produce, Reply, Credit, Block, Input, Happens, Answers, and_then, snapshot, turned, with_sent, does, is_due, wake_up, scanned_if, scanned, step_of, answer_of, step_running, step_in, step, opening}
 use Rattle.resolver_model_peer.specs.PeerRun.{Fed, effects_of, after}
 use Rattle.resolver_model_peer.specs.PeerLaws.{HasNewId, IdsAreNew}
 use Rattle.resolver_model_peer.proofs.AsksEligible.{IsNoQuestion, IsCalmIfDone, does-calm}

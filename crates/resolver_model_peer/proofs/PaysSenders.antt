@@ -27,7 +27,9 @@ use Rattle.resolver_model.specs.Verdicts.{ruling}
 use Rattle.resolver_model_peer.specs.Parties.{Parties, orders_of}
 use Rattle.resolver_model_peer.specs.PeerRows.{Row, Phase, Waits, Asked, Judged, Judging}
 use Rattle.resolver_model_peer.specs.declared.named.Serve.{Serve}
-use Rattle.resolver_model_peer.specs.Peer.{Machine, Open, Done, Effect, Ask, Deliver, Cancel, Produce, Reply, Credit, Block, Item, Event, Fetch, Retain, PeerSet, Blocked, ActiveDue, PendingDue, Verdict, Served, Net, End, Input, Happens, Answers, Status, Running, Ended, Failed, quiet, and_then, snapshot, cancel_in, cancels, pruned, has_subscribers, closed, end, served_by, row_of, fetch_one, fetch, peer_set, is_newer, times_out, hand_out, account_for, serves_rest, ruled, ruled_in, ruled_at, verdict_on, verdict, freed, responds, misses, answered, receive, does, with_sent, turned, question, scanned_if, scanned, is_due, wake_up, step_of, answer_of, step_running, step_in, step, retry, without_row}
+use Rattle.resolver_model.specs.declared.status.Status.{Status}
+use Rattle.resolver_model.specs.declared.status.Status.TheVariants.{Running, Ended, Failed}
+use Rattle.resolver_model_peer.specs.Peer.{Machine, Open, Done, Effect, Ask, Deliver, Cancel, Produce, Reply, Credit, Block, Item, Event, Fetch, Retain, PeerSet, Blocked, ActiveDue, PendingDue, Verdict, Served, Net, End, Input, Happens, Answers, quiet, and_then, snapshot, cancel_in, cancels, pruned, has_subscribers, closed, end, served_by, row_of, fetch_one, fetch, peer_set, is_newer, times_out, hand_out, account_for, serves_rest, ruled, ruled_in, ruled_at, verdict_on, verdict, freed, responds, misses, answered, receive, does, with_sent, turned, question, scanned_if, scanned, is_due, wake_up, step_of, answer_of, step_running, step_in, step, retry, without_row}
 use Rattle.resolver_model_peer.specs.PeerRun.{Fed}
 use Rattle.resolver_model_peer.specs.PeerSteps.{Runs}
 use Rattle.resolver_model_peer.specs.PeerLaws.{brought, senders_in, IsFrom, PaysSender, PaySenders, IsPaidToSenders}

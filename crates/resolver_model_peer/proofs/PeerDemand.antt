@@ -44,7 +44,9 @@ use Rattle.resolver_model_peer.specs.Parties.{Parties, names_of, orders_of}
 use Rattle.resolver_model_peer.specs.declared.named.Source.{Source}
 use Rattle.resolver_model_peer.specs.PeerRows.{Row, Phase, Waits, Asked, Judged, Judging, change_entry, waiting_in, waiting_of, request_in, request_of}
 use Rattle.resolver_model_peer.specs.declared.named.Serve.{Serve}
-use Rattle.resolver_model_peer.specs.Peer.{Machine, Open, Done, Effect, Ask, Deliver, Item, Event, Fetch, Retain, PeerSet, Blocked, ActiveDue, PendingDue, Verdict, Served, Net, End, Input, Happens, Answers, Status, Running, Ended, Failed, quiet, and_then, snapshot, cancel_in, cancels, pruned, has_subscribers, retain, closed, end, served_by, is_key, row_of, retry, fetch_one, fetch, is_newer, times_out, hand_out, account_for, serves_rest, ruled, ruled_in, ruled_at, verdict_on, verdict, freed, responds, misses, answered, receive, does, with_sent, turned, question, scanned_if, scanned, is_due, wake_up, step_of, happen, answer_of, step_running, step_in, opening}
+use Rattle.resolver_model.specs.declared.status.Status.{Status}
+use Rattle.resolver_model.specs.declared.status.Status.TheVariants.{Running, Ended, Failed}
+use Rattle.resolver_model_peer.specs.Peer.{Machine, Open, Done, Effect, Ask, Deliver, Item, Event, Fetch, Retain, PeerSet, Blocked, ActiveDue, PendingDue, Verdict, Served, Net, End, Input, Happens, Answers, quiet, and_then, snapshot, cancel_in, cancels, pruned, has_subscribers, retain, closed, end, served_by, is_key, row_of, retry, fetch_one, fetch, is_newer, times_out, hand_out, account_for, serves_rest, ruled, ruled_in, ruled_at, verdict_on, verdict, freed, responds, misses, answered, receive, does, with_sent, turned, question, scanned_if, scanned, is_due, wake_up, step_of, happen, answer_of, step_running, step_in, opening}
 use Rattle.resolver_model_peer.specs.PeerRun.{Fed, change_of, delivery_in, demanded}
 use Rattle.resolver_model_peer.specs.PeerStanding.{judgment_of, held_of, standing_of}
 use Rattle.resolver_model_peer.specs.PeerSteps.{Runs}

@@ -25,7 +25,9 @@ use Rattle.resolver_model_peer.specs.declared.named.Serve.{Serve}
 use Rattle.resolver_model_peer.specs.Parties.{Parties, orders_of}
 use Rattle.resolver_model_peer.specs.PeerRows.{Row, Phase, Waits, Asked, Judged, Judging}
 use Rattle.resolver_model_peer.specs.PeerRun.{effects_of}
-use Rattle.resolver_model_peer.specs.Peer.{Machine, Open, Done, Effect, Ask, Cancel, Deliver, Produce, Status, Running, Ended, Failed, Event, Fetch, Retain, PeerSet, Blocked, ActiveDue, PendingDue, Verdict, Served, Net, End, Input, Happens, Answers, account_for, and_then, answer_of, answered, cancel_in, cancels, closed, does, freed, hand_out, has_subscribers, is_due, is_key, is_newer, misses, produce, pruned, question, quiet, receive, responds, row_of, ruled, ruled_at, ruled_in, scanned, scanned_if, served_by, serves_rest, snapshot, step_in, step_of, step_running, times_out, turned, verdict_on, wake_up}
+use Rattle.resolver_model.specs.declared.status.Status.{Status}
+use Rattle.resolver_model.specs.declared.status.Status.TheVariants.{Running, Ended, Failed}
+use Rattle.resolver_model_peer.specs.Peer.{Machine, Open, Done, Effect, Ask, Cancel, Deliver, Produce, Event, Fetch, Retain, PeerSet, Blocked, ActiveDue, PendingDue, Verdict, Served, Net, End, Input, Happens, Answers, account_for, and_then, answer_of, answered, cancel_in, cancels, closed, does, freed, hand_out, has_subscribers, is_due, is_key, is_newer, misses, produce, pruned, question, quiet, receive, responds, row_of, ruled, ruled_at, ruled_in, scanned, scanned_if, served_by, serves_rest, snapshot, step_in, step_of, step_running, times_out, turned, verdict_on, wake_up}
 use Rattle.resolver_model_peer.specs.PeerSteps.{is_passed_over, is_unasked_as}
 use Rattle.resolver_model_peer.specs.PeerPoints.{DeadVerdictsPass, RepliesOnce, ResponsesAreDelivered, PassedOverPass, is_delivery, is_judged_as, is_live_as, is_payment, is_reply, is_running, replies_as, replies_if, row_judged_as}
 

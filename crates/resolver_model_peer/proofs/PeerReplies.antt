@@ -28,7 +28,9 @@ use Rattle.resolver_model_peer.specs.Parties.{Parties, orders_of}
 use Rattle.resolver_model_peer.specs.PeerRows.{Row, Phase, Waits, Asked, Judged}
 use Rattle.resolver_model_peer.specs.PeerRun.{Fed, effects_of}
 use Rattle.resolver_model_peer.specs.PeerSteps.{Runs}
-use Rattle.resolver_model_peer.specs.Peer.{Machine, Open, Done, Effect, Produce, Status, Running, Ended, Failed, Item, Event, Fetch, Retain, PeerSet, Blocked, ActiveDue, PendingDue, Verdict, Served, Net, End, Input, Happens, Answers, account_for, and_then, answer_of, answered, closed, does, fetch, fetch_one, is_due, is_newer, misses, opening, peer_set, produce, receive, responds, row_of, ruled, ruled_at, ruled_in, scanned, scanned_if, served_by, serves_rest, snapshot, step, step_in, step_of, step_running, times_out, verdict_on, wake_up, with_sent}
+use Rattle.resolver_model.specs.declared.status.Status.{Status}
+use Rattle.resolver_model.specs.declared.status.Status.TheVariants.{Running, Ended, Failed}
+use Rattle.resolver_model_peer.specs.Peer.{Machine, Open, Done, Effect, Produce, Item, Event, Fetch, Retain, PeerSet, Blocked, ActiveDue, PendingDue, Verdict, Served, Net, End, Input, Happens, Answers, account_for, and_then, answer_of, answered, closed, does, fetch, fetch_one, is_due, is_newer, misses, opening, peer_set, produce, receive, responds, row_of, ruled, ruled_at, ruled_in, scanned, scanned_if, served_by, serves_rest, snapshot, step, step_in, step_of, step_running, times_out, verdict_on, wake_up, with_sent}
 use Rattle.resolver_model_peer.specs.PeerPoints.{NoSecondReply, all_served, is_running, replies_as, replies_if, served_at}
 use Rattle.resolver_model_peer.proofs.EarnsOnce.{mark}
 use Rattle.resolver_model_peer.proofs.PeerPoints.{replies_once}

@@ -7,7 +7,8 @@ use Rattle.resolver_base.specs.declared.fault.Fault.TheVariants as faults
 use Rattle.resolver_fetch_scan.specs.FetcherLaws.{AllAre}
 use Rattle.resolver_model_peer.specs.Parties.{Parties}
 use Rattle.resolver_model.specs.Steps.{Runs, Takes, stops}
-use Rattle.resolver_model_peer.specs.Peer.{Machine, Effect, Failed}
+use Rattle.resolver_model.specs.declared.status.Status.TheVariants.{Failed}
+use Rattle.resolver_model_peer.specs.Peer.{Machine, Effect}
 use Rattle.resolver_model_peer.specs.PeerRun.{Fed, after, answers, effects_of}
 use Rattle.resolver_model_peer.specs.PeerAwake.{IsAwake}
 use Rattle.resolver_model_peer.specs.PeerLaws.{HasNewId}

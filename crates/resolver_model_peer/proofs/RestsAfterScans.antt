@@ -14,7 +14,9 @@ use Rattle.resolver_fetch_scan.proofs.InVain.{takes-in-vain}
 use Rattle.resolver_fetch_scan.proofs.TrailLaws.{takes-unsent}
 use Rattle.resolver_fetch_scan.proofs.WakesLater.{later-wake, waiter-later}
 use Rattle.resolver_model_peer.specs.Parties.{Parties, orders_of}
-use Rattle.resolver_model_peer.specs.Peer.{Answers, Done, Effect, Event, Happens, Machine, Running, Ended, Failed, Status, and_then, answer_of, does, is_due, scanned, scanned_if, snapshot, step_in, step_of, step_running, turned, wake_up}
+use Rattle.resolver_model.specs.declared.status.Status.{Status}
+use Rattle.resolver_model.specs.declared.status.Status.TheVariants.{Running, Ended, Failed}
+use Rattle.resolver_model_peer.specs.Peer.{Answers, Done, Effect, Event, Happens, Machine, and_then, answer_of, does, is_due, scanned, scanned_if, snapshot, step_in, step_of, step_running, turned, wake_up}
 use Rattle.resolver_model_peer.specs.PeerPoints.{RestsAfterScans, RestsAt}
 use Rattle.resolver_model_peer.proofs.Quiet.{not-due}
 

@@ -20,7 +20,9 @@ use Rattle.resolver_fetch_scan.specs.Scan.{Scan, Turn, begins, is_over, takes, t
 use Rattle.resolver_fetch_scan.specs.FetcherLaws.{AllAre, IsAmong}
 use Rattle.resolver_model_peer.specs.Parties.{Parties, orders_of}
 use Rattle.resolver_model_peer.specs.PeerRows.{Row, Phase, Waits, Asked, Judged, waiting_in, waiting_of}
-use Rattle.resolver_model_peer.specs.Peer.{Machine, Done, Status, Running, Ended, Failed, Input, Happens, Answers, and_then, snapshot, turned, with_sent, does, is_due, wake_up, scanned_if, scanned, step_of, answer_of, step_running, step_in, step, opening}
+use Rattle.resolver_model.specs.declared.status.Status.{Status}
+use Rattle.resolver_model.specs.declared.status.Status.TheVariants.{Running, Ended, Failed}
+use Rattle.resolver_model_peer.specs.Peer.{Machine, Done, Input, Happens, Answers, and_then, snapshot, turned, with_sent, does, is_due, wake_up, scanned_if, scanned, step_of, answer_of, step_running, step_in, step, opening}
 use Rattle.resolver_model_peer.specs.PeerRun.{Fed, after}
 use Rattle.resolver_model_peer.specs.PeerAwake.{IsAwake, can_be_tried}
 use Rattle.resolver_model_peer.specs.PeerLaws.{NeverGoBack, StaysAwake}

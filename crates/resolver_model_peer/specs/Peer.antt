@@ -29,6 +29,8 @@ use Rattle.resolver_model.specs.declared.ruling.Ruling.{Ruling}
 use Rattle.resolver_model.specs.declared.ruling.Ruling.TheVariants as rulings
 use Rattle.resolver_model.specs.Verdicts.{ruling}
 use Rattle.resolver_model.specs.Account.{Handed}
+use Rattle.resolver_model.specs.declared.status.Status.{Status}
+use Rattle.resolver_model.specs.declared.status.Status.TheVariants.{Running, Ended, Failed}
 use Rattle.resolver_model_peer.specs.Parties.{Parties, orders_of}
 use Rattle.resolver_model_peer.specs.declared.named.Serve.{Serve}
 use Rattle.resolver_model_peer.specs.declared.named.Source.{Source}
@@ -39,11 +41,6 @@ pub record Open (K S P : Type 0) : Type 0 where
   pub handed : Handed K S
   pub source : Source P
   pub accepted : Bool
-
-pub data Status : Type 0 where
-  Running : Status
-  Ended : Status
-  Failed : Status
 
 pub record Machine (K S P : Type 0) : Type 0 where
   -- in the order of the keys

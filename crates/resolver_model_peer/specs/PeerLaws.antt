@@ -15,7 +15,8 @@ use Rattle.resolver_fetch_scan.specs.FetcherLaws.{AllAre, IsAmong, IsOnce}
 use Rattle.resolver_model.specs.Account.{Change, Handed, pairs, nothing_asked, account_of}
 use Rattle.resolver_model.specs.Lawful.{Each, IsLawful}
 use Rattle.resolver_model_peer.specs.Parties.{Parties, names_of, orders_of}
-use Rattle.resolver_model_peer.specs.Peer.{Machine, Effect, Ask, Deliver, Credit, Block, Input, Happens, Net, Failed, opening, snapshot, step, Running, Answers, is_key, question, row_of}
+use Rattle.resolver_model.specs.declared.status.Status.TheVariants.{Failed, Running}
+use Rattle.resolver_model_peer.specs.Peer.{Machine, Effect, Ask, Deliver, Credit, Block, Input, Happens, Net, opening, snapshot, step, Answers, is_key, question, row_of}
 use Rattle.resolver_model_peer.specs.PeerRun.{Fed, answers, after, effects_of, all_effects, change_of, delivery_in, demanded}
 use Rattle.resolver_model_peer.specs.PeerSteps.{Runs}
 use Rattle.resolver_model_peer.specs.PeerRows.{Row, Waits}

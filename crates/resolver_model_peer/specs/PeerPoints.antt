@@ -22,7 +22,9 @@ use Rattle.resolver_model_peer.specs.PeerRows.{Row, Phase, Judged}
 use Rattle.resolver_model_peer.specs.PeerRun.{Fed, effects_of}
 use Rattle.resolver_model_peer.specs.PeerStanding.{standing_of}
 use Rattle.resolver_model_peer.specs.PeerSteps.{Runs, is_passed_over}
-use Rattle.resolver_model_peer.specs.Peer.{Machine, Open, Status, Running, Failed, Effect, Ask, Deliver, Cancel, Produce, Reply, Credit, Block, Event, PendingDue, Verdict, Served, Net, Input, Happens, Answers, answered, opening, payload_of, row_of, step}
+use Rattle.resolver_model.specs.declared.status.Status.{Status}
+use Rattle.resolver_model.specs.declared.status.Status.TheVariants.{Running, Failed}
+use Rattle.resolver_model_peer.specs.Peer.{Machine, Open, Effect, Ask, Deliver, Cancel, Produce, Reply, Credit, Block, Event, PendingDue, Verdict, Served, Net, Input, Happens, Answers, answered, opening, payload_of, row_of, step}
 
 abbrev pub is_running : Status → Bool
 is_running Running = true

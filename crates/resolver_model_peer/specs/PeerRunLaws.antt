@@ -6,7 +6,8 @@ use Rattle.resolver_fetch_scan.specs.FetcherLaws.{AllAre}
 use Rattle.resolver_model_peer.specs.Parties.{Parties}
 use Rattle.resolver_model.specs.Steps as steps
 use Rattle.resolver_model.specs.Steps.{stops}
-use Rattle.resolver_model_peer.specs.Peer.{Machine, Effect, Failed, opening, snapshot, step}
+use Rattle.resolver_model.specs.declared.status.Status.TheVariants.{Failed}
+use Rattle.resolver_model_peer.specs.Peer.{Machine, Effect, opening, snapshot, step}
 use Rattle.resolver_model_peer.specs.PeerRun.{Fed, effects_of}
 use Rattle.resolver_model_peer.specs.PeerAwake.{IsAwake}
 use Rattle.resolver_model_peer.specs.PeerLaws.{HasNewId, NeverGoBack}

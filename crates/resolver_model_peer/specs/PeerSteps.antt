@@ -10,7 +10,8 @@ use Rattle.resolver_fetch_scan.specs.Scan as scans
 use Rattle.resolver_fetch_scan.specs.Scan.{is_over}
 use Rattle.resolver_model.specs.Steps as steps
 use Rattle.resolver_model_peer.specs.Parties.{Parties, orders_of}
-use Rattle.resolver_model_peer.specs.Peer.{Machine, Event, Fetch, Retain, PeerSet, Blocked, ActiveDue, PendingDue, Verdict, Served, Net, End, Input, Happens, Answers, Effect, Running, Failed, answered, is_newer, snapshot, wake_up, is_due, step}
+use Rattle.resolver_model.specs.declared.status.Status.TheVariants.{Running, Failed}
+use Rattle.resolver_model_peer.specs.Peer.{Machine, Event, Fetch, Retain, PeerSet, Blocked, ActiveDue, PendingDue, Verdict, Served, Net, End, Input, Happens, Answers, Effect, answered, is_newer, snapshot, wake_up, is_due, step}
 use Rattle.resolver_model_peer.specs.PeerRun.{Fed}
 
 abbrev is_refusal : {X : Type 0} → Result X Fault → Bool

@@ -3,7 +3,6 @@
 ghost use Rattle.std.specs.Prelude.{◌≡◌, ◌<◌, ◌^◌, ◌++◌, ◌∷◌, [], None, IfErr, IfOk, IfSome, OnOk, map};
 ghost use Rattle.std.specs.Map.{keys_of};
 ghost use Rattle.resolver_model_opaque.specs.declared.effects.Effect.TheVariants.{Deliver};
-ghost use Rattle.resolver_model.specs.Steps.{stops};
 ghost use Rattle.resolver_base.specs.declared.fault.Fault.TheVariants.{OutOfMemory};
 
 use resolver_base::{Fault, Numbers};
@@ -11,6 +10,7 @@ use resolver_delivery::copies;
 use resolver_demand::subscribers::Tracker;
 use resolver_messages::FetchKey;
 use resolver_model::ruling::Ruling;
+use resolver_model::status::{Status, stops};
 use resolver_model_opaque::Stages;
 use resolver_model_opaque::effects::Effect;
 use resolver_model_opaque::handed::{hand_out_again, ruling_of};
@@ -19,13 +19,6 @@ use resolver_model_opaque::rows::{Row, call_off_all, call_off_each, forget_each,
 use resolver_types::{Delivery, NonEmptyVec, Outcome, Predicate};
 use std::alloc::Global;
 use std::marker::{Model, PhantomData};
-
-#[derive(Clone, Copy)]
-enum Status {
-    Running,
-    Ended,
-    Failed,
-}
 
 /// Fetches keys from one opaque source, each by one attempt at a time, until no subscriber wants
 /// it.
@@ -544,11 +537,4 @@ fn tell<K: Drop, V: Drop, S: Drop>(
     ensures only { IfErr result (λ fault. fault ≡ OutOfMemory) }
 {
     Ok(effects.push(effect)?)
-}
-
-/// Whether a run ends with this answer.
-fn stops<T>(answer: &Result<T, Fault>) -> bool
-    ensures { result ≡ stops answer.now }
-{
-    matches!(answer, Err(Fault::OutOfMemory | Fault::Exhausted))
 }

@@ -21,3 +21,4 @@ mod Turns
 mod Wanted
 mod Rulings
 mod Verdicts
+mod Settled

@@ -5,7 +5,8 @@ use Rattle.resolver_base.specs.declared.fault.Fault.TheVariants as faults
 use Rattle.resolver_fetch_scan.specs.Scan.{is_over}
 use Rattle.resolver_model.specs.Steps as steps
 use Rattle.resolver_model_peer.specs.Parties.{Parties}
-use Rattle.resolver_model_peer.specs.Peer.{Machine, Effect, Failed, step_running}
+use Rattle.resolver_model.specs.declared.status.Status.TheVariants.{Failed}
+use Rattle.resolver_model_peer.specs.Peer.{Machine, Effect, step_running}
 use Rattle.resolver_model_peer.specs.PeerRun.{Fed}
 use Rattle.resolver_model_peer.specs.PeerSteps.{MayWant, is_refused, step_on, takes_no_memory}
 use Rattle.resolver_model_peer.specs.declared.effects.Effect.{Effect as Told}

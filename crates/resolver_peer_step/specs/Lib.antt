@@ -5,3 +5,4 @@ pub mod Going
 pub mod Said
 pub mod Tied
 pub mod Ruled
+pub mod Counted

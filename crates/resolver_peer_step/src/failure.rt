@@ -9,10 +9,11 @@ ghost use Rattle.resolver_peer_step.specs.Tied.{Agrees};
 
 use crate::parts::Parts;
 use resolver_base::Fault;
+use resolver_metrics::metrics::{Metrics, raise};
 
 impl<K: Ord + Clone + Drop, P: Ord + Drop, S: Ord + Drop> Parts<K, P, S> {
     /// The request whose time is over is asked no more, and its key is tried again later.
-    pub(crate) fn time_out(&mut self, now: u128) -> Result<(), Fault>
+    pub(crate) fn time_out(&mut self, now: u128, metrics: &mut Metrics) -> Result<(), Fault>
         requires closed { is_some self.old.fetcher.scan ≡ false }
         requires moment { now < 2 ^ 94 }
         requires keys_clone { (x y : K) → K.is_clone x y → y ≡ x }
@@ -28,12 +29,19 @@ impl<K: Ord + Clone + Drop, P: Ord + Drop, S: Ord + Drop> Parts<K, P, S> {
         let Some(key) = self.fetcher.pop_active(now) else {
             return Ok(());
         };
+        raise(&mut metrics.fetch.failure, 1);
         self.fetcher.add_retry(key, now)
     }
 
     /// The request that this peer has no data for is asked no more, and its key is tried again
     /// later.
-    pub(crate) fn miss(&mut self, now: u128, peer: &P, id: u64) -> Result<(), Fault>
+    pub(crate) fn miss(
+        &mut self,
+        now: u128,
+        peer: &P,
+        id: u64,
+        metrics: &mut Metrics,
+    ) -> Result<(), Fault>
         requires closed { is_some self.old.fetcher.scan ≡ false }
         requires moment { now < 2 ^ 94 }
         requires keys_clone { (x y : K) → K.is_clone x y → y ≡ x }
@@ -49,6 +57,7 @@ impl<K: Ord + Clone + Drop, P: Ord + Drop, S: Ord + Drop> Parts<K, P, S> {
         let Some(key) = self.fetcher.pop_missing(id, peer, now) else {
             return Ok(());
         };
+        raise(&mut metrics.fetch.failure, 1);
         self.fetcher.add_retry(key, now)
     }
 }

@@ -5,6 +5,7 @@
 //! with effects; it has no clock, no network and no thread.
 #![tactic(auto)]
 
+mod counted;
 mod failure;
 mod fetch;
 mod net;

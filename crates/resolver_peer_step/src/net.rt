@@ -12,6 +12,7 @@ ghost use Rattle.resolver_peer_step.specs.Tied.{Agrees};
 use crate::parts::Parts;
 use bytes::Bytes;
 use resolver_base::{Fault, Span};
+use resolver_metrics::metrics::Metrics;
 use resolver_model_peer::effects::Effect;
 use resolver_wire::wire::{Message, Payload};
 
@@ -24,6 +25,7 @@ impl<K: Span + Drop, P: Ord + Clone + Drop, S: Ord + Clone + Drop> Parts<K, P, S
         peer: P,
         bytes: Bytes,
         effects: &mut Vec<Effect<K, P, S>>,
+        metrics: &mut Metrics,
     ) -> Result<(), Fault>
         requires closed { is_some self.old.fetcher.scan ≡ false }
         requires tied { IsTied (parties K.cmp S.cmp P.cmp) self.old }
@@ -42,7 +44,7 @@ impl<K: Span + Drop, P: Ord + Clone + Drop, S: Ord + Clone + Drop> Parts<K, P, S
             (message_of (codec K.SIZE K.bytes_of K.read_from) bytes) ≡ false }
     {
         match Message::decode(bytes) {
-            Ok(message) => self.receive(now, peer, message.id, message.payload, effects),
+            Ok(message) => self.receive(now, peer, message.id, message.payload, effects, metrics),
             Err(_) => Ok(()),
         }
     }
@@ -55,6 +57,7 @@ impl<K: Span + Drop, P: Ord + Clone + Drop, S: Ord + Clone + Drop> Parts<K, P, S
         id: u64,
         payload: Payload<K>,
         effects: &mut Vec<Effect<K, P, S>>,
+        metrics: &mut Metrics,
     ) -> Result<(), Fault>
         requires closed { is_some self.old.fetcher.scan ≡ false }
         requires tied { IsTied (parties K.cmp S.cmp P.cmp) self.old }
@@ -73,7 +76,7 @@ impl<K: Span + Drop, P: Ord + Clone + Drop, S: Ord + Clone + Drop> Parts<K, P, S
         match payload {
             Payload::Request(key) => self.produce(now, peer, id, key, effects),
             Payload::Response(value) => self.respond(now, &peer, id, value, effects),
-            Payload::Error => self.miss(now, &peer, id),
+            Payload::Error => self.miss(now, &peer, id, metrics),
         }
     }
 }

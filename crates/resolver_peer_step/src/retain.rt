@@ -12,10 +12,12 @@ ghost use Rattle.resolver_peer_step.specs.Going.{Goes};
 ghost use Rattle.resolver_peer_step.specs.Said.{codec};
 ghost use Rattle.resolver_peer_step.specs.Tied.{Agrees};
 
+use crate::counted::count_retain;
 use crate::parts::Parts;
 use resolver_base::{Fault, Span};
 use resolver_demand::subscribers::Tracker;
 use resolver_fetch::fetcher::Fetcher;
+use resolver_metrics::metrics::Metrics;
 use resolver_model_peer::canceled::{cancel_all, cancel_each};
 use resolver_model_peer::effects::Effect;
 use resolver_model_peer::inflight::Inflight;
@@ -28,6 +30,7 @@ impl<K: Span + Drop, P: Ord + Drop, S: Ord + Drop> Parts<K, P, S> {
         &mut self,
         keep: &Q,
         effects: &mut Vec<Effect<K, P, S>>,
+        metrics: &mut Metrics,
     ) -> Result<(), Fault>
         requires keys_clone { (x y : K) → K.is_clone x y → y ≡ x }
         requires closed { is_some self.old.fetcher.scan ≡ false }
@@ -39,6 +42,7 @@ impl<K: Span + Drop, P: Ord + Drop, S: Ord + Drop> Parts<K, P, S> {
         let emptied = self.demand.retain(keep)?;
         cancel_each(&self.entries, emptied.as_slice(), effects)?;
         forget(&self.demand, &mut self.entries, &mut self.fetcher);
+        count_retain(&mut metrics.cancel, emptied.len() as u64);
         Ok(())
     }
 

@@ -10,9 +10,11 @@ ghost use Rattle.resolver_peer_step.specs.Going.{Goes};
 ghost use Rattle.resolver_peer_step.specs.Said.{codec};
 ghost use Rattle.resolver_peer_step.specs.Tied.{Agrees};
 
+use crate::counted::count_answer;
 use crate::parts::Parts;
 use resolver_base::{Fault, Span};
 use resolver_fetch::fetcher::Answer;
+use resolver_metrics::metrics::Metrics;
 use resolver_model_peer::effects::Effect;
 use resolver_model_peer::questions::tell_asked;
 
@@ -79,6 +81,7 @@ impl<K: Span + Drop, P: Ord + Clone + Drop, S: Ord + Drop> Parts<K, P, S> {
         &mut self,
         answer: Answer,
         effects: &mut Vec<Effect<K, P, S>>,
+        metrics: &mut Metrics,
     ) -> Result<(), Fault>
         requires keys_clone { (x y : K) → K.is_clone x y → y ≡ x }
         requires peers_clone { (x y : P) → P.is_clone x y → y ≡ x }
@@ -87,6 +90,7 @@ impl<K: Span + Drop, P: Ord + Clone + Drop, S: Ord + Drop> Parts<K, P, S> {
             effects.old.items effects.new.items self.new result }
     {
         let asked = self.fetcher.scan_answer(answer)?;
+        count_answer(&mut metrics.requests_sent, answer);
         tell_asked(effects, asked)
     }
 }

@@ -9,9 +9,11 @@ ghost use Rattle.resolver_peer_step.specs.Going.{Goes};
 ghost use Rattle.resolver_peer_step.specs.Said.{codec};
 ghost use Rattle.resolver_peer_step.specs.Tied.{Agrees};
 
+use crate::counted::count_serve;
 use crate::parts::Parts;
 use bytes::Bytes;
 use resolver_base::{Fault, Span};
+use resolver_metrics::metrics::Metrics;
 use resolver_model_peer::effects::Effect;
 use resolver_model_peer::named::Serve;
 use resolver_model_peer::serves::{OpenServe, reply};
@@ -43,9 +45,11 @@ impl<K: Span + Drop, P: Ord + Drop, S: Ord + Drop> Parts<K, P, S> {
     /// nothing is open is passed over, and takes no memory.
     pub(crate) fn served(
         &mut self,
+        now: u128,
         serve: u64,
         value: Option<Bytes>,
         effects: &mut Vec<Effect<K, P, S>>,
+        metrics: &mut Metrics,
     ) -> Result<(), Fault>
         ensures goes { (m : Machine K S P) → Agrees (parties K.cmp S.cmp P.cmp) self.old m
             → Goes (parties K.cmp S.cmp P.cmp) (codec K.SIZE K.bytes_of K.read_from)
@@ -58,6 +62,7 @@ impl<K: Span + Drop, P: Ord + Drop, S: Ord + Drop> Parts<K, P, S> {
         let Some(begun) = self.serves.remove(&serve) else {
             return Ok(());
         };
+        count_serve(metrics, &value, begun.elapsed_until(now));
         let Serve { peer, id } = begun.into_serve();
         let bytes = reply::<K>(self.alloc, id, value)?;
         effects.push(Effect::Reply {

@@ -12,17 +12,21 @@ ghost use Rattle.resolver_peer_step.specs.Tied.{Agrees};
 
 use crate::parts::Parts;
 use resolver_base::{Fault, Span};
+use resolver_metrics::metrics::Metrics;
 use resolver_model_peer::effects::Effect;
 use resolver_model_peer::inputs::{Event, Input};
 use resolver_types::Predicate;
 
 impl<K: Span + Drop, P: Ord + Clone + Drop, S: Ord + Clone + Drop> Parts<K, P, S> {
-    /// Takes an input, unless it is refused. Where an event is over, a scan begins if the wake-up
-    /// is not later than its moment.
+    /// Takes an input, unless it is refused, and counts what comes of it. Where an event is over, a
+    /// scan begins if the wake-up is not later than its moment.
+    ///
+    /// Where memory or numbers are wanting, something may have been counted.
     pub fn take<Q: Predicate<K, S> + Drop>(
         &mut self,
         input: Input<K, P, S, Q>,
         effects: &mut Vec<Effect<K, P, S>>,
+        metrics: &mut Metrics,
     ) -> Result<(), Fault>
         requires tied { IsTied (parties K.cmp S.cmp P.cmp) self.old }
         requires keys_clone { (x y : K) → K.is_clone x y → y ≡ x }
@@ -39,9 +43,9 @@ impl<K: Span + Drop, P: Ord + Clone + Drop, S: Ord + Clone + Drop> Parts<K, P, S
                 if self.is_scanning() {
                     return Err(Fault::Busy);
                 }
-                self.happen(happening.now, happening.event, effects)
+                self.happen(happening.now, happening.event, effects, metrics)
             }
-            Input::Answers(answer) => self.scan_answer(answer, effects),
+            Input::Answers(answer) => self.scan_answer(answer, effects, metrics),
         }
     }
 
@@ -51,6 +55,7 @@ impl<K: Span + Drop, P: Ord + Clone + Drop, S: Ord + Clone + Drop> Parts<K, P, S
         now: u128,
         event: Event<K, P, S, Q>,
         effects: &mut Vec<Effect<K, P, S>>,
+        metrics: &mut Metrics,
     ) -> Result<(), Fault>
         requires closed { is_some self.old.fetcher.scan ≡ false }
         requires tied { IsTied (parties K.cmp S.cmp P.cmp) self.old }
@@ -68,7 +73,7 @@ impl<K: Span + Drop, P: Ord + Clone + Drop, S: Ord + Clone + Drop> Parts<K, P, S
             → takes_no_memory (parties K.cmp S.cmp P.cmp) m now
             (Happens (event_of (codec K.SIZE K.bytes_of K.read_from) Q.keeps event)) ≡ false }
     {
-        self.advance(now, event, effects)?;
+        self.advance(now, event, effects, metrics)?;
         self.scan(now, effects)
     }
 
@@ -78,6 +83,7 @@ impl<K: Span + Drop, P: Ord + Clone + Drop, S: Ord + Clone + Drop> Parts<K, P, S
         now: u128,
         event: Event<K, P, S, Q>,
         effects: &mut Vec<Effect<K, P, S>>,
+        metrics: &mut Metrics,
     ) -> Result<(), Fault>
         requires closed { is_some self.old.fetcher.scan ≡ false }
         requires tied { IsTied (parties K.cmp S.cmp P.cmp) self.old }
@@ -97,14 +103,16 @@ impl<K: Span + Drop, P: Ord + Clone + Drop, S: Ord + Clone + Drop> Parts<K, P, S
     {
         match event {
             Event::Fetch(items) => self.fetch(now, items),
-            Event::Retain(keep) => self.retain(&keep, effects),
+            Event::Retain(keep) => self.retain(&keep, effects, metrics),
             Event::PeerSet { index, peers } => self.peer_set(index, peers),
             Event::Blocked(peers) => self.block(peers),
-            Event::ActiveDue => self.time_out(now),
+            Event::ActiveDue => self.time_out(now, metrics),
             Event::PendingDue => Ok(()),
-            Event::Verdict { number, outcome } => self.verdict(now, number, outcome, effects),
-            Event::Served { serve, value } => self.served(serve, value, effects),
-            Event::Net { peer, bytes } => self.net(now, peer, bytes, effects),
+            Event::Verdict { number, outcome } => {
+                self.verdict(now, number, outcome, effects, metrics)
+            }
+            Event::Served { serve, value } => self.served(now, serve, value, effects, metrics),
+            Event::Net { peer, bytes } => self.net(now, peer, bytes, effects, metrics),
             Event::End => self.end(effects),
         }
     }

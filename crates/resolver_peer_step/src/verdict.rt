@@ -11,20 +11,23 @@ ghost use Rattle.resolver_fetch_scan.specs.Orders.{orders};
 ghost use Rattle.resolver_model.specs.Verdicts.{ruling};
 ghost use Rattle.resolver_model_peer.specs.Parties.{parties};
 ghost use Rattle.resolver_model_peer.specs.Peer.{Machine, Open, ruled, verdict};
+ghost use Rattle.resolver_peer_step.specs.Counted.{judged};
 ghost use Rattle.resolver_peer_step.specs.Going.{Goes, IsTied};
 ghost use Rattle.resolver_peer_step.specs.Ruled.{IsClosed, Names, earned, paid};
 ghost use Rattle.resolver_peer_step.specs.Said.{Codec};
 ghost use Rattle.resolver_peer_step.specs.Tied.{Agrees};
 
+use crate::counted::count_retired;
 use crate::parts::Parts;
 use resolver_base::Fault;
 use resolver_delivery::Completion;
 use resolver_fetch::fetcher::Fetcher;
+use resolver_metrics::metrics::{Metrics, raise};
 use resolver_model::ruling::{Ruling, rule_on};
 use resolver_model_peer::effects::Effect;
 use resolver_model_peer::handed::hand_out_again;
 use resolver_model_peer::named::Source;
-use resolver_types::{Delivery, Outcome};
+use resolver_types::{Delivery, Outcome, Resolution};
 
 impl<K: Ord + Clone + Drop, P: Ord + Clone + Drop, S: Ord + Clone + Drop> Parts<K, P, S> {
     /// Takes the consumer's outcome for a delivery, or none where it dropped the delivery.
@@ -34,6 +37,7 @@ impl<K: Ord + Clone + Drop, P: Ord + Clone + Drop, S: Ord + Clone + Drop> Parts<
         number: u64,
         outcome: Option<Outcome>,
         effects: &mut Vec<Effect<K, P, S>>,
+        metrics: &mut Metrics,
     ) -> Result<(), Fault>
         requires closed { is_some self.old.fetcher.scan ≡ false }
         requires tied { IsTied (parties K.cmp S.cmp P.cmp) self.old }
@@ -68,11 +72,20 @@ impl<K: Ord + Clone + Drop, P: Ord + Clone + Drop, S: Ord + Clone + Drop> Parts<
             previously_accepted,
             outcome,
             effects,
+            metrics,
         )?;
         if canceled {
             return Ok(());
         }
-        self.rule(now, delivery, previously_accepted, outcome, effects)
+        self.count_complete(now, &delivery.key, outcome, metrics);
+        self.rule(
+            now,
+            delivery,
+            previously_accepted,
+            outcome,
+            effects,
+            metrics,
+        )
     }
 
     /// Does what is ruled on a delivery that is closed.
@@ -83,6 +96,7 @@ impl<K: Ord + Clone + Drop, P: Ord + Clone + Drop, S: Ord + Clone + Drop> Parts<
         accepted: bool,
         outcome: Option<Outcome>,
         effects: &mut Vec<Effect<K, P, S>>,
+        metrics: &mut Metrics,
     ) -> Result<(), Fault>
         requires closed { is_some self.old.fetcher.scan ≡ false }
         requires tied { (m : Machine K S P) × (h : Open K S P) × Names h delivery accepted
@@ -111,6 +125,7 @@ impl<K: Ord + Clone + Drop, P: Ord + Clone + Drop, S: Ord + Clone + Drop> Parts<
                 };
                 drop(subscribers);
                 let Some(subscribers) = rest else {
+                    count_retired(&mut metrics.fetch, accepted, outcome);
                     self.forget(&key);
                     drop(key);
                     return Ok(());
@@ -125,12 +140,37 @@ impl<K: Ord + Clone + Drop, P: Ord + Clone + Drop, S: Ord + Clone + Drop> Parts<
             }
             Ruling::Retire => {
                 drop(subscribers);
+                count_retired(&mut metrics.fetch, accepted, outcome);
                 self.demand.remove(&key);
                 self.forget(&key);
                 drop(key);
                 Ok(())
             }
         }
+    }
+
+    /// Measures the time from a key's first fetch to its first `Complete`, and notes that it was.
+    fn count_complete(
+        &mut self,
+        now: u128,
+        key: &K,
+        outcome: Option<Outcome>,
+        metrics: &mut Metrics,
+    )
+        ensures { self.new ≡ self.old }
+    {
+        if outcome != Some(Outcome::Resolved(Resolution::Complete)) {
+            return;
+        }
+        let Some(start) = self.entries.state(key) else {
+            return;
+        };
+        let Some(elapsed) = start.uncounted_until(now) else {
+            return;
+        };
+        let counted = start.counted();
+        metrics.fetch_duration.measure(elapsed);
+        self.entries.set_state(key, counted);
     }
 
     /// Nothing is done for a key any more.
@@ -149,7 +189,7 @@ impl<K: Ord + Clone + Drop, P: Ord + Clone + Drop, S: Ord + Clone + Drop> Parts<
 }
 
 /// Says what a response earned its peer, if it was not said before: a credit, or that it is to be
-/// blocked.
+/// blocked. A response that was accepted and turns out wrong is a failure all the same.
 fn account<K: Ord + Drop, P: Ord + Drop, S: Drop>(
     fetcher: &mut Fetcher<K, P>,
     response: u64,
@@ -157,32 +197,44 @@ fn account<K: Ord + Drop, P: Ord + Drop, S: Drop>(
     accepted: bool,
     outcome: Option<Outcome>,
     effects: &mut Vec<Effect<K, P, S>>,
+    metrics: &mut Metrics,
 ) -> Result<(), Fault>
     requires closed { is_some fetcher.old.scan ≡ false }
     ensures told { OnOk result (effects.new.items
         ≡ effects.old.items ++ earned response source accepted outcome) }
     ensures ok { OnOk result (fetcher.new
         ≡ paid (orders K.cmp P.cmp) source accepted outcome fetcher.old) }
+    ensures counted { OnOk result (metrics.new.fetch
+        ≡ judged accepted outcome metrics.old.fetch) }
     ensures only { IfErr result (λ fault. fault ≡ OutOfMemory) }
 {
-    if accepted {
-        return Ok(());
-    }
     let Some(outcome) = outcome else {
         return Ok(());
     };
+    if accepted {
+        if outcome == Outcome::Invalid {
+            raise(&mut metrics.fetch.failure, 1);
+        }
+        return Ok(());
+    }
     match outcome {
         Outcome::Resolved(_) => {
+            raise(&mut metrics.fetch.success, 1);
+            metrics.resolves.measure(source.elapsed);
             fetcher.record_response(&source.peer, source.elapsed, source.bytes);
             effects.push(Effect::Credit { response, source })?;
             Ok(())
         }
         Outcome::Invalid => {
+            raise(&mut metrics.fetch.failure, 1);
             let peer = source.peer;
             effects.push(Effect::Block { response, peer })?;
             Ok(())
         }
-        Outcome::Unresolved => Ok(()),
+        Outcome::Unresolved => {
+            raise(&mut metrics.fetch.ambiguous, 1);
+            Ok(())
+        }
         Outcome::Ignored => Ok(()),
     }
 }

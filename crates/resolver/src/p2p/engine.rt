@@ -6,8 +6,8 @@ ghost use Rattle.std.specs.List.Sorted.{IsStrictlySortedBy};
 ghost use Rattle.std.specs.Ordering.{is_eq};
 ghost use Rattle.resolver_base.specs.declared.fault.Fault.TheVariants.{OutOfMemory};
 ghost use Rattle.resolver_fetch_scan.specs.Fetcher.{IsTimely};
+ghost use Rattle.resolver_model.specs.declared.status.Status.TheVariants.{Failed};
 ghost use Rattle.resolver_model_peer.specs.Parties.{parties};
-ghost use Rattle.resolver_model_peer.specs.Peer as machines;
 ghost use Rattle.resolver_model_peer.specs.Peer.{Machine, active_deadline, opening, wake_up};
 ghost use Rattle.resolver.specs.EngineLaws.{RunsWell};
 ghost use Rattle.resolver.specs.Taking.{Took};
@@ -264,7 +264,7 @@ impl<
         ensures ordered { IfOk result
             (λ rows. IsStrictlySortedBy K.cmp (map (λ row. row.key) rows.items)) }
         ensures only { IfErr result (λ fault. (fault ≡ OutOfMemory)
-            ⊎ ((fault ≡ Fault.Failed) × (self.now.status ≡ machines.Failed))) }
+            ⊎ ((fault ≡ Fault.Failed) × (self.now.status ≡ Failed))) }
     {
         self.core.rows()
     }
@@ -272,7 +272,7 @@ impl<
     /// When a scan may do something, if a key waits. It takes time logarithmic in the waiting keys.
     pub fn get_pending_deadline(&self) -> Option<u128>
         ensures { (m : Machine K S P) → Matches (parties K.cmp S.cmp P.cmp) self.now m
-            → m.status ≢ machines.Failed → result ≡ wake_up (parties K.cmp S.cmp P.cmp) m }
+            → m.status ≢ Failed → result ≡ wake_up (parties K.cmp S.cmp P.cmp) m }
     {
         self.core.get_pending_deadline()
     }
@@ -280,7 +280,7 @@ impl<
     /// When the time of a request is over next, if there is a request.
     pub fn get_active_deadline(&self) -> Option<u128>
         ensures { (m : Machine K S P) → Matches (parties K.cmp S.cmp P.cmp) self.now m
-            → m.status ≢ machines.Failed → result ≡ active_deadline (parties K.cmp S.cmp P.cmp) m }
+            → m.status ≢ Failed → result ≡ active_deadline (parties K.cmp S.cmp P.cmp) m }
     {
         self.core.get_active_deadline()
     }
@@ -289,13 +289,13 @@ impl<
     /// answer and serves are open now.
     pub fn metrics(&self) -> Metrics
         ensures pending { (m : Machine K S P) → Matches (parties K.cmp S.cmp P.cmp) self.now m
-            → m.status ≢ machines.Failed
+            → m.status ≢ Failed
             → result.fetch_pending ≡ length (fetcher_of (parties K.cmp S.cmp P.cmp) m).waiting }
         ensures active { (m : Machine K S P) → Matches (parties K.cmp S.cmp P.cmp) self.now m
-            → m.status ≢ machines.Failed
+            → m.status ≢ Failed
             → result.fetch_active ≡ length (fetcher_of (parties K.cmp S.cmp P.cmp) m).asked }
         ensures serves { (m : Machine K S P) → Matches (parties K.cmp S.cmp P.cmp) self.now m
-            → m.status ≢ machines.Failed → result.serve_processing ≡ length m.serves }
+            → m.status ≢ Failed → result.serve_processing ≡ length m.serves }
     {
         self.core.metrics()
     }

@@ -6,9 +6,8 @@ ghost use Rattle.std.specs.List.Sorted.{IsStrictlySortedBy};
 ghost use Rattle.std.specs.Ordering.{is_eq};
 ghost use Rattle.resolver_base.specs.declared.fault.Fault.TheVariants.{OutOfMemory};
 ghost use Rattle.resolver_fetch_scan.specs.Fetcher.{IsTimely};
-ghost use Rattle.resolver_model.specs.Steps.{stops};
+ghost use Rattle.resolver_model.specs.declared.status.Status.TheVariants.{Failed};
 ghost use Rattle.resolver_model_peer.specs.Parties.{parties};
-ghost use Rattle.resolver_model_peer.specs.Peer as machines;
 ghost use Rattle.resolver_model_peer.specs.Peer.{Machine, active_deadline, opening, wake_up};
 ghost use Rattle.resolver.specs.Ending.{is_end, is_end_event};
 ghost use Rattle.resolver.specs.EngineLaws.{RunsWell};
@@ -19,25 +18,19 @@ ghost use Rattle.resolver.specs.Matching.{Matches, UnlessFailed, is_final};
 ghost use Rattle.resolver_peer_step.specs.Said.{answer_of, codec, fed_of};
 ghost use Rattle.resolver_peer_step.specs.Tied.{fetcher_of};
 
-use crate::p2p::counts::{metrics, take_and_count};
+use crate::p2p::counts::metrics;
 use crate::p2p::rows;
 use crate::p2p::rows::Row;
 use resolver_base::{Fault, Span};
 use resolver_fetch::fetcher::Config;
 use resolver_metrics::metrics::Metrics;
+use resolver_model::status::{Status, stops};
 use resolver_model_peer::effects::Effect;
 use resolver_model_peer::inputs::{Event, Input};
 use resolver_peer_step::parts::Parts;
 use resolver_types::Predicate;
 use std::alloc::Global;
 use std::marker::{Model, PhantomData};
-
-#[derive(Clone, Copy)]
-enum Status {
-    Running,
-    Ended,
-    Failed,
-}
 
 /// Fetches keys from peers, each from one peer at a time, until no subscriber wants it.
 ///
@@ -53,14 +46,13 @@ pub struct Core<K: Ord, P: Ord, S: Ord, Q> {
 impl<K: Ord, P: Ord, S: Ord, Q> Model for Core<K, P, S, Q> {
     ghost use Rattle.resolver_model_peer.specs.Parties.{parties};
     ghost use Rattle.resolver.specs.Listed.{listed};
-    ghost use Rattle.resolver.specs.Matching.{Engine, IsTiedUnlessFailed, held_by, status_of};
+    ghost use Rattle.resolver.specs.Matching.{Engine, IsTiedUnlessFailed, held_by};
 
     ghost Value = { Engine K S P };
 
-    ghost view = { λ a. record { held = held_by a.parts; status = status_of a.status } };
+    ghost view = { λ a. record { held = held_by a.parts; status = a.status } };
 
-    ghost invariant = { λ a. IsTiedUnlessFailed (parties K.cmp S.cmp P.cmp) (status_of a.status)
-        a.parts };
+    ghost invariant = { λ a. IsTiedUnlessFailed (parties K.cmp S.cmp P.cmp) a.status a.parts };
 }
 
 impl<K: Ord + Drop, P: Ord + Drop, S: Ord + Drop, Q: Drop> Drop for Core<K, P, S, Q> {
@@ -131,8 +123,10 @@ impl<K: Span + Drop, P: Ord + Clone + Drop, S: Ord + Clone + Drop, Q: Predicate<
         }
         let ends = is_end(&input);
         let mut effects = Vec::new(self.parts.alloc);
-        match take_and_count(&mut self.parts, input, &mut self.counted, &mut effects) {
+        let mut counted = self.counted;
+        match self.parts.take(input, &mut effects, &mut counted) {
             Ok(()) => {
+                self.counted = counted;
                 if ends {
                     self.status = Status::Ended;
                 }
@@ -203,7 +197,7 @@ impl<K: Span + Drop, P: Ord + Clone + Drop, S: Ord + Clone + Drop, Q: Predicate<
         ensures ordered { IfOk result
             (λ rows. IsStrictlySortedBy K.cmp (map (λ row. row.key) rows.items)) }
         ensures only { IfErr result (λ fault. (fault ≡ OutOfMemory)
-            ⊎ ((fault ≡ Fault.Failed) × (self.now.status ≡ machines.Failed))) }
+            ⊎ ((fault ≡ Fault.Failed) × (self.now.status ≡ Failed))) }
     {
         match self.status {
             Status::Running => rows::rows(&self.parts),
@@ -215,7 +209,7 @@ impl<K: Span + Drop, P: Ord + Clone + Drop, S: Ord + Clone + Drop, Q: Predicate<
     /// When a scan may do something, if a key waits. It takes time logarithmic in the waiting keys.
     pub fn get_pending_deadline(&self) -> Option<u128>
         ensures { (m : Machine K S P) → Matches (parties K.cmp S.cmp P.cmp) self.now m
-            → m.status ≢ machines.Failed → result ≡ wake_up (parties K.cmp S.cmp P.cmp) m }
+            → m.status ≢ Failed → result ≡ wake_up (parties K.cmp S.cmp P.cmp) m }
     {
         self.parts.pending_deadline()
     }
@@ -223,7 +217,7 @@ impl<K: Span + Drop, P: Ord + Clone + Drop, S: Ord + Clone + Drop, Q: Predicate<
     /// When the time of a request is over next, if there is a request.
     pub fn get_active_deadline(&self) -> Option<u128>
         ensures { (m : Machine K S P) → Matches (parties K.cmp S.cmp P.cmp) self.now m
-            → m.status ≢ machines.Failed → result ≡ active_deadline (parties K.cmp S.cmp P.cmp) m }
+            → m.status ≢ Failed → result ≡ active_deadline (parties K.cmp S.cmp P.cmp) m }
     {
         self.parts.active_deadline()
     }
@@ -232,13 +226,13 @@ impl<K: Span + Drop, P: Ord + Clone + Drop, S: Ord + Clone + Drop, Q: Predicate<
     /// answer and serves are open now.
     pub fn metrics(&self) -> Metrics
         ensures pending { (m : Machine K S P) → Matches (parties K.cmp S.cmp P.cmp) self.now m
-            → m.status ≢ machines.Failed
+            → m.status ≢ Failed
             → result.fetch_pending ≡ length (fetcher_of (parties K.cmp S.cmp P.cmp) m).waiting }
         ensures active { (m : Machine K S P) → Matches (parties K.cmp S.cmp P.cmp) self.now m
-            → m.status ≢ machines.Failed
+            → m.status ≢ Failed
             → result.fetch_active ≡ length (fetcher_of (parties K.cmp S.cmp P.cmp) m).asked }
         ensures serves { (m : Machine K S P) → Matches (parties K.cmp S.cmp P.cmp) self.now m
-            → m.status ≢ machines.Failed → result.serve_processing ≡ length m.serves }
+            → m.status ≢ Failed → result.serve_processing ≡ length m.serves }
     {
         metrics(&self.parts, &self.counted)
     }
@@ -265,11 +259,4 @@ fn is_final(fault: Fault) -> bool
     ensures { result ≡ is_final fault }
 {
     matches!(fault, Fault::OutOfMemory | Fault::Exhausted)
-}
-
-/// Whether a run ends with this answer.
-fn stops<T>(answer: &Result<T, Fault>) -> bool
-    ensures { result ≡ stops answer.now }
-{
-    matches!(answer, Err(Fault::OutOfMemory | Fault::Exhausted))
 }

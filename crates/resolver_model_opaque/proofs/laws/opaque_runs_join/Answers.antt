@@ -1,5 +1,5 @@
 use Rattle.resolver_types.specs.Names.{names}
-use Rattle.resolver_model_opaque.specs.Opaque.{Failed}
+use Rattle.resolver_model.specs.declared.status.Status.TheVariants.{Failed}
 use Rattle.resolver_model_opaque.specs.OpaqueSteps.{MayWant, step_on}
 use Rattle.std.proofs.Common.{◌≡◌}
 use Rattle.resolver_model.proofs.Runs.{runs-join}

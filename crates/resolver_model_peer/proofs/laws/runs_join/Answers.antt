@@ -1,7 +1,7 @@
 use Rattle.std.proofs.Common.{◌≡◌}
 use Rattle.resolver_model.proofs.Runs.{runs-join}
 use Rattle.resolver_model_peer.specs.Parties.{parties}
-use Rattle.resolver_model_peer.specs.Peer.{Failed}
+use Rattle.resolver_model.specs.declared.status.Status.TheVariants.{Failed}
 use Rattle.resolver_model_peer.specs.PeerSteps.{MayWant, step_on}
 use Rattle.resolver_model_peer.proofs.laws.runs_join.Goals as goal
 

@@ -4,7 +4,6 @@ use Rattle.resolver_types.specs.declared.delivery.Delivery.{Delivery}
 use Rattle.resolver_model_opaque.specs.declared.effects.Effect.{Effect}
 use Rattle.resolver_model_opaque.specs.declared.effects.Effect.TheVariants.{Deliver}
 use Rattle.resolver_types.specs.Names.{names}
-use Rattle.resolver_opaque_actor.specs.OpaqueActor.{status_of}
 use Rattle.resolver_model_opaque.proofs.OpaqueGoing.{hand_out_goes, agree-delivered, asked-idle, asked-stage, at-idle, idle-asked, idle-tracked, idle-free_number, asked-none, goes-told}
 use Rattle.resolver_opaque_actor.proofs.actor.Actor.hand_out.Goals as goal
 
@@ -31,7 +30,7 @@ deliver-requires-clause-idle g c =
 pub invariant_of-self-2 : goal.invariant_of-self-2
 invariant_of-self-2 g c = record {
   delay = c.self.invariant.delay;
-  agree = agree-delivered (names g.K.Ord.cmp g.S.Ord.cmp) c.self.inside.demand c.self.inside.stages.entries c.self.invariant.agree c.self.inside.stages.next_attempt c.self.inside.delay (status_of c.self.inside.status) c.args.key c.in-Ok-Some.subscribers c.in-Ok.copies.1 c.deliver.new.self.entries (ap (λ s. s.entries) c.in-Ok-deliver.ensures.ok);
+  agree = agree-delivered (names g.K.Ord.cmp g.S.Ord.cmp) c.self.inside.demand c.self.inside.stages.entries c.self.invariant.agree c.self.inside.stages.next_attempt c.self.inside.delay c.self.inside.status c.args.key c.in-Ok-Some.subscribers c.in-Ok.copies.1 c.deliver.new.self.entries (ap (λ s. s.entries) c.in-Ok-deliver.ensures.ok);
 }
 
 told-is : {K V S : Type 0} (before after : List (Effect K V S)) (number : ℕ) (told delivery : Delivery K S) (value : V)
@@ -46,7 +45,7 @@ returns g c =
     rw (← c.self.view_is, ap (λ s. s.next_attempt) c.in-Ok-deliver.ensures.ok)
     (at-idle _ _ idle (λ row found waits.
     goes-told _ c.args.effects.now.items c.tell.new.effects.items _ c.tell.result _ c.tell.ensures.told c.tell.ensures.only (λ told.
-    hand_out_goes (names g.K.Ord.cmp g.S.Ord.cmp) c.self.inside.demand c.self.inside.stages.entries c.self.invariant.agree c.self.inside.stages.next_attempt c.self.inside.delay (status_of c.self.inside.status) c.args.key row c.in-Ok-Some.subscribers c.args.value c.args.effects.now.items c.tell.new.effects.items c.deliver.new.self.entries c.in-Ok-deliver.number
+    hand_out_goes (names g.K.Ord.cmp g.S.Ord.cmp) c.self.inside.demand c.self.inside.stages.entries c.self.invariant.agree c.self.inside.stages.next_attempt c.self.inside.delay c.self.inside.status c.args.key row c.in-Ok-Some.subscribers c.args.value c.args.effects.now.items c.tell.new.effects.items c.deliver.new.self.entries c.in-Ok-deliver.number
     found wanted c.in-Ok-deliver.ensures.number (omega arith) put
     (told-is _ _ _ _ _ _ told (ap (λ copies. copies.0) c.in-Ok.ensures)))))
 

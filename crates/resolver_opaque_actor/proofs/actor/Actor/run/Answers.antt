@@ -4,7 +4,7 @@ use Rattle.std.specs.Vec.Iter.{into_iter_items}
 use Rattle.resolver_types.specs.Names.{names}
 use Rattle.resolver_model_opaque.specs.OpaqueInputs.{input_of}
 use Rattle.resolver_model_opaque.specs.OpaqueSteps.{Runs, answer_of, step_on, MayWant}
-use Rattle.resolver_model_opaque.specs.Opaque.{Failed}
+use Rattle.resolver_model.specs.declared.status.Status.TheVariants.{Failed}
 use Rattle.std.proofs.lemmas.Cmp.{eq_by_cmp_equiv}
 use Rattle.resolver_model_opaque.proofs.OpaqueKept.{inputs-lawful, demand_is_kept}
 use Rattle.resolver_model.specs.Lawful.{AnswersAlike}

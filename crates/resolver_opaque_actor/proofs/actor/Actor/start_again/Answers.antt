@@ -2,14 +2,13 @@ use Rattle.std.proofs.Common.{◌≡◌, ◌∙◌, ◌+◌, Some, ap, find, rul
 use Rattle.std.specs.Ordering.{is_eq}
 use Rattle.resolver_model_opaque.proofs.Joined.{keys-rows}
 use Rattle.resolver_types.specs.Names.{names}
-use Rattle.resolver_opaque_actor.specs.OpaqueActor.{status_of}
 use Rattle.resolver_model_opaque.proofs.OpaqueGoing.{start_again_goes, agree-staged, at-idle, goes-told}
 use Rattle.resolver_opaque_actor.proofs.actor.Actor.start_again.Goals as goal
 
 pub invariant_of-self-2 : goal.invariant_of-self-2
 invariant_of-self-2 g c = record {
   delay = c.self.invariant.delay;
-  agree = agree-staged (names g.K.Ord.cmp g.S.Ord.cmp) c.self.inside.demand c.self.inside.stages.entries c.self.invariant.agree c.self.inside.stages.next_attempt c.self.inside.delay (status_of c.self.inside.status) c.args.key _ c.ask_again.new.self.entries (ap (λ s. s.entries) c.in-Ok.ensures.ok);
+  agree = agree-staged (names g.K.Ord.cmp g.S.Ord.cmp) c.self.inside.demand c.self.inside.stages.entries c.self.invariant.agree c.self.inside.stages.next_attempt c.self.inside.delay c.self.inside.status c.args.key _ c.ask_again.new.self.entries (ap (λ s. s.entries) c.in-Ok.ensures.ok);
 }
 
 pub returns : goal.returns
@@ -19,7 +18,7 @@ returns g c =
     rw (← c.self.view_is)
     (at-idle _ _ idle (λ row found waits.
     goes-told _ c.args.effects.now.items c.tell.new.effects.items _ c.tell.result _ c.tell.ensures.told c.tell.ensures.only (λ told.
-    start_again_goes (names g.K.Ord.cmp g.S.Ord.cmp) c.self.inside.demand c.self.inside.stages.entries c.self.invariant.agree c.self.inside.stages.next_attempt c.self.inside.delay (status_of c.self.inside.status) c.args.key row c.args.effects.now.items c.tell.new.effects.items c.ask_again.new.self.entries c.in-Ok.attempt c.ask_again.new.self.next_attempt
+    start_again_goes (names g.K.Ord.cmp g.S.Ord.cmp) c.self.inside.demand c.self.inside.stages.entries c.self.invariant.agree c.self.inside.stages.next_attempt c.self.inside.delay c.self.inside.status c.args.key row c.args.effects.now.items c.tell.new.effects.items c.ask_again.new.self.entries c.in-Ok.attempt c.ask_again.new.self.next_attempt
     found waits c.in-Ok.ensures.attempt (search rules) next_is (rw c.in-Ok.ensures.attempt (ap (λ s. s.entries) c.in-Ok.ensures.ok)) told)))
 
 pub ask_again-requires-clause-own : goal.ask_again-requires-clause-own
