@@ -139,20 +139,13 @@ impl<K: Ord + Clone, V: Clone, S: Ord + Clone, Q: Predicate<K, S> + Drop> Actor<
     {
         match self.status {
             Status::Running => {}
-            Status::Ended => {
-                drop(input);
-                return Err(Fault::Ended);
-            }
-            Status::Failed => {
-                drop(input);
-                return Err(Fault::Failed);
-            }
+            Status::Ended => return Err(Fault::Ended),
+            Status::Failed => return Err(Fault::Failed),
         }
         let mut effects = Vec::new(self.alloc);
         match self.advance(input.now, input.event, &mut effects) {
             Ok(()) => Ok(effects),
             Err(fault) => {
-                drop(effects);
                 self.status = Status::Failed;
                 Err(fault)
             }
@@ -272,17 +265,10 @@ impl<K: Ord + Clone, V: Clone, S: Ord + Clone, Q: Predicate<K, S> + Drop> Actor<
             subscribers,
             ..
         } = item;
-        match self.demand.attach(&key, subscribers) {
-            Ok(Some(subscribers)) => self.start_new(key, subscribers, effects),
-            Ok(None) => {
-                drop(key);
-                Ok(())
-            }
-            Err(fault) => {
-                drop(key);
-                Err(fault)
-            }
-        }
+        let Some(subscribers) = self.demand.attach(&key, subscribers)? else {
+            return Ok(());
+        };
+        self.start_new(key, subscribers, effects)
     }
 
     fn start_new(
@@ -298,22 +284,13 @@ impl<K: Ord + Clone, V: Clone, S: Ord + Clone, Q: Predicate<K, S> + Drop> Actor<
             (attached_all S.cmp [] subscribers))
             effects.old.items effects.new.items self.new result }
     {
-        let (wanted, tracked) = match two_copies(&key) {
-            Ok(copies) => copies,
-            Err(fault) => {
-                drop((key, subscribers));
-                return Err(fault);
-            }
-        };
-        if let Err(fault) = self.demand.insert_new(wanted, subscribers) {
-            drop((key, tracked));
-            return Err(fault);
-        }
+        let wanted = key.clone()?;
+        let tracked = key.clone()?;
+        self.demand.insert_new(wanted, subscribers)?;
         match self.stages.ask(tracked) {
             Ok(attempt) => tell(effects, Effect::Start { attempt, key }),
             Err(fault) => {
                 self.demand.remove(&key);
-                drop(key);
                 Err(fault)
             }
         }
@@ -325,6 +302,7 @@ impl<K: Ord + Clone, V: Clone, S: Ord + Clone, Q: Predicate<K, S> + Drop> Actor<
             effects.old.items effects.new.items self.new result }
     {
         let emptied = self.demand.retain(keep)?;
+        // The keys of both tables are the same, also where memory is refused.
         let called_off = call_off_each(self.stages.entries(), emptied.as_slice(), effects);
         forget_each(&mut self.stages, emptied);
         called_off
@@ -345,22 +323,11 @@ impl<K: Ord + Clone, V: Clone, S: Ord + Clone, Q: Predicate<K, S> + Drop> Actor<
             effects.old.items effects.new.items self.new result }
     {
         let Some(held) = self.stages.asked_by(attempt) else {
-            drop(value);
             return Ok(());
         };
-        let key = match held.clone() {
-            Ok(key) => key,
-            Err(failed) => {
-                drop(value);
-                return Err(Fault::from(failed));
-            }
-        };
+        let key = held.clone()?;
         match value {
-            None => {
-                let waited = self.stages.wait(&key, now + self.delay);
-                drop(key);
-                waited
-            }
+            None => self.stages.wait(&key, now + self.delay),
             Some(value) => self.hand_out(key, value, effects),
         }
     }
@@ -380,29 +347,12 @@ impl<K: Ord + Clone, V: Clone, S: Ord + Clone, Q: Predicate<K, S> + Drop> Actor<
             Goes (hand_out (names K.cmp S.cmp) self.old key row.subscribers self.old.next_number
             value false) effects.old.items effects.new.items self.new result) }
     {
-        let subscribers = match self.demand.pending(&key) {
-            Ok(Some(subscribers)) => subscribers,
-            Ok(None) => unreachable!(),
-            Err(fault) => {
-                drop((key, value));
-                return Err(fault);
-            }
+        let Some(subscribers) = self.demand.pending(&key)? else {
+            unreachable!()
         };
         let delivery = Delivery { key, subscribers };
-        let (told, copy) = match copies(&delivery, &value) {
-            Ok(copies) => copies,
-            Err(failed) => {
-                drop((delivery, value));
-                return Err(Fault::from(failed));
-            }
-        };
-        let number = match self.stages.deliver(delivery, copy) {
-            Ok(number) => number,
-            Err(fault) => {
-                drop((told, value));
-                return Err(fault);
-            }
-        };
+        let (told, copy) = copies(&delivery, &value)?;
+        let number = self.stages.deliver(delivery, copy)?;
         tell(
             effects,
             Effect::Deliver {
@@ -434,39 +384,23 @@ impl<K: Ord + Clone, V: Clone, S: Ord + Clone, Q: Predicate<K, S> + Drop> Actor<
             return Ok(());
         };
         if completion.canceled {
-            drop(completion);
             return Ok(());
         }
         let Delivery { key, subscribers } = completion.delivery;
         match ruling_of(&self.stages, outcome, &key) {
             Ruling::Serve { accepted } => {
-                let rest = self.demand.remove_delivered(&key, &subscribers);
-                drop(subscribers);
-                match rest {
-                    Ok(Some(subscribers)) => {
-                        let delivery = Delivery { key, subscribers };
-                        hand_out_again(&mut self.stages, delivery, accepted, effects)
-                    }
-                    Ok(None) => {
-                        self.stages.remove(&key);
-                        drop(key);
-                        Ok(())
-                    }
-                    Err(fault) => {
-                        drop(key);
-                        Err(fault)
-                    }
-                }
+                let rest = self.demand.remove_delivered(&key, &subscribers)?;
+                let Some(subscribers) = rest else {
+                    self.stages.remove(&key);
+                    return Ok(());
+                };
+                let delivery = Delivery { key, subscribers };
+                hand_out_again(&mut self.stages, delivery, accepted, effects)
             }
-            Ruling::Retry => {
-                let waits = self.stages.wait(&key, now + self.delay);
-                drop((key, subscribers));
-                waits
-            }
+            Ruling::Retry => self.stages.wait(&key, now + self.delay),
             Ruling::Retire => {
                 self.demand.remove(&key);
                 self.stages.remove(&key);
-                drop((key, subscribers));
                 Ok(())
             }
         }
@@ -495,13 +429,7 @@ impl<K: Ord + Clone, V: Clone, S: Ord + Clone, Q: Predicate<K, S> + Drop> Actor<
             Goes (start_again (names K.cmp S.cmp) self.old key row.subscribers)
             effects.old.items effects.new.items self.new result) }
     {
-        let attempt = match self.stages.ask_again(&key) {
-            Ok(attempt) => attempt,
-            Err(fault) => {
-                drop(key);
-                return Err(fault);
-            }
-        };
+        let attempt = self.stages.ask_again(&key)?;
         tell(effects, Effect::Start { attempt, key })
     }
 
@@ -515,17 +443,6 @@ impl<K: Ord + Clone, V: Clone, S: Ord + Clone, Q: Predicate<K, S> + Drop> Actor<
         self.status = Status::Ended;
         Ok(())
     }
-}
-
-/// Two copies of a key.
-fn two_copies<K: Clone + Drop>(key: &K) -> Result<(K, K), Fault>
-    requires keys_clone { (x y : K) → K.is_clone x y → y ≡ x }
-    ensures copies { IfOk result (λ copies. copies ≡ (key.now, key.now)) }
-    ensures only { IfErr result (λ fault. fault ≡ OutOfMemory) }
-{
-    let first = key.clone()?;
-    let second = key.clone()?;
-    Ok((first, second))
 }
 
 /// One effect more.

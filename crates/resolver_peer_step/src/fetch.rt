@@ -58,30 +58,13 @@ impl<K: Ord + Clone + Drop, P: Ord + Clone + Drop, S: Ord + Clone + Drop> Parts<
             metadata,
             ..
         } = item;
-        let Ok(wanted) = key.clone() else {
-            drop((key, subscribers, metadata));
-            return Err(Fault::OutOfMemory);
-        };
-        let is_new = match self.demand.insert(wanted, subscribers) {
-            Ok(is_new) => is_new,
-            Err(fault) => {
-                drop((key, metadata));
-                return Err(fault);
-            }
-        };
+        let wanted = key.clone()?;
+        let is_new = self.demand.insert(wanted, subscribers)?;
         if !is_new {
             return aim(&mut self.fetcher, key, metadata);
         }
-        let Ok(tracked) = key.clone() else {
-            drop((key, metadata));
-            return Err(Fault::OutOfMemory);
-        };
-        match self.entries.insert_state(tracked, Start::at(now)) {
-            Ok(_) => ready(&mut self.fetcher, now, key, metadata),
-            Err(fault) => {
-                drop((key, metadata));
-                Err(fault)
-            }
-        }
+        let tracked = key.clone()?;
+        self.entries.insert_state(tracked, Start::at(now))?;
+        ready(&mut self.fetcher, now, key, metadata)
     }
 }

@@ -98,20 +98,8 @@ fn hand_out<K: Ord + Clone + Drop, P: Clone + Drop, S: Clone + Drop>(
     ensures room { OnOk result (entries.old.next < 2 ^ 64) }
     ensures only { IfErr result (IsRefusal entries.old.next) }
 {
-    let (told, copy) = match copies(&delivery, &value) {
-        Ok(copies) => copies,
-        Err(failed) => {
-            drop((delivery, source, value));
-            return Err(Fault::from(failed));
-        }
-    };
-    let number = match entries.deliver(delivery, source, copy) {
-        Ok(number) => number,
-        Err(fault) => {
-            drop((told, value));
-            return Err(fault);
-        }
-    };
+    let (told, copy) = copies(&delivery, &value)?;
+    let number = entries.deliver(delivery, source, copy)?;
     effects.push(Effect::Deliver {
         number,
         response: number,

@@ -116,34 +116,23 @@ impl<K: Ord + Clone + Drop, P: Ord + Clone + Drop, S: Ord + Clone + Drop> Parts<
         let Delivery { key, subscribers } = delivery;
         match rule_on(outcome, accepted) {
             Ruling::Serve { accepted } => {
-                let rest = match self.demand.remove_delivered(&key, &subscribers) {
-                    Ok(rest) => rest,
-                    Err(fault) => {
-                        drop((key, subscribers));
-                        return Err(fault);
-                    }
-                };
-                drop(subscribers);
+                let rest = self.demand.remove_delivered(&key, &subscribers)?;
                 let Some(subscribers) = rest else {
                     count_retired(&mut metrics.fetch, accepted, outcome);
                     self.forget(&key);
-                    drop(key);
                     return Ok(());
                 };
                 let delivery = Delivery { key, subscribers };
                 hand_out_again(&mut self.entries, delivery, accepted, effects)
             }
             Ruling::Retry => {
-                drop(subscribers);
                 self.entries.discard_response(&key);
                 self.fetcher.add_retry(key, now)
             }
             Ruling::Retire => {
-                drop(subscribers);
                 count_retired(&mut metrics.fetch, accepted, outcome);
                 self.demand.remove(&key);
                 self.forget(&key);
-                drop(key);
                 Ok(())
             }
         }
@@ -208,15 +197,15 @@ fn account<K: Ord + Drop, P: Ord + Drop, S: Drop>(
         ≡ judged accepted outcome metrics.old.fetch) }
     ensures only { IfErr result (λ fault. fault ≡ OutOfMemory) }
 {
-    let Some(outcome) = outcome else {
-        return Ok(());
-    };
     if accepted {
-        if outcome == Outcome::Invalid {
+        if let Some(Outcome::Invalid) = outcome {
             raise(&mut metrics.fetch.failure, 1);
         }
         return Ok(());
     }
+    let Some(outcome) = outcome else {
+        return Ok(());
+    };
     match outcome {
         Outcome::Resolved(_) => {
             raise(&mut metrics.fetch.success, 1);

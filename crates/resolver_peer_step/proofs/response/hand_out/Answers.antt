@@ -10,28 +10,22 @@ deliver-requires-clause-contexts_clone g c = λ x y is.
     ∙ ap (λ bytes. record x { bytes = bytes }) is.1.1
 
 pub returns-clause-told : goal.returns-clause-told
-returns-clause-told g c = c.in_ok-push.ensures.items ∙ rw (c.in-Ok-deliver.ensures.number, ap (λ copies. copies.0) c.in-Ok.ensures) refl
+returns-clause-told g c = c.in_ok-push.ensures.items ∙ rw (c.in_ok-number.ensures.number, ap (λ copies. copies.0) c.in_ok-told.ensures) refl
 
 pub returns-clause-ok : goal.returns-clause-ok
-returns-clause-ok g c = c.in-Ok-deliver.ensures.ok ∙ rw (ap (λ copies. copies.1) c.in-Ok.ensures) refl
-
-pub returns-in-Err-clause-only : goal.returns-in-Err-clause-only
-returns-in-Err-clause-only g c = rw c.from.ensures tt
-
-pub returns-in-Err-deliver-clause-only : goal.returns-in-Err-deliver-clause-only
-returns-in-Err-deliver-clause-only g c = rw c.in-Err-deliver.ensures.only (refusal-is c.args.entries.now.next)
+returns-clause-ok g c = c.in_ok-number.ensures.ok ∙ rw (ap (λ copies. copies.1) c.in_ok-told.ensures) refl
 
 pub returns-in_err-push-clause-told : goal.returns-in_err-push-clause-told
-returns-in_err-push-clause-told g c = refused c.from_residual.result _ _ c.from_residual.ensures.1
+returns-in_err-push-clause-told g c = refused c.from_residual-in_err-push.result _ _ c.from_residual-in_err-push.ensures.1
 
 pub returns-in_err-push-clause-ok : goal.returns-in_err-push-clause-ok
-returns-in_err-push-clause-ok g c = refused c.from_residual.result _ _ c.from_residual.ensures.1
+returns-in_err-push-clause-ok g c = refused c.from_residual-in_err-push.result _ _ c.from_residual-in_err-push.ensures.1
 
 pub returns-in_err-push-clause-room : goal.returns-in_err-push-clause-room
-returns-in_err-push-clause-room g c = refused c.from_residual.result _ _ c.from_residual.ensures.1
+returns-in_err-push-clause-room g c = refused c.from_residual-in_err-push.result _ _ c.from_residual-in_err-push.ensures.1
 
 pub returns-in_err-push-clause-only : goal.returns-in_err-push-clause-only
-returns-in_err-push-clause-only g c = refused-as c.from_residual.result _ _ c.from_residual.ensures.1 (λ fault same. rw same tt)
+returns-in_err-push-clause-only g c = refused-as c.from_residual-in_err-push.result _ _ c.from_residual-in_err-push.ensures.1 (λ fault same. rw same tt)
 
 pub returns-clause-room : goal.returns-clause-room
-returns-clause-room g c = subst (λ n. n < 2 ^ 64) c.in-Ok-deliver.ensures.number (search rules)
+returns-clause-room g c = subst (λ n. n < 2 ^ 64) c.in_ok-number.ensures.number (search rules)

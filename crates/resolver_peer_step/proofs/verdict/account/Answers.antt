@@ -8,11 +8,11 @@ returns-then-accepted-clause-told g c = rw c.if-accepted.true (sym (append-nil c
 pub returns-then-accepted-clause-ok : goal.returns-then-accepted-clause-ok
 returns-then-accepted-clause-ok g c = rw c.if-accepted.true refl
 
-pub returns-in_default-clause-told : goal.returns-in_default-clause-told
-returns-in_default-clause-told g c = rw (c.if-accepted.false, c.in_default.is) (sym (append-nil c.args.effects.now.items))
+pub returns-in_default-outcome-clause-told : goal.returns-in_default-outcome-clause-told
+returns-in_default-outcome-clause-told g c = rw (c.if-accepted.false, c.in_default-outcome.is) (sym (append-nil c.args.effects.now.items))
 
-pub returns-in_default-clause-ok : goal.returns-in_default-clause-ok
-returns-in_default-clause-ok g c = rw (c.if-accepted.false, c.in_default.is) refl
+pub returns-in_default-outcome-clause-ok : goal.returns-in_default-outcome-clause-ok
+returns-in_default-outcome-clause-ok g c = rw (c.if-accepted.false, c.in_default-outcome.is) refl
 
 pub returns-in_err-push-in-Resolved-clause-told : goal.returns-in_err-push-in-Resolved-clause-told
 returns-in_err-push-in-Resolved-clause-told g c = refused c.from_residual.result _ _ c.from_residual.ensures.1

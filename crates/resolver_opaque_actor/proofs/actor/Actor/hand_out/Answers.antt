@@ -11,7 +11,7 @@ pub unreachable-requires : goal.unreachable-requires
 unreachable-requires g c =
     let idle = asked-idle _ (rw (← c.self.view_is) at c.requires.asked) in
     let asked = idle-asked (names g.K.Ord.cmp g.S.Ord.cmp) c.self.inside.demand c.self.inside.stages.entries.keys c.self.invariant.agree c.args.key idle in
-    asked-none _ asked (sym c.in-Ok-None.field-0-is ∙ c.in-Ok-None.ensures.ok)
+    asked-none _ asked (sym c.in_default.is ∙ c.in_ok-subscribers.ensures.ok)
 
 pub deliver-requires-clause-tracked : goal.deliver-requires-clause-tracked
 deliver-requires-clause-tracked g c =
@@ -30,7 +30,7 @@ deliver-requires-clause-idle g c =
 pub invariant_of-self-2 : goal.invariant_of-self-2
 invariant_of-self-2 g c = record {
   delay = c.self.invariant.delay;
-  agree = agree-delivered (names g.K.Ord.cmp g.S.Ord.cmp) c.self.inside.demand c.self.inside.stages.entries c.self.invariant.agree c.self.inside.stages.next_attempt c.self.inside.delay c.self.inside.status c.args.key c.in-Ok-Some.subscribers c.in-Ok.copies.1 c.deliver.new.self.entries (ap (λ s. s.entries) c.in-Ok-deliver.ensures.ok);
+  agree = agree-delivered (names g.K.Ord.cmp g.S.Ord.cmp) c.self.inside.demand c.self.inside.stages.entries c.self.invariant.agree c.self.inside.stages.next_attempt c.self.inside.delay c.self.inside.status c.args.key c.in-Some.subscribers _ c.deliver.new.self.entries (ap (λ s. s.entries) c.in_ok-number.ensures.ok);
 }
 
 told-is : {K V S : Type 0} (before after : List (Effect K V S)) (number : ℕ) (told delivery : Delivery K S) (value : V)
@@ -40,14 +40,14 @@ told-is before after number told delivery value put same = put ∙ ap (λ one. b
 pub returns : goal.returns
 returns g c =
     let idle = asked-idle _ (rw (← c.self.view_is) at c.requires.asked) in
-    let put = rw (ap (λ copies. copies.1) c.in-Ok.ensures) at (ap (λ s. s.entries) c.in-Ok-deliver.ensures.ok) in
-    let wanted = sym c.in-Ok-Some.ensures.ok ∙ c.in-Ok-Some.field-0-is in
-    rw (← c.self.view_is, ap (λ s. s.next_attempt) c.in-Ok-deliver.ensures.ok)
+    let put = rw (ap (λ copies. copies.1) c.in_ok-told.ensures) at (ap (λ s. s.entries) c.in_ok-number.ensures.ok) in
+    let wanted = sym c.in_ok-subscribers.ensures.ok ∙ c.in-Some.is in
+    rw (← c.self.view_is, ap (λ s. s.next_attempt) c.in_ok-number.ensures.ok)
     (at-idle _ _ idle (λ row found waits.
     goes-told _ c.args.effects.now.items c.tell.new.effects.items _ c.tell.result _ c.tell.ensures.told c.tell.ensures.only (λ told.
-    hand_out_goes (names g.K.Ord.cmp g.S.Ord.cmp) c.self.inside.demand c.self.inside.stages.entries c.self.invariant.agree c.self.inside.stages.next_attempt c.self.inside.delay c.self.inside.status c.args.key row c.in-Ok-Some.subscribers c.args.value c.args.effects.now.items c.tell.new.effects.items c.deliver.new.self.entries c.in-Ok-deliver.number
-    found wanted c.in-Ok-deliver.ensures.number (omega arith) put
-    (told-is _ _ _ _ _ _ told (ap (λ copies. copies.0) c.in-Ok.ensures)))))
+    hand_out_goes (names g.K.Ord.cmp g.S.Ord.cmp) c.self.inside.demand c.self.inside.stages.entries c.self.invariant.agree c.self.inside.stages.next_attempt c.self.inside.delay c.self.inside.status c.args.key row c.in-Some.subscribers c.args.value c.args.effects.now.items c.tell.new.effects.items c.deliver.new.self.entries c.in_ok-number.number
+    found wanted c.in_ok-number.ensures.number (omega arith) put
+    (told-is _ _ _ _ _ _ told (ap (λ copies. copies.0) c.in_ok-told.ensures)))))
 
 -- what holds of whatever is there
 of-any : {R : Type 0} (found : Option R) (P : R → Type 0) → ((row : R) → P row) → IfSome found P
@@ -58,10 +58,4 @@ pub copies-requires : goal.copies-requires
 copies-requires g c = record { keys_clone = c.requires.keys_clone; values_clone = c.requires.values_clone; subscribers_clone = c.requires.subscribers_clone }
 
 pub invariant_of-self : goal.invariant_of-self
-invariant_of-self g c = rw c.in-Err-deliver.ensures.err c.self.invariant
-
-pub returns-in-Err : goal.returns-in-Err
-returns-in-Err g c = rw c.in-Err.ensures.only (of-any _ _ (λ row. tt))
-
-pub returns-in-Err-copies : goal.returns-in-Err-copies
-returns-in-Err-copies g c = rw c.from.ensures (of-any _ _ (λ row. tt))
+invariant_of-self g c = rw c.in_err-number.ensures.err c.self.invariant

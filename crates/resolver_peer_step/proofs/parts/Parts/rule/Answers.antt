@@ -21,8 +21,8 @@ forget-requires-clause-not_asked g c =
 pub returns-in_default : goal.returns-in_default
 returns-in_default g c = λ said m h of closed.
     last-goes (parties g.K.Ord.cmp g.S.Ord.cmp g.P.Ord.cmp) g.met.K.Ord.total said c.args.self.now m h closed c.args.delivery c.args.accepted of c.args.outcome c.args.now c.in-Serve.accepted c.in-Serve.ensures
-    (sym c.in_default.is ∙ c.in-Ok.ensures.rest) c.args.effects.now.items c.forget.new.self
-    (ap (λ (e : Parts g.row.K.Denot g.row.P.Denot g.row.S.Denot). e.demand) c.forget.ensures ∙ c.in-Ok.ensures.ok)
+    (sym c.in_default.is ∙ c.in_ok-rest-in-Serve.ensures.rest) c.args.effects.now.items c.forget.new.self
+    (ap (λ (e : Parts g.row.K.Denot g.row.P.Denot g.row.S.Denot). e.demand) c.forget.ensures ∙ c.in_ok-rest-in-Serve.ensures.ok)
     (ap (λ (e : Parts g.row.K.Denot g.row.P.Denot g.row.S.Denot). e.entries) c.forget.ensures) (ap (λ (e : Parts g.row.K.Denot g.row.P.Denot g.row.S.Denot). e.fetcher) c.forget.ensures)
     (three-changed c.args.self.now c.forget.new.self _ _ _ c.forget.ensures)
 
@@ -59,8 +59,8 @@ forget-requires-in-Retire-clause-not_asked g c =
 pub returns-in-Some : goal.returns-in-Some
 returns-in-Some g c = λ said m h of closed.
     rest-goes (parties g.K.Ord.cmp g.S.Ord.cmp g.P.Ord.cmp) g.met.K.Ord.total said c.args.self.now m h closed c.args.delivery c.args.accepted of c.args.outcome c.args.now c.in-Serve.accepted c.in-Serve.ensures
-    c.in-Some.subscribers (sym c.in-Some.is ∙ c.in-Ok.ensures.rest) c.args.effects.now.items _ _ c.hand_out_again.result
-    c.in-Ok.ensures.ok c.hand_out_again.ensures.ok c.hand_out_again.ensures.told c.hand_out_again.ensures.room c.hand_out_again.ensures.only refl
+    c.in-Some.subscribers (sym c.in-Some.is ∙ c.in_ok-rest-in-Serve.ensures.rest) c.args.effects.now.items _ _ c.hand_out_again.result
+    c.in_ok-rest-in-Serve.ensures.ok c.hand_out_again.ensures.ok c.hand_out_again.ensures.told c.hand_out_again.ensures.room c.hand_out_again.ensures.only refl
 
 pub returns-in-Retry : goal.returns-in-Retry
 returns-in-Retry g c = λ said m h of closed.
