@@ -16,5 +16,6 @@ pub mod backfill;
 pub mod base;
 pub mod delivery;
 pub mod ingress;
+pub mod node;
 pub mod opaque;
 pub mod p2p;

@@ -1,0 +1,14 @@
+//! What a node lends to its engine, ready to be used: a network, sets of peers, a blocker, and
+//! predicates for `retain`.
+#![tactic(auto)]
+
+pub mod blocked;
+pub mod inbox;
+pub mod memory;
+pub mod one_set;
+pub mod predicates;
+
+pub use blocked::Blocked;
+pub use inbox::{Inbox, Sets};
+pub use memory::{Link, Weather, network};
+pub use one_set::OneSet;

@@ -1,0 +1,11 @@
+//! Tests of what a node lends to its engine.
+#![tactic(auto)]
+
+#[cfg(test)]
+mod memory;
+#[cfg(test)]
+mod peers;
+#[cfg(test)]
+mod predicates;
+#[cfg(test)]
+mod support;

@@ -1,0 +1,8 @@
+//! What ends a test.
+
+use std::process::Abort;
+
+/// Ends the test where a text isn't the one that is wanted.
+pub fn equal_texts(rt: &impl Abort, found: &str, wanted: &str) {
+    assert_eq!(rt; found, wanted);
+}
