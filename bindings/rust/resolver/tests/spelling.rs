@@ -62,7 +62,7 @@ where
         assert_core(&Event::Fetch(&[wanted]), Taken::Fetch(vec![item.clone()]));
         assert_core(&Event::Fetch(&[wanted; 3]), Taken::Fetch(vec![item; 3]));
     }
-    assert_core(&Event::Fetch(&[]), Taken::Fetch(vec![]));
+    assert_core::<N>(&Event::Fetch(&[]), Taken::Fetch(vec![]));
     let pairs = [(key, 10), (peer, u64::MAX)];
     assert_core(&Event::Retain(&pairs), Taken::Retain(pairs.to_vec()));
     let event = Event::PeerSet {
@@ -71,20 +71,20 @@ where
     };
     assert_core(&event, Taken::PeerSet(u64::MAX, peers.to_vec()));
     assert_core(&Event::Blocked(&peers), Taken::Blocked(peers.to_vec()));
-    assert_core(&Event::<N>::ActiveDue, Taken::ActiveDue);
-    assert_core(&Event::<N>::PendingDue, Taken::PendingDue);
+    assert_core(&Event::<'_, N>::ActiveDue, Taken::ActiveDue);
+    assert_core(&Event::<'_, N>::PendingDue, Taken::PendingDue);
     for outcome in OUTCOMES {
-        let event = Event::<N>::Verdict { number: 5, outcome };
+        let event: Event<'_, N> = Event::Verdict { number: 5, outcome };
         assert_core(&event, Taken::Verdict(5, outcome));
     }
     for value in [None, Some(&b""[..]), Some(b"hi")] {
-        let event = Event::<N>::Served { serve: 6, value };
+        let event: Event<'_, N> = Event::Served { serve: 6, value };
         assert_core(&event, Taken::Served(6, value.map(<[u8]>::to_vec)));
     }
     for bytes in [&b""[..], b"hi"] {
         assert_core(&Event::Net { peer, bytes }, Taken::Net(peer, bytes.to_vec()));
     }
-    assert_core(&Event::<N>::End, Taken::End);
+    assert_core(&Event::<'_, N>::End, Taken::End);
 }
 
 #[test]
@@ -109,15 +109,15 @@ fn events_of_an_actor() {
     let pairs = [(key, 10), (Name::numbered(2), 11)];
     assert_actor(&source::Event::Retain(&pairs), Taken::Retain(pairs.to_vec()));
     for value in [None, Some(&b""[..]), Some(b"hi")] {
-        let event = source::Event::<32>::Fetched { attempt: 6, value };
+        let event: source::Event<'_> = source::Event::Fetched { attempt: 6, value };
         assert_actor(&event, Taken::Fetched(6, value.map(<[u8]>::to_vec)));
     }
     for outcome in OUTCOMES {
-        let event = source::Event::<32>::Verdict { number: 5, outcome };
+        let event: source::Event<'_> = source::Event::Verdict { number: 5, outcome };
         assert_actor(&event, Taken::Verdict(5, outcome));
     }
-    assert_actor(&source::Event::<32>::RetriesDue, Taken::RetriesDue);
-    assert_actor(&source::Event::<32>::End, Taken::End);
+    assert_actor(&source::Event::<'_, 32>::RetriesDue, Taken::RetriesDue);
+    assert_actor(&source::Event::<'_, 32>::End, Taken::End);
 }
 
 #[test]
