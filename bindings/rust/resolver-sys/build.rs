@@ -9,7 +9,10 @@ const ARCHIVE: &str = "libresolver_c.a";
 fn folder() -> PathBuf {
     match env::var_os("RESOLVER_LIB") {
         Some(named) => PathBuf::from(named),
-        None => Path::new(env!("CARGO_MANIFEST_DIR")).join("../../../crates/resolver_c/out"),
+        None => {
+            let top = Path::new(env!("CARGO_MANIFEST_DIR")).ancestors().nth(3);
+            top.unwrap_or(Path::new("/")).join("crates/resolver_c/out")
+        }
     }
 }
 

@@ -25,15 +25,9 @@ static NOWHERE: u8 = 0;
 
 fn tried(block: *mut c_void) -> Tried {
     if block == null_mut() {
-        Tried {
-            is_there: false,
-            block: (&raw const NOWHERE).cast_mut().cast(),
-        }
+        Tried { is_there: false, block: (&raw const NOWHERE).cast_mut().cast() }
     } else {
-        Tried {
-            is_there: true,
-            block,
-        }
+        Tried { is_there: true, block }
     }
 }
 

@@ -88,12 +88,8 @@ unsafe extern "C" {
     /// # Safety
     ///
     /// The slot is empty. The settings can be read, so many bytes of them.
-    pub fn resolver_open(
-        slot: &mut Slot,
-        kind: u8,
-        settings: *const u8,
-        settings_len: usize,
-    ) -> u8;
+    pub fn resolver_open(slot: &mut Slot, kind: u8, settings: *const u8, settings_len: usize)
+    -> u8;
 
     /// Takes an input, and answers 0 or the number of the refusal.
     ///

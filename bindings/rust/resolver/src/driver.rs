@@ -93,14 +93,7 @@ where
 {
     /// Drives a core. What its open scan asked, if there is one, is answered before the first event.
     pub fn new(core: Core<N>, draws: D) -> Self {
-        Driver {
-            core,
-            draws,
-            scan: Scan::Untold,
-            told: Room::new(),
-            message: Vec::new(),
-            taken: 0,
-        }
+        Driver { core, draws, scan: Scan::Untold, told: Room::new(), message: Vec::new(), taken: 0 }
     }
 
     /// Feeds an event, and answers what its scan asks until it is over.
@@ -238,12 +231,7 @@ where
         match ask {
             Ask::Draw(bound) => Answer::Drawn(below(&mut self.draws, bound)),
             Ask::Check(peer) => Answer::Checked(transport.check(peer)),
-            Ask::Request {
-                peer,
-                id,
-                key,
-                priority,
-            } => {
+            Ask::Request { peer, id, key, priority } => {
                 self.message.clear();
                 let payload = Payload::Request(key);
                 let is_spelled = Message { id, payload }.write(&mut self.message).is_ok();

@@ -107,10 +107,7 @@ impl Fault {
 
     /// Whether the machine is of no more use: another one has to be opened.
     pub const fn is_fatal(self) -> bool {
-        matches!(
-            self,
-            Fault::OutOfMemory | Fault::Failed | Fault::Exhausted | Fault::Ended
-        )
+        matches!(self, Fault::OutOfMemory | Fault::Failed | Fault::Exhausted | Fault::Ended)
     }
 }
 

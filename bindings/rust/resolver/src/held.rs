@@ -30,9 +30,8 @@ impl Held {
     pub(crate) fn open(kind: u8, settings: &[u8]) -> Result<Held, Fault> {
         let mut slot = sys::Slot::EMPTY;
         // SAFETY: the slot is empty, and the settings are lent for the call.
-        let code = unsafe {
-            sys::resolver_open(&mut slot, kind, settings.as_ptr(), settings.len())
-        };
+        let code =
+            unsafe { sys::resolver_open(&mut slot, kind, settings.as_ptr(), settings.len()) };
         Fault::of(code)?;
         Ok(Held { slot })
     }

@@ -34,9 +34,7 @@ pub use fault::Fault;
 pub use machine::{Outcome, Row, Rows};
 pub use metrics::{Durations, Metrics, Tally};
 pub use name::{Name, Width};
-pub use peers::{
-    Answer, Ask, Check, Core, Deadlines, Effect, Effects, Event, Settings, Wanted,
-};
+pub use peers::{Answer, Ask, Check, Core, Deadlines, Effect, Effects, Event, Settings, Wanted};
 pub use room::Room;
 pub use source::Actor;
 pub use spelled::{Records, Subscribers};

@@ -48,10 +48,7 @@ impl<const N: usize> sealed::Sealed for Row<'_, N> {}
 
 impl<'a, const N: usize> Record<'a> for Row<'a, N> {
     fn read(reader: &mut Reader<'a>) -> Option<Self> {
-        Some(Row {
-            key: reader.name()?,
-            subscribers: reader.subscribers()?,
-        })
+        Some(Row { key: reader.name()?, subscribers: reader.subscribers()? })
     }
 }
 
@@ -68,11 +65,7 @@ pub(crate) struct Machine {
 
 impl Machine {
     pub(crate) fn open(kind: u8, settings: &[u8]) -> Result<Machine, Fault> {
-        Ok(Machine {
-            held: Held::open(kind, settings)?,
-            input: Vec::new(),
-            listed: Room::new(),
-        })
+        Ok(Machine { held: Held::open(kind, settings)?, input: Vec::new(), listed: Room::new() })
     }
 
     /// Takes the input that is spelled.

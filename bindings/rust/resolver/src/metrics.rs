@@ -62,10 +62,7 @@ fn tally(counts: sys::Tally) -> Tally {
 }
 
 fn durations(sum: sys::Durations) -> Durations {
-    Durations {
-        count: sum.count,
-        nanoseconds: u128::from(sum.low) | u128::from(sum.high) << 64,
-    }
+    Durations { count: sum.count, nanoseconds: u128::from(sum.low) | u128::from(sum.high) << 64 }
 }
 
 impl Metrics {

@@ -321,13 +321,8 @@ impl<'a, const N: usize> Record<'a> for Effect<'a, N> {
                 subscribers: reader.subscribers()?,
                 value: reader.value()?,
             },
-            4 => Effect::Cancel {
-                number: reader.number()?,
-            },
-            5 => Effect::Produce {
-                serve: reader.number()?,
-                key: reader.name()?,
-            },
+            4 => Effect::Cancel { number: reader.number()? },
+            5 => Effect::Produce { serve: reader.number()?, key: reader.name()? },
             6 => Effect::Reply {
                 priority: reader.flag()?,
                 peer: reader.name()?,
@@ -339,10 +334,7 @@ impl<'a, const N: usize> Record<'a> for Effect<'a, N> {
                 elapsed: reader.wide()?,
                 bytes: reader.number()?,
             },
-            8 => Effect::Block {
-                response: reader.number()?,
-                peer: reader.name()?,
-            },
+            8 => Effect::Block { response: reader.number()?, peer: reader.name()? },
             _ => return None,
         })
     }
@@ -413,9 +405,7 @@ where
     pub fn new(settings: &Settings<N>) -> Result<Core<N>, Fault> {
         let mut bytes = Vec::new();
         settings.spell(&mut bytes);
-        Ok(Core {
-            machine: Machine::open(Name::<N>::CORE, &bytes)?,
-        })
+        Ok(Core { machine: Machine::open(Name::<N>::CORE, &bytes)? })
     }
 
     /// Something happened at this moment, which is below 2^94 nanoseconds. A refusal has no effects.
@@ -440,11 +430,7 @@ where
     }
 
     /// Takes an input that is spelled already, as from a log.
-    pub fn step<'a>(
-        &mut self,
-        input: &[u8],
-        room: &'a mut Room,
-    ) -> Result<Effects<'a, N>, Fault> {
+    pub fn step<'a>(&mut self, input: &[u8], room: &'a mut Room) -> Result<Effects<'a, N>, Fault> {
         self.machine.held.step(input)?;
         self.machine.told(room)
     }
@@ -480,10 +466,7 @@ where
     /// When the core is to be fed by itself.
     pub fn deadlines(&mut self) -> Deadlines {
         let (pending, active) = self.machine.held.deadlines();
-        Deadlines {
-            pending: moment(pending),
-            active: moment(active),
-        }
+        Deadlines { pending: moment(pending), active: moment(active) }
     }
 
     pub(crate) fn put_event(&mut self, now: Moment, event: &Event<'_, N>) {

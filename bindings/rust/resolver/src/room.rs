@@ -22,10 +22,7 @@ impl Room {
 
     /// Room for so many bytes.
     pub fn with_capacity(count: usize) -> Room {
-        Room {
-            bytes: vec![0; count],
-            used: 0,
-        }
+        Room { bytes: vec![0; count], used: 0 }
     }
 
     /// How many bytes there is room for.

@@ -130,13 +130,8 @@ impl<const N: usize> sealed::Sealed for Effect<'_, N> {}
 impl<'a, const N: usize> Record<'a> for Effect<'a, N> {
     fn read(reader: &mut Reader<'a>) -> Option<Self> {
         Some(match reader.octet()? {
-            0 => Effect::Start {
-                attempt: reader.number()?,
-                key: reader.name()?,
-            },
-            1 => Effect::Abort {
-                attempt: reader.number()?,
-            },
+            0 => Effect::Start { attempt: reader.number()?, key: reader.name()? },
+            1 => Effect::Abort { attempt: reader.number()? },
             2 => Effect::Deliver {
                 number: reader.number()?,
                 response: reader.number()?,
@@ -144,9 +139,7 @@ impl<'a, const N: usize> Record<'a> for Effect<'a, N> {
                 subscribers: reader.subscribers()?,
                 value: reader.value()?,
             },
-            3 => Effect::Cancel {
-                number: reader.number()?,
-            },
+            3 => Effect::Cancel { number: reader.number()? },
             _ => return None,
         })
     }
@@ -192,9 +185,7 @@ where
     /// An actor without demand. A key that the source has no value for is asked for again after the
     /// delay, in nanoseconds: below 2^94, or it is refused as [`Fault::Misspelled`].
     pub fn new(retry_delay: Moment) -> Result<Actor<N>, Fault> {
-        Ok(Actor {
-            machine: Machine::open(Name::<N>::ACTOR, &retry_delay.to_le_bytes())?,
-        })
+        Ok(Actor { machine: Machine::open(Name::<N>::ACTOR, &retry_delay.to_le_bytes())? })
     }
 
     /// Something happened at this moment, which is below 2^94 nanoseconds. A refusal has no effects.
@@ -210,11 +201,7 @@ where
     }
 
     /// Takes an input that is spelled already, as from a log.
-    pub fn step<'a>(
-        &mut self,
-        input: &[u8],
-        room: &'a mut Room,
-    ) -> Result<Effects<'a, N>, Fault> {
+    pub fn step<'a>(&mut self, input: &[u8], room: &'a mut Room) -> Result<Effects<'a, N>, Fault> {
         self.machine.held.step(input)?;
         self.machine.told(room)
     }

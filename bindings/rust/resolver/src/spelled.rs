@@ -168,10 +168,7 @@ impl<'a, T: Record<'a>> Records<'a, T> {
 
     /// What the machine told.
     pub(crate) fn told(bytes: &'a [u8]) -> Self {
-        Records {
-            reader: Reader { rest: bytes },
-            of: PhantomData,
-        }
+        Records { reader: Reader { rest: bytes }, of: PhantomData }
     }
 
     /// The bytes of what wasn't read yet.

@@ -52,20 +52,13 @@ fn opened() -> (Driver<Seeded>, Noted, Room) {
 }
 
 fn wanted(key: u64) -> Wanted<'static> {
-    Wanted {
-        key: Name::numbered(key),
-        subscribers: &[(10, 7)],
-        targets: None,
-    }
+    Wanted { key: Name::numbered(key), subscribers: &[(10, 7)], targets: None }
 }
 
 /// The id and the key of a request.
 fn request(bytes: &[u8]) -> (u64, Name) {
     match Message::read(bytes).unwrap() {
-        Message {
-            id,
-            payload: Payload::Request(key),
-        } => (id, key),
+        Message { id, payload: Payload::Request(key) } => (id, key),
         other => panic!("no request: {other:?}"),
     }
 }
@@ -89,17 +82,9 @@ fn a_key_is_asked_for_and_comes() {
     let event = Event::Net { peer, bytes: &bytes };
     let told: Vec<_> = driver.feed(20, &event, &mut noted, &mut room).unwrap().collect();
     assert!(matches!(told[..], [Effect::Deliver { number: 0, value: b"hi", .. }]));
-    let event = Event::Verdict {
-        number: 0,
-        outcome: Some(Outcome::Complete),
-    };
+    let event = Event::Verdict { number: 0, outcome: Some(Outcome::Complete) };
     let told: Vec<_> = driver.feed(20, &event, &mut noted, &mut room).unwrap().collect();
-    let credit = Effect::Credit {
-        response: 0,
-        peer,
-        elapsed: 20,
-        bytes: 2,
-    };
+    let credit = Effect::Credit { response: 0, peer, elapsed: 20, bytes: 2 };
     assert_eq!(told, [credit]);
     assert_eq!(driver.rows(&mut room).unwrap().count(), 0);
 }
@@ -261,11 +246,7 @@ fn value(key: &Name) -> [u8; 8] {
 
 impl Node {
     fn new(me: u64) -> Node {
-        let settings = Settings {
-            me: Some(Name::numbered(me)),
-            peer_limit: 4,
-            ..SETTINGS
-        };
+        let settings = Settings { me: Some(Name::numbered(me)), peer_limit: 4, ..SETTINGS };
         Node {
             driver: Driver::new(Core::new(&settings).unwrap(), Seeded::new(me)),
             room: Room::new(),

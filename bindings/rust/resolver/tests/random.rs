@@ -23,12 +23,7 @@ struct Author {
 
 impl Author {
     fn new(seed: u64) -> Author {
-        Author {
-            seeded: Seeded::new(seed),
-            now: 0,
-            index: 0,
-            numbers: 4,
-        }
+        Author { seeded: Seeded::new(seed), now: 0, index: 0, numbers: 4 }
     }
 
     fn below(&mut self, bound: u64) -> u64 {
@@ -103,11 +98,8 @@ impl Author {
         let subscribers = self.subscribers();
         let targets = (self.below(3) == 0).then(|| self.names(1));
         let (key, other) = (self.name(8), self.name(8));
-        let wanted = |key: Name<N>| Wanted {
-            key,
-            subscribers: &subscribers,
-            targets: targets.as_deref(),
-        };
+        let wanted =
+            |key: Name<N>| Wanted { key, subscribers: &subscribers, targets: targets.as_deref() };
         Event::Fetch(&[wanted(key), wanted(other)]).spell(self.now, out);
     }
 

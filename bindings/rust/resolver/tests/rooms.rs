@@ -10,10 +10,8 @@ fn told(slot: &mut sys::Slot) {
     let opened = unsafe { sys::resolver_open(slot, 1, delay.as_ptr(), delay.len()) };
     assert_eq!(opened, 0);
     let mut input = Vec::new();
-    let wanted = |key| source::Wanted {
-        key: Name::<32>::numbered(key),
-        subscribers: &[(10, 7), (11, 8)],
-    };
+    let wanted =
+        |key| source::Wanted { key: Name::<32>::numbered(key), subscribers: &[(10, 7), (11, 8)] };
     source::Event::Fetch(&[wanted(1), wanted(2)]).spell(0, &mut input);
     // SAFETY: the slot has a machine, and the input is lent for the call.
     let taken = unsafe { sys::resolver_step(slot, input.as_ptr(), input.len()) };
@@ -73,10 +71,7 @@ fn a_slot_is_used_again() {
 #[test]
 fn rooms_of_every_size() {
     let mut actor: Actor = Actor::new(100).unwrap();
-    let wanted = source::Wanted {
-        key: Name::numbered(1),
-        subscribers: &[(10, 7)],
-    };
+    let wanted = source::Wanted { key: Name::numbered(1), subscribers: &[(10, 7)] };
     let event = source::Event::Fetch(&[wanted]);
     let told = actor.happens(0, &event, &mut Room::new()).unwrap().bytes().to_vec();
     assert_eq!(told.len(), 41);
@@ -129,11 +124,7 @@ fn lists_that_may_not_be_empty() {
     let mut room = Room::new();
     let key = Name::numbered(1);
     for (subscribers, targets) in [(&[][..], None), (&[(1, 1)][..], Some(&[][..]))] {
-        let wanted = Wanted {
-            key,
-            subscribers,
-            targets,
-        };
+        let wanted = Wanted { key, subscribers, targets };
         let refused = core.happens(0, &Event::Fetch(&[wanted]), &mut room).map(drop);
         assert_eq!(refused, Err(Fault::Misspelled));
     }
@@ -145,11 +136,7 @@ fn lists_that_may_not_be_empty() {
 fn a_machine_goes_to_another_thread() {
     let mut core: Core = Core::new(&Settings::default()).unwrap();
     let mut room = Room::new();
-    let wanted = Wanted {
-        key: Name::numbered(1),
-        subscribers: &[(10, 7)],
-        targets: None,
-    };
+    let wanted = Wanted { key: Name::numbered(1), subscribers: &[(10, 7)], targets: None };
     core.happens(0, &Event::Fetch(&[wanted]), &mut room).unwrap();
     let thread = std::thread::spawn(move || {
         let mut room = Room::new();

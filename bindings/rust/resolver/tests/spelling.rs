@@ -49,26 +49,16 @@ where
     let (key, peer) = (Name::numbered(1), Name::numbered(u64::MAX));
     let peers = [peer, Name::numbered(3)];
     for targets in [None, Some(&peers[..])] {
-        let wanted = Wanted {
-            key,
-            subscribers: &SUBSCRIBERS,
-            targets,
-        };
-        let item = Item {
-            key,
-            subscribers: SUBSCRIBERS.to_vec(),
-            targets: targets.map(<[_]>::to_vec),
-        };
+        let wanted = Wanted { key, subscribers: &SUBSCRIBERS, targets };
+        let item =
+            Item { key, subscribers: SUBSCRIBERS.to_vec(), targets: targets.map(<[_]>::to_vec) };
         assert_core(&Event::Fetch(&[wanted]), Taken::Fetch(vec![item.clone()]));
         assert_core(&Event::Fetch(&[wanted; 3]), Taken::Fetch(vec![item; 3]));
     }
     assert_core::<N>(&Event::Fetch(&[]), Taken::Fetch(vec![]));
     let pairs = [(key, 10), (peer, u64::MAX)];
     assert_core(&Event::Retain(&pairs), Taken::Retain(pairs.to_vec()));
-    let event = Event::PeerSet {
-        index: u64::MAX,
-        peers: &peers,
-    };
+    let event = Event::PeerSet { index: u64::MAX, peers: &peers };
     assert_core(&event, Taken::PeerSet(u64::MAX, peers.to_vec()));
     assert_core(&Event::Blocked(&peers), Taken::Blocked(peers.to_vec()));
     assert_core(&Event::<'_, N>::ActiveDue, Taken::ActiveDue);
@@ -96,15 +86,8 @@ fn events_of_a_core() {
 #[test]
 fn events_of_an_actor() {
     let key = Name::<32>::numbered(1);
-    let wanted = source::Wanted {
-        key,
-        subscribers: &SUBSCRIBERS,
-    };
-    let item = Item {
-        key,
-        subscribers: SUBSCRIBERS.to_vec(),
-        targets: None,
-    };
+    let wanted = source::Wanted { key, subscribers: &SUBSCRIBERS };
+    let item = Item { key, subscribers: SUBSCRIBERS.to_vec(), targets: None };
     assert_actor(&source::Event::Fetch(&[wanted; 2]), Taken::Fetch(vec![item; 2]));
     let pairs = [(key, 10), (Name::numbered(2), 11)];
     assert_actor(&source::Event::Retain(&pairs), Taken::Retain(pairs.to_vec()));
@@ -169,12 +152,7 @@ fn effects_of_a_core() {
     let check = [Octet(1), Piece::Name(&peer.0)];
     assert_effect(&check, |e| e == Effect::Ask(Ask::Check(peer)));
     let request = [Octet(2), Octet(1), Piece::Name(&peer.0), Number(5), Piece::Name(&key.0)];
-    let ask = Ask::Request {
-        peer,
-        id: 5,
-        key,
-        priority: true,
-    };
+    let ask = Ask::Request { peer, id: 5, key, priority: true };
     assert_effect(&request, |e| e == Effect::Ask(ask));
     for value in [&b""[..], b"hi"] {
         let pieces = [
@@ -186,13 +164,9 @@ fn effects_of_a_core() {
             Value(value),
         ];
         assert_effect(&pieces, |effect| match effect {
-            Effect::Deliver {
-                number: 4,
-                response: 3,
-                key: named,
-                subscribers,
-                value: told,
-            } => named == key && told == value && subscribers.iter().eq(SUBSCRIBERS),
+            Effect::Deliver { number: 4, response: 3, key: named, subscribers, value: told } => {
+                named == key && told == value && subscribers.iter().eq(SUBSCRIBERS)
+            }
             _ => false,
         });
     }
@@ -200,19 +174,10 @@ fn effects_of_a_core() {
     let produce = [Octet(5), Number(9), Piece::Name(&key.0)];
     assert_effect(&produce, |e| e == Effect::Produce { serve: 9, key });
     let reply = [Octet(6), Octet(0), Piece::Name(&peer.0), Value(b"hi")];
-    let replied = Effect::Reply {
-        peer,
-        bytes: b"hi",
-        priority: false,
-    };
+    let replied = Effect::Reply { peer, bytes: b"hi", priority: false };
     assert_effect(&reply, |e| e == replied);
     let credit = [Octet(7), Number(9), Piece::Name(&peer.0), Wide(wide), Number(2)];
-    let credited = Effect::Credit {
-        response: 9,
-        peer,
-        elapsed: wide,
-        bytes: 2,
-    };
+    let credited = Effect::Credit { response: 9, peer, elapsed: wide, bytes: 2 };
     assert_effect(&credit, |e| e == credited);
     let block = [Octet(8), Number(9), Piece::Name(&peer.0)];
     assert_effect(&block, |e| e == Effect::Block { response: 9, peer });
@@ -254,10 +219,7 @@ fn rows() {
 
 /// A message is read as it is written, and no beginning of it is one.
 fn assert_message(payload: Payload<'_, 8>, rest: &[u8]) {
-    let message = Message {
-        id: 0x0102_0304_0506_0708,
-        payload,
-    };
+    let message = Message { id: 0x0102_0304_0506_0708, payload };
     let mut bytes = Vec::new();
     message.write(&mut bytes).unwrap();
     assert_eq!(bytes, [&[1, 2, 3, 4, 5, 6, 7, 8], rest].concat());

@@ -111,16 +111,8 @@ impl Front<'_> {
     fn item<const N: usize>(&mut self, has_targets: bool) -> Option<Item<N>> {
         let key = self.name()?;
         let subscribers = self.some(Self::subscriber)?;
-        let targets = if has_targets && self.flag()? {
-            Some(self.some(Self::name)?)
-        } else {
-            None
-        };
-        Some(Item {
-            key,
-            subscribers,
-            targets,
-        })
+        let targets = if has_targets && self.flag()? { Some(self.some(Self::name)?) } else { None };
+        Some(Item { key, subscribers, targets })
     }
 
     fn pair<const N: usize>(&mut self) -> Option<(Name<N>, u64)> {

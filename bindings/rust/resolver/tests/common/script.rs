@@ -5,8 +5,8 @@
 
 use resolver::source::{self, Actor};
 use resolver::{
-    Answer, Ask, Check, Core, Effect, Event, Fault, Name, Outcome, Room, Row, Settings, Subscribers,
-    Wanted, Width,
+    Answer, Ask, Check, Core, Effect, Event, Fault, Name, Outcome, Room, Row, Settings,
+    Subscribers, Wanted, Width,
 };
 use std::collections::BTreeSet;
 use std::str::Split;
@@ -123,11 +123,7 @@ fn named(subscribers: &Subscribers<'_>) -> String {
 
 fn deliver(number: u64, response: u64, key: u64, to: &Subscribers<'_>, value: &[u8]) -> String {
     let line = format!("deliver {number} {key} {} {}", named(to), hex(value));
-    if response == number {
-        line
-    } else {
-        format!("{line} again {response}")
-    }
+    if response == number { line } else { format!("{line} again {response}") }
 }
 
 fn line_of<const N: usize>(effect: Effect<'_, N>) -> String {
@@ -137,22 +133,15 @@ fn line_of<const N: usize>(effect: Effect<'_, N>) -> String {
         Effect::Ask(Ask::Request { peer, id, key, .. }) => {
             format!("request {} {id} {}", number_of(&peer), number_of(&key))
         }
-        Effect::Deliver {
-            number,
-            response,
-            key,
-            subscribers,
-            value,
-        } => deliver(number, response, number_of(&key), &subscribers, value),
+        Effect::Deliver { number, response, key, subscribers, value } => {
+            deliver(number, response, number_of(&key), &subscribers, value)
+        }
         Effect::Cancel { number } => format!("cancel {number}"),
         Effect::Produce { serve, key } => format!("produce {serve} {}", number_of(&key)),
         Effect::Reply { peer, bytes, .. } => format!("reply {} {}", number_of(&peer), hex(bytes)),
-        Effect::Credit {
-            response,
-            peer,
-            elapsed,
-            bytes,
-        } => format!("credit {response} {} {elapsed} {bytes}", number_of(&peer)),
+        Effect::Credit { response, peer, elapsed, bytes } => {
+            format!("credit {response} {} {elapsed} {bytes}", number_of(&peer))
+        }
         Effect::Block { response, peer } => format!("block {response} {}", number_of(&peer)),
     }
 }
@@ -161,13 +150,9 @@ fn line_of_actor<const N: usize>(effect: source::Effect<'_, N>) -> String {
     match effect {
         source::Effect::Start { attempt, key } => format!("start {attempt} {}", number_of(&key)),
         source::Effect::Abort { attempt } => format!("abort {attempt}"),
-        source::Effect::Deliver {
-            number,
-            response,
-            key,
-            subscribers,
-            value,
-        } => deliver(number, response, number_of(&key), &subscribers, value),
+        source::Effect::Deliver { number, response, key, subscribers, value } => {
+            deliver(number, response, number_of(&key), &subscribers, value)
+        }
         source::Effect::Cancel { number } => format!("cancel {number}"),
     }
 }
@@ -216,9 +201,7 @@ where
     }
 
     fn step(&mut self, word: &str, fields: &mut Fields<'_>) -> Vec<String> {
-        let Player {
-            machine, now, room, ..
-        } = self;
+        let Player { machine, now, room, .. } = self;
         match machine.as_mut().expect("a machine") {
             Machine::Core(core) => step_core(core, *now, room, word, fields),
             Machine::Actor(actor) => step_actor(actor, *now, room, word, fields),
@@ -242,7 +225,8 @@ where
     /// The plan wants those of these keys that it didn't want.
     fn want(&mut self, keys: &[u64]) -> Vec<String> {
         let plan = self.plan.as_ref().expect("a plan");
-        let new: BTreeSet<u64> = keys.iter().copied().filter(|k| !plan.wanted.contains(k)).collect();
+        let new: BTreeSet<u64> =
+            keys.iter().copied().filter(|k| !plan.wanted.contains(k)).collect();
         let subscribers = [(plan.subscriber, plan.mark)];
         if new.is_empty() {
             return Vec::new();
@@ -259,13 +243,8 @@ where
         let names = keys.iter().map(|key| Name::numbered(*key));
         match self.machine.as_mut().expect("a machine") {
             Machine::Core(core) => {
-                let items: Vec<Wanted<'_, N>> = names
-                    .map(|key| Wanted {
-                        key,
-                        subscribers,
-                        targets: None,
-                    })
-                    .collect();
+                let items: Vec<Wanted<'_, N>> =
+                    names.map(|key| Wanted { key, subscribers, targets: None }).collect();
                 let event = Event::Fetch(&items);
                 printed(core.happens(self.now, &event, &mut self.room), line_of)
             }
@@ -281,7 +260,8 @@ where
     /// The plan wants these keys no more: pairs that leave, by one retain.
     fn done(&mut self, keys: &[u64]) -> Vec<String> {
         let plan = self.plan.as_ref().expect("a plan");
-        let gone: BTreeSet<u64> = keys.iter().copied().filter(|k| plan.wanted.contains(k)).collect();
+        let gone: BTreeSet<u64> =
+            keys.iter().copied().filter(|k| plan.wanted.contains(k)).collect();
         let pair = |key: &u64| (Name::numbered(*key), plan.subscriber);
         let pairs: Vec<(Name<N>, u64)> = gone.iter().map(pair).collect();
         if pairs.is_empty() {
@@ -289,7 +269,9 @@ where
         }
         let (now, room) = (self.now, &mut self.room);
         let lines = match self.machine.as_mut().expect("a machine") {
-            Machine::Core(core) => printed(core.happens(now, &Event::Retain(&pairs), room), line_of),
+            Machine::Core(core) => {
+                printed(core.happens(now, &Event::Retain(&pairs), room), line_of)
+            }
             Machine::Actor(actor) => {
                 let event = source::Event::Retain(&pairs);
                 printed(actor.happens(now, &event, room), line_of_actor)
@@ -354,11 +336,7 @@ where
             let key = fields.name();
             let subscribers = &[(fields.number(), fields.number())];
             let targets = fields.0.next().map(|list| Fields(list.split(' ')).names());
-            let wanted = Wanted {
-                key,
-                subscribers,
-                targets: targets.as_deref(),
-            };
+            let wanted = Wanted { key, subscribers, targets: targets.as_deref() };
             core.happens(now, &Event::Fetch(&[wanted]), room)
         }
         "keep-sub" => {
