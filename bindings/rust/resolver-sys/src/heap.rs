@@ -24,7 +24,7 @@ pub struct Tried {
 static NOWHERE: u8 = 0;
 
 fn tried(block: *mut c_void) -> Tried {
-    if block == null_mut() {
+    if block.is_null() {
         Tried { is_there: false, block: (&raw const NOWHERE).cast_mut().cast() }
     } else {
         Tried { is_there: true, block }
@@ -36,9 +36,20 @@ fn at_least(size: usize, align: usize) -> usize {
     if size == 0 { align } else { size }
 }
 
+/// Whether memory is refused for a test.
+fn is_refused() -> bool {
+    #[cfg(feature = "refusals")]
+    return crate::refusals::is_next();
+    #[cfg(not(feature = "refusals"))]
+    false
+}
+
 /// Tries to get a block of this size.
 #[unsafe(no_mangle)]
 extern "C" fn rattle_alloc(size: usize, align: usize) -> Tried {
+    if is_refused() {
+        return tried(null_mut());
+    }
     // SAFETY: malloc may be called with every size.
     tried(unsafe { malloc(at_least(size, align)) })
 }
@@ -56,6 +67,9 @@ unsafe extern "C" fn rattle_realloc(
     size: usize,
     align: usize,
 ) -> Tried {
+    if is_refused() {
+        return tried(null_mut());
+    }
     // SAFETY: the block is one of malloc's, by what is asked of the caller.
     tried(unsafe { realloc(block, at_least(size, align)) })
 }

@@ -8,6 +8,8 @@
 #![forbid(clippy::undocumented_unsafe_blocks)]
 
 mod heap;
+#[cfg(feature = "refusals")]
+pub mod refusals;
 
 use core::ffi::c_void;
 use core::ptr::null_mut;

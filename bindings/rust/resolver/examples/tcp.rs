@@ -122,7 +122,7 @@ impl Node {
         }
         self.store.insert(key, block.to_vec());
         self.next.push(Next::Verdict(number, Outcome::Complete));
-        if self.store.len() % 200 == 0 {
+        if self.store.len().is_multiple_of(200) {
             println!("{:?}: {} blocks", self.started.elapsed(), self.store.len());
         }
     }
