@@ -60,9 +60,9 @@ pub struct Durations {
     /// How often it was measured.
     pub count: u64,
     /// The low 64 bits of the sum, in nanoseconds.
-    pub low: u64,
+    pub nanoseconds_low: u64,
     /// The high 64 bits.
-    pub high: u64,
+    pub nanoseconds_high: u64,
 }
 
 /// What a core counts. What each number is of is said at `resolver::Metrics`.

@@ -19,8 +19,9 @@ pub(crate) struct Held {
 }
 
 // SAFETY: what the slot points to is the machine alone, in memory of malloc, which any thread may use and
-// free. The archive asks `Send` of the machine's type, in a function that `resolver_open` calls, so Rattle's
-// own check refuses a machine that may not go to another thread. Every call takes the slot by `&mut`.
+// free. That a machine may go to another thread is stated in Rattle: `resolver_open` hands each one through
+// `fn sent<T: Send>(it: T) -> T` (crates/resolver_c/src/opening.rt), so its check refuses a machine that may
+// not. Every call takes the slot by `&mut`.
 unsafe impl Send for Held {}
 
 type Lists = unsafe extern "C" fn(&mut sys::Slot, *mut u8, usize, &mut usize) -> u8;

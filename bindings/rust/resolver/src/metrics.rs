@@ -62,7 +62,8 @@ fn tally(counts: sys::Tally) -> Tally {
 }
 
 fn durations(sum: sys::Durations) -> Durations {
-    Durations { count: sum.count, nanoseconds: u128::from(sum.low) | u128::from(sum.high) << 64 }
+    let high = u128::from(sum.nanoseconds_high) << 64;
+    Durations { count: sum.count, nanoseconds: high | u128::from(sum.nanoseconds_low) }
 }
 
 impl Metrics {

@@ -17,13 +17,51 @@ struct Author {
     seeded: Seeded,
     now: u128,
     index: u64,
-    /// Numbers of deliveries, serves, attempts and requests below this one may be open.
-    numbers: u64,
+    /// Peers that were asked last, with the ids.
+    requests: Vec<(u64, u64)>,
+    /// The last deliveries.
+    deliveries: Vec<u64>,
+    /// The last requests of peers, or attempts of an actor.
+    serves: Vec<u64>,
+}
+
+/// Adds one that may be open, and forgets the oldest.
+fn remember<T>(list: &mut Vec<T>, one: T) {
+    if list.len() == 8 {
+        list.remove(0);
+    }
+    list.push(one);
 }
 
 impl Author {
     fn new(seed: u64) -> Author {
-        Author { seeded: Seeded::new(seed), now: 0, index: 0, numbers: 4 }
+        Author {
+            seeded: Seeded::new(seed),
+            now: 0,
+            index: 0,
+            requests: Vec::new(),
+            deliveries: Vec::new(),
+            serves: Vec::new(),
+        }
+    }
+
+    /// An effect that can be answered.
+    fn note<const N: usize>(&mut self, effect: &Effect<'_, N>) {
+        match effect {
+            Effect::Ask(Ask::Request { peer, id, .. }) => {
+                let last = peer.0.last_chunk().expect("eight bytes");
+                remember(&mut self.requests, (u64::from_be_bytes(*last), *id));
+            }
+            Effect::Deliver { number, .. } => remember(&mut self.deliveries, *number),
+            Effect::Produce { serve, .. } => remember(&mut self.serves, *serve),
+            _ => {}
+        }
+    }
+
+    /// One of a list, or any number of a few.
+    fn one_of(&mut self, list: &[u64]) -> u64 {
+        let at = self.below(list.len() as u64 + 1) as usize;
+        list.get(at).copied().unwrap_or(at as u64)
     }
 
     fn below(&mut self, bound: u64) -> u64 {
@@ -63,12 +101,6 @@ impl Author {
         (0..count).map(|_| self.seeded.word() as u8).collect()
     }
 
-    /// A number of something that may be open: one of the latest.
-    fn number(&mut self) -> u64 {
-        let back = self.below(6);
-        self.numbers.saturating_sub(back)
-    }
-
     fn outcome(&mut self) -> Option<Outcome> {
         match self.below(8) {
             0 => Some(Outcome::Partial),
@@ -80,15 +112,21 @@ impl Author {
         }
     }
 
-    /// A message, mostly one that answers a late request or asks for a key.
-    fn message(&mut self) -> Vec<u8> {
-        let id = self.number();
-        match self.below(6) {
+    /// A peer and its message, mostly one that answers a late request.
+    fn message<const N: usize>(&mut self) -> (Name<N>, Vec<u8>)
+    where
+        Name<N>: Width,
+    {
+        let at = self.below(self.requests.len() as u64 + 2) as usize;
+        let (peer, id) = self.requests.get(at).copied().unwrap_or((3, at as u64));
+        let key = self.name::<N>(8);
+        let bytes = match self.below(8) {
             0 => self.bytes(),
             1 => [&id.to_be_bytes()[..], &[2]].concat(),
-            2 => [&id.to_be_bytes()[..], &[0], &Name::<32>::numbered(1).0].concat(),
+            2 => [&id.to_be_bytes()[..], &[0], &key.0].concat(),
             _ => [&id.to_be_bytes()[..], &[1, 2, 104, 105]].concat(),
-        }
+        };
+        (Name::numbered(peer), bytes)
     }
 
     fn fetch<const N: usize>(&mut self, out: &mut Vec<u8>)
@@ -118,21 +156,27 @@ impl Author {
                 let (index, peers) = (self.index, self.names::<N>(3));
                 Event::PeerSet { index, peers: &peers }.spell(now, out);
             }
-            6 => Event::Blocked(&self.names::<N>(0)[..]).spell(now, out),
+            6 => {
+                let blocked = self.names::<N>(0);
+                let count = blocked.len().min(self.below(2) as usize);
+                Event::Blocked(&blocked[..count]).spell(now, out);
+            }
             7 => Event::<'_, N>::ActiveDue.spell(now, out),
             8 => Event::<'_, N>::PendingDue.spell(now, out),
             9..11 => {
-                let (number, outcome) = (self.number(), self.outcome());
+                let (open, outcome) = (self.deliveries.clone(), self.outcome());
+                let number = self.one_of(&open);
                 let event: Event<'_, N> = Event::Verdict { number, outcome };
                 event.spell(now, out);
             }
             11 => {
-                let (serve, value) = (self.number(), Some(&b"hi"[..]));
+                let open = self.serves.clone();
+                let (serve, value) = (self.one_of(&open), Some(&b"hi"[..]));
                 let event: Event<'_, N> = Event::Served { serve, value };
                 event.spell(now, out);
             }
             _ => {
-                let (peer, bytes) = (self.name::<N>(6), self.message());
+                let (peer, bytes) = self.message::<N>();
                 Event::Net { peer, bytes: &bytes }.spell(now, out);
             }
         }
@@ -147,10 +191,7 @@ impl Author {
             (_, Ask::Draw(bound)) => Answer::Drawn(u128::from(self.seeded.word() % 97) % bound),
             (2, Ask::Check(_)) => Answer::Checked(Check::Until(until)),
             (_, Ask::Check(_)) => Answer::Checked(Check::Clear),
-            (_, Ask::Request { id, .. }) => {
-                self.numbers = *id;
-                Answer::Sent(self.below(8) > 0)
-            }
+            (_, Ask::Request { .. }) => Answer::Sent(self.below(8) > 0),
         }
     }
 
@@ -167,13 +208,15 @@ impl Author {
             4 => source::Event::Retain(&self.pairs::<32>()).spell(now, out),
             5 => source::Event::<'_, 32>::RetriesDue.spell(now, out),
             6..9 => {
-                let (attempt, bytes) = (self.number(), self.bytes());
+                let (open, bytes) = (self.serves.clone(), self.bytes());
+                let attempt = self.one_of(&open);
                 let value = (self.below(3) > 0).then_some(&bytes[..]);
                 let event: source::Event<'_> = source::Event::Fetched { attempt, value };
                 event.spell(now, out);
             }
             _ => {
-                let (number, outcome) = (self.number(), self.outcome());
+                let (open, outcome) = (self.deliveries.clone(), self.outcome());
+                let number = self.one_of(&open);
                 let event: source::Event<'_> = source::Event::Verdict { number, outcome };
                 event.spell(now, out);
             }
@@ -221,6 +264,23 @@ struct Run<const N: usize> {
     room: Room,
     ask: Option<Ask<N>>,
     refused: usize,
+    /// How often each kind of effect came.
+    kinds: [usize; 9],
+}
+
+/// The place of an effect's kind.
+fn kind<const N: usize>(effect: &Effect<'_, N>) -> usize {
+    match effect {
+        Effect::Ask(Ask::Draw(_)) => 0,
+        Effect::Ask(Ask::Check(_)) => 1,
+        Effect::Ask(Ask::Request { .. }) => 2,
+        Effect::Deliver { .. } => 3,
+        Effect::Cancel { .. } => 4,
+        Effect::Produce { .. } => 5,
+        Effect::Reply { .. } => 6,
+        Effect::Credit { .. } => 7,
+        Effect::Block { .. } => 8,
+    }
 }
 
 impl<const N: usize> Run<N>
@@ -241,6 +301,7 @@ where
             room: Room::new(),
             ask: None,
             refused: 0,
+            kinds: [0; 9],
         }
     }
 
@@ -250,6 +311,7 @@ where
             Ok(effects) => {
                 let bytes = effects.bytes().to_vec();
                 let told: Vec<Effect<'_, N>> = Records::of(&bytes).expect("effects").collect();
+                told.iter().for_each(|effect| self.kinds[kind(effect)] += 1);
                 let asks = told.iter().filter(|e| matches!(e, Effect::Ask(_))).count();
                 self.ask = match told.last() {
                     Some(Effect::Ask(ask)) => Some(*ask),
@@ -280,6 +342,13 @@ where
     }
 }
 
+/// Notes all that a step told.
+fn note_all<const N: usize>(author: &mut Author, told: &Result<Vec<u8>, Fault>) {
+    let told = told.as_deref().unwrap_or(&[]);
+    let effects: Records<'_, Effect<'_, N>> = Records::of(told).expect("effects");
+    effects.for_each(|effect| author.note(&effect));
+}
+
 /// Inputs to two cores, of which one is given bytes of another kind between any two of them: both
 /// answer alike.
 fn inputs_and_bytes<const N: usize>(seed: u64)
@@ -300,13 +369,16 @@ where
             misspelled += 1;
         }
         let wanted = plain.take(&input);
+        note_all::<N>(&mut author, &wanted);
         assert_ne!(wanted, Err(Fault::Misspelled), "{input:?}");
         assert_eq!(pestered.take(&input), wanted);
         let rows = plain.core.rows(&mut plain.room).expect("rows");
         assert_rows::<N>(rows.bytes());
     }
     println!("{STEPS} inputs, {} refused; {misspelled} that were none", plain.refused);
+    println!("effects by kind: {:?}", plain.kinds);
     assert!(misspelled > STEPS / 2 && plain.refused > 0);
+    assert!(plain.kinds.iter().all(|count| *count > 0));
 }
 
 #[test]
@@ -335,7 +407,9 @@ fn random_bytes_to_a_core() {
         match core_input::<32>(&bytes) {
             Some((_, common::Taken::End)) => continue,
             Some((now, _)) => {
-                assert_ne!(run.take(&bytes), Err(Fault::Misspelled), "{bytes:?}");
+                let taken_as = run.take(&bytes);
+                assert_ne!(taken_as, Err(Fault::Misspelled), "{bytes:?}");
+                note_all::<32>(&mut author, &taken_as);
                 author.now = author.now.max(now.unwrap_or(0) % (1 << 40));
                 taken += 1;
             }
@@ -368,8 +442,8 @@ fn random_inputs_and_bytes_of_an_actor() {
         let effects = actor.step(&input, &mut room).expect("an actor refuses none of these");
         for effect in Records::<source::Effect<'_>>::of(effects.bytes()).expect("effects") {
             match effect {
-                source::Effect::Start { attempt: number, .. }
-                | source::Effect::Deliver { number, .. } => author.numbers = number,
+                source::Effect::Start { attempt, .. } => remember(&mut author.serves, attempt),
+                source::Effect::Deliver { number, .. } => remember(&mut author.deliveries, number),
                 _ => {}
             }
         }
