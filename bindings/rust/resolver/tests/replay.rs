@@ -23,9 +23,8 @@ const LACKING: [(&str, &str); 1] = [(
 )];
 
 /// What else stands beside the transcripts, and isn't played.
-const APART: [(&str, &str); 3] = [
+const APART: [(&str, &str); 2] = [
     ("unreadable.rt", "of how lines are read, which no machine is told"),
-    ("ten_thousand_requests, ten_keys_of_three_peers", "scripts that a program writes"),
     ("unplanned", "of how lines are read"),
 ];
 
@@ -156,4 +155,67 @@ fn the_script_of_the_program() {
     let mut player = Player::<32>::default();
     let came: Vec<String> = read("stdin").lines().flat_map(|line| player.play(line)).collect();
     assert_eq!(came, read("stdout").lines().collect::<Vec<_>>());
+}
+
+/// Plays lines, which print this.
+fn assert_prints(player: &mut Player<32>, lines: &str, printed: &str) {
+    let came: Vec<String> = lines.lines().flat_map(|line| player.play(line)).collect();
+    assert_eq!(came, printed.lines().collect::<Vec<_>>(), "{lines}");
+}
+
+// A peer that asks ten thousand times has ten thousand open serves, and the last of them is answered.
+#[test]
+fn ten_thousand_requests() {
+    let mut player = Player::default();
+    assert_prints(&mut player, "p2p 9 50 10", "");
+    for serve in 0..10_000 {
+        let printed = format!("produce {serve} 123");
+        assert_prints(&mut player, "net 3 x0000000000000007007b", &printed);
+    }
+    assert_prints(&mut player, "served 9999 dropped", "reply 3 x000000000000000702");
+}
+
+/// What asks for a key under its own number as the id, where so many peers are free: the lines behind those
+/// that began the scan, and what they print with it.
+fn asked(key: usize, peer: u8, free: u8) -> (String, String) {
+    let (id, draw) = match key {
+        0 => ("drawn 0\n", "draw 18446744073709551616\n"),
+        _ => ("", ""),
+    };
+    let lines = format!("drawn 0\ndrawn 0\nchecked clear\n{id}sent accepted\n");
+    let printed = format!("draw 4\ndraw {free}\ncheck {peer}\n{draw}request {peer} {key} {key}\n");
+    (lines, printed)
+}
+
+/// Ten keys of the peers 3, 4 and 5, of which these are asked, and so many are free when each key is fetched.
+fn ten_keys(limit: usize, peers: [u8; 10], free: [u8; 10]) {
+    let mut player = Player::default();
+    assert_prints(&mut player, &format!("p2p - 50 10 {limit}\npeers 1 3,4,5"), "");
+    for key in 0..10 {
+        let (lines, printed) = match free[key] {
+            0 => (String::new(), String::new()),
+            free => asked(key, peers[key], free),
+        };
+        assert_prints(&mut player, &format!("fetch {key} 10 7\n{lines}"), &printed);
+    }
+    for (key, peer) in peers.iter().enumerate() {
+        let next = key + 3 * limit;
+        let (lines, printed) =
+            if next < 10 { asked(next, peers[next], 1) } else { (String::new(), String::new()) };
+        let lines = format!("net {peer} x{key:016x}01026869\n{lines}");
+        assert_prints(&mut player, &lines, &format!("deliver {key} {key} 10 x6869\n{printed}"));
+    }
+    for (key, peer) in peers.iter().enumerate() {
+        let printed = format!("credit {key} {peer} 0 2");
+        assert_prints(&mut player, &format!("verdict {key} complete"), &printed);
+    }
+    assert_prints(&mut player, "show", "wake none");
+}
+
+// A peer that answers is free at once, so it is the one that is asked for the next key.
+#[test]
+fn ten_keys_of_three_peers() {
+    ten_keys(1, [3, 4, 5, 3, 4, 5, 3, 4, 5, 3], [3, 2, 1, 0, 0, 0, 0, 0, 0, 0]);
+    ten_keys(2, [3, 3, 4, 4, 5, 5, 3, 3, 4, 4], [3, 3, 2, 2, 1, 1, 0, 0, 0, 0]);
+    ten_keys(3, [3, 3, 3, 4, 4, 4, 5, 5, 5, 3], [3, 3, 3, 2, 2, 2, 1, 1, 1, 0]);
 }
