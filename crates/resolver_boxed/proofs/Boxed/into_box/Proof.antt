@@ -26,7 +26,7 @@ use denote.Triple.Spec.{triple_of}
 use denote.Triple.Table.{framed}
 use denote.Triple.Walked.{Stays, stay_dropped, walk_of}
 use Rattle.std.proofs.raw_atomic.Walks.{proved_at, leaves}
-use Rattle.std.proofs.alloc.Calls.{Al, Goes-blank}
+use Rattle.std.proofs.alloc.Calls.{Goes-blank}
 use Rattle.std.proofs.VecSteps.Shapes.{after}
 use contract.BorrowLft.{◌⊑◌}
 use Rattle.std.specs.contracts.boxed.Box as whole_box
@@ -43,20 +43,20 @@ pub into_box_spec : {M : Type 1} → statement M
 into_box_spec 𝓤 𝓛 𝓜 𝓡 wired T A LT LA g d ad is_alloc ad_is =
     let H = 𝓛.H in let 𝓣 = tables 𝓤 H 𝓜 𝓡 𝓡.env in
     let ended = f.ended T A g d ad in let c = f.clauses T A g d ad 𝓛 𝓜.mem 𝓡.returns in
-    let Z : Al = record { row = A; laws = LA; g = g; d = d; drops = ad } in
+    let LP = param_laws 1 A LA in
     let B : RattleType = whole_box.the_row (param 0 T) (param 1 A) g in
-    let stayed : Stays ended.signature.params ended.kept = (stay_dropped (plain (λ _. Apart T Z)) no, tt) in
+    let stayed : Stays ended.signature.params ended.kept = (stay_dropped (plain (λ _. Apart (param 0 T) (param 1 A) LP refl g)) no, tt) in
     let args = bounded (a_type ∷ a_type ∷ []) (T, (A, tt)) (dcons d (dcons ad dnil)) in
     let fn : Fn = inst_fn args code.function in
-    proved_at 𝓛 ended stayed c 𝓜 𝓡 (Goes-blank 𝓛 2 (plain (λ _. Apart T Z)) no (λ κs x f. tt), tt) (#self args) fn (code.unfolded 𝓤 H 𝓜 𝓡 wired (T, (A, tt)) d ad) (λ z are.
+    proved_at 𝓛 ended stayed c 𝓜 𝓡 (Goes-blank 𝓛 2 (plain (λ _. Apart (param 0 T) (param 1 A) LP refl g)) no (λ κs x f. tt), tt) (#self args) fn (code.unfolded 𝓤 H 𝓜 𝓡 wired (T, (A, tt)) d ad) (λ z are.
     let b = z.0.3.0 in let p : Val = ptr_val b.at in let Post : Val → SProp 𝓤 = (walk_of 𝓛 ended stayed c).post z in
     let Run : List Val → SProp 𝓤 = λ vs. WpFn 𝓤 H 𝓣.C 𝓣.Λ fn vs Post in
     let Gives = triple_of 𝓛 (back.signature T A g d ad) (back.spec T A g d ad 𝓛 𝓜.mem 𝓡.returns) in
     let came = back.ended T A g d ad in
-    let box_lawful = (box_laws.the_row_laws (param 0 T) (param 1 A) g (param_laws 0 T LT) (param_laws 1 A LA)).lawful 𝓛 in
+    let box_lawful = (box_laws.the_row_laws (param 0 T) (param 1 A) g (param_laws 0 T LT) LP).lawful 𝓛 in
     qed 𝓛 (((‵ (flft z.0.0.0 z.0.1.0) ⊛ ‵ (flft z.0.0.1.0 z.0.1.1.0) ⊛ ‵ ftrue) ⊛ ‵ (owns (types_at ended.signature.params z.0.0) z.0.3 z.0.4))
     ∷ (raw (fact 𝓤 (z.0.0.0 ⊑ T.lives)) ⊛ raw (fact 𝓤 (z.0.0.1.0 ⊑ A.lives)) ⊛ ‵ ftrue) ∷ []) ∵
-    split ! $ move ! (1 ∷ []) $ fsplit ! $ opened T Z ! b z.0.4.0 (λ h is fits.
+    split ! $ move ! (1 ∷ []) $ fsplit ! $ opened (param 0 T) (param 1 A) LP refl g ! b z.0.4.0 (λ h is fits.
     suffices ! (Run (pair p h ∷ [])) (subst (λ (vs : List Val). ent 𝓤 (Run (pair p h ∷ [])) (Run vs)) (λ i. sym is i ++ []) (id⊢ 𝓤 _)) $
     enter ! 𝓣.C 𝓣.Λ fn (pair p h ∷ []) Post $ alloc_all ! (λ l. pass_all ! refl (pair_typed (layout A) b.at h fits, tt) $
     sets ! (of_opd ! (get_in ! (fld ! refl (stop !)) (sub ! 0 refl (whole !)))) refl (address_typed b.at) $

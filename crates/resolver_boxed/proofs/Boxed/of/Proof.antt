@@ -25,7 +25,7 @@ use denote.Triple.Spec.{triple_of}
 use denote.Triple.Table.{framed}
 use denote.Triple.Walked.{Stays, stay_dropped, walk_of}
 use Rattle.std.proofs.raw_atomic.Walks.{proved_at, leaves}
-use Rattle.std.proofs.alloc.Calls.{Al, Goes-blank}
+use Rattle.std.proofs.alloc.Calls.{Goes-blank}
 use Rattle.std.proofs.cell.Inside.{one}
 use Rattle.std.specs.contracts.boxed.Box as whole_box
 use Rattle.std.specs.contracts.boxed.Box.into_raw_with_allocator as take
@@ -47,13 +47,13 @@ of_spec 𝓤 𝓛 𝓜 𝓡 wired T A LT LA g d ad td is_alloc ad_is td_is =
     let args = bounded (a_type ∷ a_type ∷ []) (T, (A, tt)) (dcons d (dcons ad (dcons td dnil))) in
     let fn : Fn = inst_fn args code.function in
     proved_at 𝓛 ended stayed c 𝓜 𝓡 (Goes-blank 𝓛 2 (plain (λ _. B)) no (λ κs x f. tt), tt) (#self args) fn (code.unfolded 𝓤 H 𝓜 𝓡 wired (T, (A, tt)) d ad td) (λ z are.
-    let Z : Al = record { row = A; laws = LA; g = g; d = d; drops = ad } in
+    let LP = param_laws 1 A LA in
     let gone = take.ended T A g d ad td in let P : RattleType = type_at gone.signature.result z.0.0 in
     let b = z.0.3.0 in let Post : Val → SProp 𝓤 = (walk_of 𝓛 ended stayed c).post z in
     let Run : List Val → SProp 𝓤 = λ vs. WpFn 𝓤 H 𝓣.C 𝓣.Λ fn vs Post in
     let Takes = triple_of 𝓛 (take.signature T A g d ad td) (take.spec T A g d ad td 𝓛 𝓜.mem 𝓡.returns) in
     let at : List Val → Takes.Ghost = λ vs. ((z.0.0, z.0.1, z.0.2, (b, tt), (vs, tt)), tt) in
-    let v = one (layout B) z.0.4.0 (((box_laws.the_row_laws (param 0 T) (param 1 A) g (param_laws 0 T LT) (param_laws 1 A LA)).lawful 𝓛).typed b z.0.4.0 are.0) in
+    let v = one (layout B) z.0.4.0 (((box_laws.the_row_laws (param 0 T) (param 1 A) g (param_laws 0 T LT) LP).lawful 𝓛).typed b z.0.4.0 are.0) in
     qed 𝓛 (raw (Takes.pre (at z.0.4.0)) ∷ []) ∵
     rewrite ! 0 (λ (vs : List Val). raw (Takes.pre (at vs))) v.1 refl $
     suffices ! (Run (v.0 ∷ [])) (subst (λ (vs : List Val). ent 𝓤 (Run (v.0 ∷ [])) (Run vs)) (λ i. sym v.1 i ++ []) (id⊢ 𝓤 _)) $
@@ -65,15 +65,15 @@ of_spec 𝓤 𝓛 𝓜 𝓡 wired T A LT LA g d ad td is_alloc ad_is td_is =
     some (λ (ws : Lasts gone z.0.0 (b, tt)). ‵ (lasts gone z.0.0 (b, tt) ws) ⊛ raw (fact 𝓤 (r.1 ≡ b.alloc)) ⊛ ‵ (box_owns (g.dealloc_token b.alloc) (param 0 T) r.0 b.value))))) (id⊢ 𝓤 _) $
     await ! tt $ pick ! (λ r. split ! $ split ! $ move ! (2 ∷ []) $ pick ! (λ ws. split ! $ drop ! $ split ! $ heard ! _ (λ same.
     -- [the value; the tokens; the pair]
-    let new : (Apart T Z).Denot = record { at = r.0; alloc = r.1; value = b.value } in
+    let new : (Apart (param 0 T) (param 1 A) LP refl g).Denot = record { at = r.0; alloc = r.1; value = b.value } in
     rewrite ! 0 (λ (a : A.Denot). ‵ (box_owns (g.dealloc_token a) (param 0 T) r.0 b.value)) (sym same) refl $
-    move ! (2 ∷ 0 ∷ []) $ fjoin ! $ opened T Z ! new (w ∷ []) (λ h is fits.
+    move ! (2 ∷ 0 ∷ []) $ fjoin ! $ opened (param 0 T) (param 1 A) LP refl g ! new (w ∷ []) (λ h is fits.
     lands_as ! (ap only is) refl (pair_typed (layout A) r.0 h fits) $
     sets ! (of_opd ! (get_in ! (fld ! refl (stop !)) (sub ! 0 refl (whole !)))) refl (address_typed r.0) $
     sets ! (of_opd ! (get_in ! (fld ! refl (stop !)) (sub ! 1 refl (whole !)))) refl fits $
     sets ! (of_opd ! (get ! refl)) refl fits $
     sets ! (agg ! (and_then ! (get ! refl) (and_then ! (get ! refl) (no_more !)))) refl (pair_typed (layout A) r.0 h fits) $
-    made T Z ! new h $ returns ! (look_at ! 0 refl) $ free_all ! refl $
+    made (param 0 T) (param 1 A) LP refl g ! new h $ returns ! (look_at ! 0 refl) $ free_all ! refl $
     move ! (1 ∷ 0 ∷ []) $ use0 𝓛 (raw (fact 𝓤 (b.value ≡ b.value))) (fact_i 𝓤 _ (emp 𝓤) refl) $
     suffices ! _ (leaves 𝓛 ended stayed c z (pair (ptr_val r.0) h) new ((tt, (tt, tt)), tt) (tt, tt)) $
     move ! (2 ∷ 0 ∷ []) $ join ! $ nothing ! $ nothing ! $ fjoin ! $ join ! $ move ! (1 ∷ 0 ∷ []) $ join ! $ done !)))))))
