@@ -22,7 +22,7 @@ pub fn tell(machine: &Machine, out: &mut [u8], length: &mut usize) -> u8
     ensures { Tells machine.now out.old (result, out.new, length.new) }
 {
     match machine.told() {
-        Ok(bytes) => hand(bytes.as_slice(), out, length),
+        Ok(effects) => hand(effects.as_slice(), out, length),
         Err(_) => refuse(Fault::OutOfMemory, length),
     }
 }
@@ -32,7 +32,7 @@ pub fn list(machine: &Machine, out: &mut [u8], length: &mut usize) -> u8
     ensures { Lists machine.now out.old (result, out.new, length.new) }
 {
     match machine.rows() {
-        Ok(bytes) => hand(bytes.as_slice(), out, length),
+        Ok(rows) => hand(rows.as_slice(), out, length),
         Err(fault) => refuse(fault, length),
     }
 }
