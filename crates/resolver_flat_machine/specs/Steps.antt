@@ -1,11 +1,13 @@
 -- A step of a core whose inputs and effects are bytes.
-use Rattle.std.specs.Prelude.{◌≡◌, ℕ, List, [], Option, Some, None, Result, Ok, Err}
+use Rattle.std.specs.Prelude.{◌≡◌, ◌≢◌, ℕ, List, [], length, Option, Some, None, Result, Ok, Err}
 use Rattle.resolver_base.specs.declared.fault.Fault.{Fault}
+use Rattle.resolver_metrics.specs.declared.metrics.Metrics.{Metrics}
 use Rattle.resolver_fetch_scan.specs.declared.config.Config.{Config}
 use Rattle.resolver_model_peer.specs.declared.effects.Effect.{Effect}
-use Rattle.resolver_model_peer.specs.Peer.{Machine, opening}
+use Rattle.resolver_model_peer.specs.Peer.{Failed, Machine, opening}
 use Rattle.resolver_model_peer.specs.PeerRun.{Fed}
 use Rattle.resolver_peer_step.specs.EngineSteps.{Takes}
+use Rattle.resolver_peer_step.specs.Tied.{fetcher_of}
 use Rattle.resolver.specs.Matching.{Engine, Matches}
 use Rattle.resolver_flat.specs.declared.name.Name.{Name}
 use Rattle.resolver_flat.specs.declared.reading.Misread.{Misread}
@@ -53,3 +55,13 @@ pub record Begins (settings : Settings) (new : Flat) : Type 0 where
 abbrev pub Opened : List ℕ → Result Flat Misread → Type 0
 Opened bytes (Ok new) = (settings : Settings) × (whole (settings_at bytes) ≡ Some settings) × Begins settings new
 Opened bytes (Err misread) = Refuses misread (whole (settings_at bytes))
+
+-- how much a core has now, as it counts it
+pub record CountsOf (metrics : Metrics) (m : Machine Name ℕ Name) : Type 0 where
+  pub pending : metrics.fetch_pending ≡ length (fetcher_of by_names m).waiting
+  pub active : metrics.fetch_active ≡ length (fetcher_of by_names m).asked
+  pub serves : metrics.serve_processing ≡ length m.serves
+
+-- of every machine that the core is, unless it has failed
+abbrev pub Counts : Flat → Metrics → Type 0
+Counts flat metrics = (m : Machine Name ℕ Name) → Matches by_names flat.core m → m.status ≢ Failed → CountsOf metrics m

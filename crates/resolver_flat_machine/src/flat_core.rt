@@ -9,7 +9,7 @@ ghost use Rattle.resolver_flat.specs.declared.name.Name.{Name};
 ghost use Rattle.resolver_flat_machine.specs.Effects.{all_rows, all_spelled};
 ghost use Rattle.resolver_flat_machine.specs.Inputs.{by_names};
 ghost use Rattle.resolver_flat_machine.specs.Settings.{said};
-ghost use Rattle.resolver_flat_machine.specs.Steps.{Begins, Opened, Stepped};
+ghost use Rattle.resolver_flat_machine.specs.Steps.{Begins, Counts, Opened, Stepped};
 
 use crate::effects::{Told, put_all, put_rows};
 use crate::inputs::input_from;
@@ -19,6 +19,7 @@ use resolver::p2p::Core;
 use resolver_base::Fault;
 use resolver_flat::reading::whole;
 use resolver_flat::{Leaving, Misread, Name, Refusal};
+use resolver_metrics::metrics::Metrics;
 use std::alloc::{AllocError, Global};
 use std::marker::Model;
 
@@ -115,5 +116,12 @@ impl FlatCore {
             → m.status ≢ Failed → result ≡ active_deadline by_names m }
     {
         self.inner.get_active_deadline()
+    }
+    /// What the core has counted since it was made, and how many keys wait, requests have no answer and
+    /// serves are open now.
+    pub fn metrics(&self) -> Metrics
+        ensures { Counts self.now result }
+    {
+        self.inner.metrics()
     }
 }

@@ -1,13 +1,14 @@
 //! A machine that fetches from peers or from one source.
 
 ghost use Rattle.std.specs.Prelude.{◌≡◌, IfOk};
-ghost use Rattle.resolver_flat_machine.specs.Either.{Stepped, told};
+ghost use Rattle.resolver_flat_machine.specs.Either.{Counts, Expires, Lists, Opened, Stepped, Waits, told};
 
 use crate::flat_core::FlatCore;
 use resolver_base::Fault;
-use resolver_flat::Refusal;
+use resolver_flat::{Misread, Refusal};
 use resolver_flat_actor::FlatActor;
-use std::alloc::AllocError;
+use resolver_metrics::metrics::Metrics;
+use std::alloc::{AllocError, Global};
 
 /// One of both machines, and the effects of its last step.
 #[derive(Drop)]
@@ -19,6 +20,18 @@ pub enum Machine {
 }
 
 impl Machine {
+    /// A machine of this kind, with the settings that these bytes spell, all of them: 0 is a core, 1 an
+    /// actor. Other kinds are misspelled.
+    pub fn of_kind(alloc: Global, kind: u8, settings: &[u8]) -> Result<Machine, Misread>
+        ensures { Opened kind settings.now result }
+    {
+        match kind {
+            0 => Ok(Machine::Core(FlatCore::new(alloc, settings)?)),
+            1 => Ok(Machine::Actor(FlatActor::new(alloc, settings)?)),
+            _ => Err(Misread::Misspelled),
+        }
+    }
+
     /// Takes the input that these bytes spell, all of them, as the machine's own `step` does.
     pub fn step(&mut self, bytes: &[u8]) -> Result<(), Refusal>
         ensures { Stepped bytes.now self.old result self.new }
@@ -39,8 +52,11 @@ impl Machine {
         }
     }
 
-    /// Spells the demanded keys in their order, each with its subscribers.
-    pub fn rows(&self) -> Result<Vec<u8>, Fault> {
+    /// Spells the demanded keys in their order, each with its subscribers. Once a core has failed the
+    /// answer is `Failed`.
+    pub fn rows(&self) -> Result<Vec<u8>, Fault>
+        ensures { IfOk result (λ out. Lists self.now out.items) }
+    {
         match self {
             Machine::Core(core) => core.rows(),
             Machine::Actor(actor) => actor.rows(),
@@ -48,7 +64,9 @@ impl Machine {
     }
 
     /// When a scan may do something, or a waiting key is due, if a key waits.
-    pub fn pending(&self) -> Option<u128> {
+    pub fn pending(&self) -> Option<u128>
+        ensures { Waits self.now result }
+    {
         match self {
             Machine::Core(core) => core.pending(),
             Machine::Actor(actor) => actor.next_retry(),
@@ -56,9 +74,21 @@ impl Machine {
     }
 
     /// When the time of a request is over next, if there is one. An actor's has no time.
-    pub fn active(&self) -> Option<u128> {
+    pub fn active(&self) -> Option<u128>
+        ensures { Expires self.now result }
+    {
         match self {
             Machine::Core(core) => core.active(),
+            Machine::Actor(_) => None,
+        }
+    }
+
+    /// What a core has counted since it was made, and how much it has now. An actor counts nothing.
+    pub fn metrics(&self) -> Option<Metrics>
+        ensures { Counts self.now result }
+    {
+        match self {
+            Machine::Core(core) => Some(core.metrics()),
             Machine::Actor(_) => None,
         }
     }
