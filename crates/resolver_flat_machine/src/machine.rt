@@ -5,17 +5,21 @@ ghost use Rattle.resolver_flat_machine.specs.Either.{Stepped, told};
 
 use crate::flat_core::FlatCore;
 use resolver_base::Fault;
-use resolver_flat::Refusal;
+use resolver_flat::{Name, Refusal};
 use resolver_flat_actor::FlatActor;
 use std::alloc::AllocError;
 
-/// One of both machines, and the effects of its last step.
+/// One of both machines, over names of one of both sizes, and the effects of its last step.
 #[derive(Drop)]
 pub enum Machine {
-    /// Fetches from peers.
-    Core(FlatCore),
-    /// Fetches from one source.
-    Actor(FlatActor),
+    /// Fetches from peers. Names have 32 bytes.
+    Core(FlatCore<Name<32>>),
+    /// Fetches from one source. Names have 32 bytes.
+    Actor(FlatActor<Name<32>>),
+    /// Fetches from peers. Names have 8 bytes.
+    ShortCore(FlatCore<Name<8>>),
+    /// Fetches from one source. Names have 8 bytes.
+    ShortActor(FlatActor<Name<8>>),
 }
 
 impl Machine {
@@ -26,6 +30,8 @@ impl Machine {
         match self {
             Machine::Core(core) => core.step(bytes),
             Machine::Actor(actor) => actor.step(bytes),
+            Machine::ShortCore(core) => core.step(bytes),
+            Machine::ShortActor(actor) => actor.step(bytes),
         }
     }
 
@@ -36,6 +42,8 @@ impl Machine {
         match self {
             Machine::Core(core) => core.told(),
             Machine::Actor(actor) => actor.told(),
+            Machine::ShortCore(core) => core.told(),
+            Machine::ShortActor(actor) => actor.told(),
         }
     }
 
@@ -44,6 +52,8 @@ impl Machine {
         match self {
             Machine::Core(core) => core.rows(),
             Machine::Actor(actor) => actor.rows(),
+            Machine::ShortCore(core) => core.rows(),
+            Machine::ShortActor(actor) => actor.rows(),
         }
     }
 
@@ -52,6 +62,8 @@ impl Machine {
         match self {
             Machine::Core(core) => core.pending(),
             Machine::Actor(actor) => actor.next_retry(),
+            Machine::ShortCore(core) => core.pending(),
+            Machine::ShortActor(actor) => actor.next_retry(),
         }
     }
 
@@ -60,6 +72,8 @@ impl Machine {
         match self {
             Machine::Core(core) => core.active(),
             Machine::Actor(_) => None,
+            Machine::ShortCore(core) => core.active(),
+            Machine::ShortActor(_) => None,
         }
     }
 }
