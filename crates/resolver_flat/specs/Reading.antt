@@ -7,10 +7,9 @@ use Rattle.resolver_messages.specs.declared.message.FetchKey.{FetchKey}
 use Rattle.resolver_types.specs.declared.outcome.Outcome.{Outcome}
 use Rattle.resolver_types.specs.declared.outcome.Outcome.TheVariants.{Invalid, Resolved, Unresolved, Ignored}
 use Rattle.resolver_types.specs.declared.outcome.Resolution.TheVariants.{Complete, Partial}
-use Rattle.resolver_flat.specs.declared.name.Name.{Name}
 use Rattle.resolver_flat.specs.declared.reading.Misread.{Misread}
 use Rattle.resolver_flat.specs.declared.reading.Misread.TheVariants as misreads
-use Rattle.resolver_flat.specs.Naming.{read_from}
+use Rattle.resolver_flat.specs.Naming.{Shape}
 
 infixl 10 ◌>>=◌
 abbrev pub ◌>>=◌ : {A B : Type 0} → Option A → (A → Option B) → Option B
@@ -46,11 +45,11 @@ number_at w bytes = do
   chunk ← chunk_at (byte_len w) bytes
   Some (from_le_bytes w chunk.0, chunk.1)
 
--- a name of 32 bytes
-unfoldable pub name_at : Reads Name
-name_at bytes = do
-  chunk ← chunk_at 32 bytes
-  name ← read_from chunk.0
+-- a name
+unfoldable pub name_at : {K : Type 0} → Shape K → Reads K
+name_at n bytes = do
+  chunk ← chunk_at n.size bytes
+  name ← n.read_from chunk.0
   Some (name, chunk.1)
 
 -- 0 or 1
@@ -112,18 +111,18 @@ rest_at bytes = Some (bytes, [])
 abbrev pub subscriber_at : Reads (ℕ × ℕ)
 subscriber_at = both_at (number_at w64) (number_at w64)
 
-abbrev pub item_if : {M : Type 0} → Name → (subscribers : List (ℕ × ℕ)) → M → (is : Bool) → ltb 0 (length subscribers) ≡ is → Option (FetchKey Name ℕ M)
+abbrev pub item_if : {K M : Type 0} → K → (subscribers : List (ℕ × ℕ)) → M → (is : Bool) → ltb 0 (length subscribers) ≡ is → Option (FetchKey K ℕ M)
 item_if key subscribers metadata true e = Some (record { key = key; subscribers = subscribers; metadata = metadata; wanted = ltb-true 0 (length subscribers) e })
 item_if key subscribers metadata false e = None
 
 -- what is to be fetched, and for whom; for nobody is no item
-abbrev pub item_of : {M : Type 0} → Name → (subscribers : List (ℕ × ℕ)) → M → Option (FetchKey Name ℕ M)
+abbrev pub item_of : {K M : Type 0} → K → (subscribers : List (ℕ × ℕ)) → M → Option (FetchKey K ℕ M)
 item_of key subscribers metadata = item_if key subscribers metadata (ltb 0 (length subscribers)) refl
 
 -- a key, its subscribers, and what else is said
-unfoldable pub item_at : {M : Type 0} → Reads M → Reads (FetchKey Name ℕ M)
-item_at more bytes = do
-  key ← name_at bytes
+unfoldable pub item_at : {K M : Type 0} → Shape K → Reads M → Reads (FetchKey K ℕ M)
+item_at n more bytes = do
+  key ← name_at n bytes
   subscribers ← some_at subscriber_at key.1
   metadata ← more subscribers.1
   item ← item_of key.0 subscribers.0 metadata.0

@@ -3,7 +3,6 @@ use Rattle.std.specs.Prelude.{ℕ, Bool, true, false, List, [], ◌∷◌, ◌++
 use Rattle.std.specs.Int.{w64, w128, to_le_bytes}
 use Rattle.std.specs.List.{concat}
 use Rattle.resolver_types.specs.declared.delivery.Delivery.{Delivery}
-use Rattle.resolver_flat.specs.declared.name.Name.{Name}
 
 -- a number of eight bytes, the low one first
 unfoldable pub number : ℕ → List ℕ
@@ -30,9 +29,9 @@ abbrev pub subscribers : List (ℕ × ℕ) → List ℕ
 subscribers list = number (length list) ++ concat (map subscriber list)
 
 -- a key, and who wants it
-abbrev pub demanded : Name → List (ℕ × ℕ) → List ℕ
-demanded key list = key.bytes ++ subscribers list
+abbrev pub demanded : {K : Type 0} → (K → List ℕ) → K → List (ℕ × ℕ) → List ℕ
+demanded bytes_of key list = bytes_of key ++ subscribers list
 
 -- a delivery behind its numbers
-abbrev pub handed : (id response : ℕ) → Delivery Name ℕ → List ℕ
-handed id response delivery = number id ++ number response ++ demanded delivery.key delivery.subscribers
+abbrev pub handed : {K : Type 0} → (K → List ℕ) → (id response : ℕ) → Delivery K ℕ → List ℕ
+handed bytes_of id response delivery = number id ++ number response ++ demanded bytes_of delivery.key delivery.subscribers

@@ -1,5 +1,5 @@
-//! What a machine takes and tells, as bytes, piece by piece: names of 32 bytes, subscribers and
-//! marks of eight, moments, lists, values.
+//! What a machine takes and tells, as bytes, piece by piece: names of 8 or of 32 bytes, subscribers
+//! and marks of eight, moments, lists, values.
 #![tactic(auto)]
 
 pub mod leaving;
@@ -9,6 +9,6 @@ pub mod refusal;
 pub mod writing;
 
 pub use leaving::Leaving;
-pub use name::Name;
+pub use name::{FlatName, Name, Short};
 pub use reading::{Misread, Spelled};
 pub use refusal::Refusal;

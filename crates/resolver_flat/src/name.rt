@@ -1,25 +1,51 @@
-//! Names of 32 bytes, of keys and of peers.
+//! Names of keys and of peers, of a fixed number of bytes.
 
-ghost use Rattle.std.specs.Prelude.{◌≡◌, length};
+ghost use Rattle.std.specs.Prelude.{◌≡◌, ◌<◌, ◌^◌, length};
+ghost use Rattle.std.proofs.Common.{refl};
+ghost use Rattle.std.proofs.lemmas.Bool.{ltb-true};
 
 use bytes::BytesMut;
-use resolver_base::{PublicKey, Span};
+use resolver_base::{Faithful, PublicKey, Span};
 use std::alloc::AllocError;
 
-/// A name of 32 bytes, as a digest or a public key is. Names are ordered as their bytes are.
-#[derive(Clone, Copy, Debug, PartialEq, Eq, PartialOrd, Ord, Hash)]
-pub struct Name {
-    pub bytes: [u8; 32],
-    ghost sized: { length bytes ≡ 32 },
+/// What flat machines take for keys and peers: a name that is spelled by its bytes.
+pub trait FlatName: Span + PublicKey + Faithful + Copy {
+    /// The name's bytes, which are `SIZE`.
+    fn as_bytes(&self) -> &[u8]
+        ensures { result.now ≡ Self.bytes_of self.now };
 }
 
-impl Span for Name {
+/// So many bytes as a name may have that a message carries: below 2^32.
+pub trait Short<const N: usize> {
+    ghost short: { N < 2 ^ 32 };
+}
+
+impl Short<8> for [u8; 8] {
+    ghost short = { ltb-true 8 (2 ^ 32) refl };
+}
+
+impl Short<32> for [u8; 32] {
+    ghost short = { ltb-true 32 (2 ^ 32) refl };
+}
+
+/// A name of so many bytes: of 32, as a digest or a public key is, or of eight, as a number is. Names
+/// are ordered as their bytes are.
+#[derive(Clone, Copy, Debug, PartialEq, Eq, PartialOrd, Ord, Hash)]
+pub struct Name<const N: usize> {
+    pub bytes: [u8; N],
+    ghost sized: { length bytes ≡ N },
+}
+
+impl<const N: usize> Span for Name<N>
+where
+    [u8; N]: Short<N>,
+{
     ghost use Rattle.std.proofs.Common.{rules};
     ghost use Rattle.resolver_flat.specs.Naming.{own_bytes, read_from, read_is};
 
-    ghost SIZE = { 32 };
+    ghost SIZE = { N };
 
-    const SIZE: usize = 32;
+    const SIZE: usize = N;
 
     ghost bytes_of = { λ name. name.bytes };
 
@@ -30,13 +56,13 @@ impl Span for Name {
     }
 
     fn read(bytes: &[u8]) -> Option<Self> {
-        match <[u8; 32]>::try_from(bytes) {
+        match <[u8; N]>::try_from(bytes) {
             Ok(bytes) => Some(Name { bytes }),
             Err(_) => None,
         }
     }
 
-    ghost small = { Prim.search rules };
+    ghost small = { ⟦<[u8; N] as Short<N>>⟧.short };
 
     ghost sized = { λ name. name.sized };
 
@@ -45,4 +71,19 @@ impl Span for Name {
     ghost own_bytes = { own_bytes };
 }
 
-impl PublicKey for Name {}
+impl<const N: usize> PublicKey for Name<N> {}
+
+impl<const N: usize> Faithful for Name<N> {
+    ghost use Rattle.std.proofs.Common.{rules};
+
+    ghost clones = { Prim.search rules };
+}
+
+impl<const N: usize> FlatName for Name<N>
+where
+    [u8; N]: Short<N>,
+{
+    fn as_bytes(&self) -> &[u8] {
+        &self.bytes
+    }
+}

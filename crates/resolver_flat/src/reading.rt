@@ -1,11 +1,12 @@
 //! Reading from the front of bytes. Numbers lie with their low byte first.
 
-ghost use Rattle.std.specs.Prelude.{◌≡◌, ℕ, ◌+◌, ◌≤◌, ◌^◌, Option, Some, List, length, IfOk};
+ghost use Rattle.std.specs.Prelude.{◌≡◌, ℕ, Option, Some, List, length, IfOk};
 ghost use Rattle.std.specs.Int.{w32, w64, w128};
 ghost use Rattle.resolver_flat.specs.declared.reading.Misread.TheVariants.{OutOfMemory};
-ghost use Rattle.resolver_flat.specs.Reading.{Gives, both_at, chunk_at, flag_at, item_at, list_at, many_at, moment_at, name_at, nothing_at, number_at, octet_at, option_at, outcome_at, rest_at, some_at, subscriber_at, whole};
+ghost use Rattle.resolver_flat.specs.Naming.{shape};
+ghost use Rattle.resolver_flat.specs.Reading.{Gives, both_at, chunk_at, flag_at, item_at, list_at, many_at, moment_at, name_at, nothing_at, number_at, octet_at, option_at, outcome_at, rest_at, some_at, whole};
 
-use crate::name::Name;
+use crate::name::FlatName;
 use bytes::Bytes;
 use resolver_base::Moment;
 use resolver_messages::FetchKey;
@@ -55,8 +56,8 @@ impl Spelled for u64 {
     }
 }
 
-impl Spelled for Name {
-    ghost at = { name_at };
+impl<K: FlatName> Spelled for K {
+    ghost at = { name_at (shape K.SIZE K.bytes_of K.read_from K.cmp) };
 
     fn read(_: Global, bytes: &[u8]) -> Result<(Self, &[u8]), Misread> {
         name(bytes)
@@ -74,8 +75,8 @@ impl<A: Spelled + Drop, B: Spelled + Drop> Spelled for (A, B) {
     }
 }
 
-impl Spelled for FetchKey<Name, u64, ()> {
-    ghost at = { item_at nothing_at };
+impl<K: FlatName> Spelled for FetchKey<K, u64, ()> {
+    ghost at = { item_at (shape K.SIZE K.bytes_of K.read_from K.cmp) nothing_at };
 
     #[tactic(auto, unfolding(crate::specs::Reading::item_at))]
     fn read(alloc: Global, bytes: &[u8]) -> Result<(Self, &[u8]), Misread> {
@@ -90,8 +91,9 @@ impl Spelled for FetchKey<Name, u64, ()> {
     }
 }
 
-impl Spelled for FetchKey<Name, u64, Option<NonEmptyVec<Name>>> {
-    ghost at = { item_at (option_at (some_at name_at)) };
+impl<K: FlatName> Spelled for FetchKey<K, u64, Option<NonEmptyVec<K>>> {
+    ghost at = { item_at (shape K.SIZE K.bytes_of K.read_from K.cmp)
+        (option_at (some_at (name_at (shape K.SIZE K.bytes_of K.read_from K.cmp)))) };
 
     #[tactic(auto, unfolding(crate::specs::Reading::item_at))]
     fn read(alloc: Global, bytes: &[u8]) -> Result<(Self, &[u8]), Misread> {
@@ -158,12 +160,19 @@ pub fn count(bytes: &[u8]) -> Result<(u32, &[u8]), Misread>
 }
 
 /// A name.
-#[tactic(auto, unfolding(crate::specs::Reading::name_at))]
-pub fn name(bytes: &[u8]) -> Result<(Name, &[u8]), Misread>
-    ensures { Gives (λ x. (x.0, x.1.now)) result (name_at bytes.now) }
+#[tactic(auto, unfolding(crate::specs::Reading::name_at, crate::specs::Reading::chunk_at))]
+pub fn name<K: FlatName>(bytes: &[u8]) -> Result<(K, &[u8]), Misread>
+    ensures { Gives (λ x. (x.0, x.1.now)) result
+        (name_at (shape K.SIZE K.bytes_of K.read_from K.cmp) bytes.now) }
 {
-    let (name, rest) = chunk::<32>(bytes)?;
-    Ok((Name { bytes: name }, rest))
+    if bytes.len() < K::SIZE {
+        return Err(Misread::Misspelled);
+    }
+    let (front, rest) = bytes.split_at(K::SIZE);
+    match K::read(front) {
+        Some(name) => Ok((name, rest)),
+        None => Err(Misread::Misspelled),
+    }
 }
 
 /// Whether: 0 or 1, and no other byte.
@@ -237,8 +246,12 @@ pub fn some<T: Spelled + Drop>(
 
 /// Which peers may be asked, behind a flag: without them any may.
 #[tactic(auto, unfolding(crate::specs::Reading::option_at))]
-fn targets(alloc: Global, bytes: &[u8]) -> Result<(Option<NonEmptyVec<Name>>, &[u8]), Misread>
-    ensures { Gives (λ x. (x.0, x.1.now)) result (option_at (some_at name_at) bytes.now) }
+fn targets<K: FlatName>(
+    alloc: Global,
+    bytes: &[u8],
+) -> Result<(Option<NonEmptyVec<K>>, &[u8]), Misread>
+    ensures { Gives (λ x. (x.0, x.1.now)) result
+        (option_at (some_at (name_at (shape K.SIZE K.bytes_of K.read_from K.cmp))) bytes.now) }
 {
     let (named, bytes) = flag(bytes)?;
     if !named {

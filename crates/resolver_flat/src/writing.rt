@@ -4,7 +4,7 @@
 ghost use Rattle.std.specs.Prelude.{◌≡◌, ◌∷◌, ◌++◌, [], OnOk};
 ghost use Rattle.resolver_flat.specs.Spelling as spelling;
 
-use crate::name::Name;
+use crate::name::FlatName;
 use resolver_types::{Delivery, NonEmptyVec};
 use std::alloc::AllocError;
 
@@ -39,10 +39,10 @@ pub fn put_flag(out: &mut Vec<u8>, flag: bool) -> Result<(), AllocError>
 }
 
 /// Appends a name's bytes.
-pub fn put_name(out: &mut Vec<u8>, name: &Name) -> Result<(), AllocError>
-    ensures { OnOk result (out.new.items ≡ out.old.items ++ name.now.bytes) }
+pub fn put_name<K: FlatName>(out: &mut Vec<u8>, name: &K) -> Result<(), AllocError>
+    ensures { OnOk result (out.new.items ≡ out.old.items ++ K.bytes_of name.now) }
 {
-    out.extend_from_slice(&name.bytes)
+    out.extend_from_slice(name.as_bytes())
 }
 
 /// Appends bytes behind their number.
@@ -73,27 +73,28 @@ fn put_subscriber(out: &mut Vec<u8>, one: &(u64, u64)) -> Result<(), AllocError>
 }
 
 /// Appends a key, and who wants it.
-pub fn put_demanded(
+pub fn put_demanded<K: FlatName>(
     out: &mut Vec<u8>,
-    key: &Name,
+    key: &K,
     subscribers: &NonEmptyVec<(u64, u64)>,
 ) -> Result<(), AllocError>
     ensures { OnOk result
-        (out.new.items ≡ out.old.items ++ spelling.demanded key.now subscribers.now) }
+        (out.new.items ≡ out.old.items ++ spelling.demanded K.bytes_of key.now subscribers.now) }
 {
     put_name(out, key)?;
     put_subscribers(out, subscribers.as_slice())
 }
 
 /// Appends a delivery behind its number and that of its response.
-pub fn put_handed(
+pub fn put_handed<K: FlatName>(
     out: &mut Vec<u8>,
     number: u64,
     response: u64,
-    delivery: &Delivery<Name, u64>,
+    delivery: &Delivery<K, u64>,
 ) -> Result<(), AllocError>
     ensures { OnOk result
-        (out.new.items ≡ out.old.items ++ spelling.handed number response delivery.now) }
+        (out.new.items ≡ out.old.items
+        ++ spelling.handed K.bytes_of number response delivery.now) }
 {
     put_number(out, number)?;
     put_number(out, response)?;

@@ -3,12 +3,12 @@ use Rattle.std.specs.Prelude.{◌≡◌, ℕ, ◌==◌, Bool, Option, Some, None
 use Rattle.std.specs.Int.{w32}
 use Rattle.std.specs.NonZero.{non_zero_u32_get}
 use Rattle.resolver_fetch_scan.specs.declared.config.Config.{Config}
-use Rattle.resolver_flat.specs.declared.name.Name.{Name}
+use Rattle.resolver_flat.specs.Naming.{Shape}
 use Rattle.resolver_flat.specs.Reading.{◌>>=◌, Reads, flag_at, moment_at, name_at, number_at, option_at}
 use Rattle.resolver_flat_machine.specs.declared.settings.Settings.{Settings as CodeSettings}
 
-pub record Settings : Type 0 where
-  pub me : Option Name
+pub record Settings (K : Type 0) : Type 0 where
+  pub me : Option K
   pub fetch_timeout : ℕ
   pub retry_delay : ℕ
   -- 0: none
@@ -16,9 +16,9 @@ pub record Settings : Type 0 where
   pub priority_requests : Bool
   pub priority_responses : Bool
 
-unfoldable pub settings_at : Reads Settings
-settings_at bytes = do
-  me ← option_at name_at bytes
+unfoldable pub settings_at : {K : Type 0} → Shape K → Reads (Settings K)
+settings_at n bytes = do
+  me ← option_at (name_at n) bytes
   timeout ← moment_at me.1
   delay ← moment_at timeout.1
   limit ← number_at w32 delay.1
@@ -37,7 +37,7 @@ settings_at bytes = do
   )
 
 -- what the code's settings say
-abbrev pub said : CodeSettings → Settings
+abbrev pub said : {K : Type 0} → CodeSettings K → Settings K
 said settings = record {
   me = settings.me;
   fetch_timeout = settings.fetch_timeout;
@@ -48,7 +48,7 @@ said settings = record {
 }
 
 -- the configuration says what the settings say
-pub record IsSet (settings : Settings) (configuration : Config Name) : Type 0 where
+pub record IsSet {K : Type 0} (settings : Settings K) (configuration : Config K) : Type 0 where
   pub me : configuration.me ≡ settings.me
   pub timeout : configuration.fetch_timeout ≡ settings.fetch_timeout
   pub delay : configuration.retry_delay ≡ settings.retry_delay

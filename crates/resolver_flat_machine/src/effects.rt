@@ -5,22 +5,22 @@ ghost use Rattle.resolver_flat_machine.specs.Effects.{all_rows, all_spelled, ask
 
 use resolver::p2p::rows::Row;
 use resolver_fetch_scan::scan::Ask;
-use resolver_flat::Name;
+use resolver_flat::FlatName;
 use resolver_flat::writing::{
     put_demanded, put_flag, put_handed, put_name, put_number, put_octet, put_value, put_wide,
 };
 use resolver_model_peer::effects::Effect;
 use std::alloc::AllocError;
 
-/// What a core over names of 32 bytes tells.
-pub type Told = Effect<Name, Name, u64>;
+/// What a core in bytes tells.
+pub type Told<K> = Effect<K, K, u64>;
 
 /// A key that such a core is asked for.
-pub type Demanded = Row<Name, u64, Name>;
+pub type Demanded<K> = Row<K, u64, K>;
 
 /// Appends these effects, one behind the other. Where memory is wanting some may have been written.
-pub fn put_all(out: &mut Vec<u8>, effects: &[Told]) -> Result<(), AllocError>
-    ensures { OnOk result (out.new.items ≡ out.old.items ++ all_spelled effects.now) }
+pub fn put_all<K: FlatName>(out: &mut Vec<u8>, effects: &[Told<K>]) -> Result<(), AllocError>
+    ensures { OnOk result (out.new.items ≡ out.old.items ++ all_spelled K.bytes_of effects.now) }
 {
     for effect in effects {
         put_effect(out, effect)?;
@@ -29,8 +29,8 @@ pub fn put_all(out: &mut Vec<u8>, effects: &[Told]) -> Result<(), AllocError>
 }
 
 /// Appends these rows, one behind the other: the key, and its subscribers.
-pub fn put_rows(out: &mut Vec<u8>, rows: &[Demanded]) -> Result<(), AllocError>
-    ensures { OnOk result (out.new.items ≡ out.old.items ++ all_rows rows.now) }
+pub fn put_rows<K: FlatName>(out: &mut Vec<u8>, rows: &[Demanded<K>]) -> Result<(), AllocError>
+    ensures { OnOk result (out.new.items ≡ out.old.items ++ all_rows K.bytes_of rows.now) }
 {
     for row in rows {
         put_row(out, row)?;
@@ -39,14 +39,14 @@ pub fn put_rows(out: &mut Vec<u8>, rows: &[Demanded]) -> Result<(), AllocError>
 }
 
 #[tactic(auto, unfolding(crate::specs::Effects::row_spelled))]
-fn put_row(out: &mut Vec<u8>, row: &Demanded) -> Result<(), AllocError>
-    ensures { OnOk result (out.new.items ≡ out.old.items ++ row_spelled row.now) }
+fn put_row<K: FlatName>(out: &mut Vec<u8>, row: &Demanded<K>) -> Result<(), AllocError>
+    ensures { OnOk result (out.new.items ≡ out.old.items ++ row_spelled K.bytes_of row.now) }
 {
     put_demanded(out, &row.key, &row.subscribers)
 }
 
-fn put_ask(out: &mut Vec<u8>, ask: &Ask<Name, Name>) -> Result<(), AllocError>
-    ensures { OnOk result (out.new.items ≡ out.old.items ++ asked ask.now) }
+fn put_ask<K: FlatName>(out: &mut Vec<u8>, ask: &Ask<K, K>) -> Result<(), AllocError>
+    ensures { OnOk result (out.new.items ≡ out.old.items ++ asked K.bytes_of ask.now) }
 {
     match ask {
         Ask::Draw(bound) => {
@@ -72,8 +72,8 @@ fn put_ask(out: &mut Vec<u8>, ask: &Ask<Name, Name>) -> Result<(), AllocError>
     }
 }
 
-fn put_effect(out: &mut Vec<u8>, effect: &Told) -> Result<(), AllocError>
-    ensures { OnOk result (out.new.items ≡ out.old.items ++ spelled effect.now) }
+fn put_effect<K: FlatName>(out: &mut Vec<u8>, effect: &Told<K>) -> Result<(), AllocError>
+    ensures { OnOk result (out.new.items ≡ out.old.items ++ spelled K.bytes_of effect.now) }
 {
     match effect {
         Effect::Ask(ask) => put_ask(out, ask),

@@ -1,15 +1,10 @@
 //! A core whose inputs and effects are bytes.
 
-ghost use Rattle.std.specs.Prelude.{◌≡◌, ◌≢◌, ℕ, IfOk, map};
-ghost use Rattle.resolver.specs.Listed.{listed};
-ghost use Rattle.resolver.specs.Matching.{Matches};
-ghost use Rattle.resolver_model.specs.declared.status.Status.TheVariants.{Failed};
-ghost use Rattle.resolver_model_peer.specs.Peer.{Machine, active_deadline, wake_up};
-ghost use Rattle.resolver_flat.specs.declared.name.Name.{Name};
-ghost use Rattle.resolver_flat_machine.specs.Effects.{all_rows, all_spelled};
-ghost use Rattle.resolver_flat_machine.specs.Inputs.{by_names};
+ghost use Rattle.std.specs.Prelude.{◌≡◌, IfOk};
+ghost use Rattle.resolver_flat.specs.Naming.{shape};
+ghost use Rattle.resolver_flat_machine.specs.Effects.{all_spelled};
 ghost use Rattle.resolver_flat_machine.specs.Settings.{said};
-ghost use Rattle.resolver_flat_machine.specs.Steps.{Begins, Counts, Opened, Stepped};
+ghost use Rattle.resolver_flat_machine.specs.Steps.{Begins, Counts, Expires, Lists, Opened, Stepped, Waits};
 
 use crate::effects::{Told, put_all, put_rows};
 use crate::inputs::input_from;
@@ -18,32 +13,32 @@ use crate::settings::Settings;
 use resolver::p2p::Core;
 use resolver_base::Fault;
 use resolver_flat::reading::whole;
-use resolver_flat::{Leaving, Misread, Name, Refusal};
+use resolver_flat::{FlatName, Leaving, Misread, Refusal};
 use resolver_metrics::metrics::Metrics;
 use std::alloc::{AllocError, Global};
 use std::marker::Model;
 
 /// A core, and the effects of its last step, which can be told again and again.
 #[derive(Drop)]
-pub struct FlatCore {
-    inner: Core<Name, Name, u64, Leaving<Name, u64>>,
-    told: Vec<Told>,
+pub struct FlatCore<K: Ord> {
+    inner: Core<K, K, u64, Leaving<K, u64>>,
+    told: Vec<Told<K>>,
     alloc: Global,
 }
 
-impl Model for FlatCore {
+impl<K: Ord> Model for FlatCore<K> {
     ghost use Rattle.resolver_flat_machine.specs.Steps.{Flat};
 
-    ghost Value = { Flat };
+    ghost Value = { Flat K };
 
     ghost view = { λ a. record { core = a.inner; told = a.told.items } };
 }
 
-impl FlatCore {
+impl<K: FlatName> FlatCore<K> {
     /// A core without demand, that knows no peer, with the settings that these bytes spell, all of
     /// them.
     pub fn new(alloc: Global, bytes: &[u8]) -> Result<Self, Misread>
-        ensures { Opened bytes.now result }
+        ensures { Opened (shape K.SIZE K.bytes_of K.read_from K.cmp) bytes.now result }
     {
         let (settings, rest) = settings_in(bytes)?;
         let settings = whole(settings, rest)?;
@@ -51,8 +46,8 @@ impl FlatCore {
     }
 
     /// A core without demand, that knows no peer, with these settings.
-    fn with(alloc: Global, settings: Settings) -> Self
-        ensures { Begins (said settings) result }
+    fn with(alloc: Global, settings: Settings<K>) -> Self
+        ensures { Begins (shape K.SIZE K.bytes_of K.read_from K.cmp) (said settings) result }
     {
         let priority_responses = settings.priority_responses;
         FlatCore {
@@ -67,7 +62,8 @@ impl FlatCore {
     /// What is no input, and what there is no memory to read, changes nothing but the effects, which
     /// are none then, as after each refusal.
     pub fn step(&mut self, bytes: &[u8]) -> Result<(), Refusal>
-        ensures { Stepped bytes.now self.old result self.new }
+        ensures { Stepped (shape K.SIZE K.bytes_of K.read_from K.cmp) bytes.now
+            self.old result self.new }
     {
         self.told.clear();
         let input = input_from(self.alloc, bytes)?;
@@ -83,7 +79,7 @@ impl FlatCore {
     /// Spells the effects of the last step, one behind the other. Where memory is wanting they are
     /// kept, to be told later.
     pub fn told(&self) -> Result<Vec<u8>, AllocError>
-        ensures { IfOk result (λ out. out.items ≡ all_spelled self.now.told) }
+        ensures { IfOk result (λ out. out.items ≡ all_spelled K.bytes_of self.now.told) }
     {
         let mut out = Vec::new(self.alloc);
         put_all(&mut out, self.told.as_slice())?;
@@ -93,8 +89,8 @@ impl FlatCore {
     /// Spells the demanded keys in their order, each with its subscribers. Once the core has failed the
     /// answer is `Failed`.
     pub fn rows(&self) -> Result<Vec<u8>, Fault>
-        ensures { (m : Machine Name ℕ Name) → Matches by_names self.now.core m
-            → IfOk result (λ out. out.items ≡ all_rows (map listed m.rows)) }
+        ensures { IfOk result (λ out. Lists (shape K.SIZE K.bytes_of K.read_from K.cmp)
+            self.now out.items) }
     {
         let rows = self.inner.rows()?;
         let mut out = Vec::new(self.alloc);
@@ -104,23 +100,22 @@ impl FlatCore {
 
     /// When a scan may do something, if a key waits.
     pub fn pending(&self) -> Option<u128>
-        ensures { (m : Machine Name ℕ Name) → Matches by_names self.now.core m
-            → m.status ≢ Failed → result ≡ wake_up by_names m }
+        ensures { Waits (shape K.SIZE K.bytes_of K.read_from K.cmp) self.now result }
     {
         self.inner.get_pending_deadline()
     }
 
     /// When the time of a request is over next, if there is a request.
     pub fn active(&self) -> Option<u128>
-        ensures { (m : Machine Name ℕ Name) → Matches by_names self.now.core m
-            → m.status ≢ Failed → result ≡ active_deadline by_names m }
+        ensures { Expires (shape K.SIZE K.bytes_of K.read_from K.cmp) self.now result }
     {
         self.inner.get_active_deadline()
     }
+
     /// What the core has counted since it was made, and how many keys wait, requests have no answer and
     /// serves are open now.
     pub fn metrics(&self) -> Metrics
-        ensures { Counts self.now result }
+        ensures { Counts (shape K.SIZE K.bytes_of K.read_from K.cmp) self.now result }
     {
         self.inner.metrics()
     }

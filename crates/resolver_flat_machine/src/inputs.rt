@@ -1,44 +1,52 @@
 //! Inputs, as they are spelled.
 
-ghost use Rattle.std.specs.Prelude.{◌≡◌, ℕ};
-ghost use Rattle.resolver_peer_step.specs.Said.{event_of, fed_of};
+ghost use Rattle.std.specs.Prelude.{ℕ};
+ghost use Rattle.std.specs.Ordering.{nat_cmp};
+ghost use Rattle.resolver_types.specs.Names.{names};
+ghost use Rattle.resolver_peer_step.specs.Said.{codec, event_of, fed_of};
 ghost use Rattle.resolver_flat.specs.Leavings.{stays};
-ghost use Rattle.resolver_flat.specs.Naming.{by_name};
+ghost use Rattle.resolver_flat.specs.Naming.{shape};
 ghost use Rattle.resolver_flat.specs.Reading.{Gives};
-ghost use Rattle.resolver_flat_machine.specs.Inputs.{answer_at, answers_at, as_bytes, blocked_at, drawn_at, event_at, fetch_at, happens_at, input_at, input_from, net_at, peer_set_at, retain_at, sent_at, served_at, until_at, verdict_at};
+ghost use Rattle.resolver_flat_machine.specs.Inputs.{answer_at, answers_at, blocked_at, drawn_at, event_at, fetch_at, happens_at, input_at, input_from, net_at, peer_set_at, retain_at, sent_at, served_at, until_at, verdict_at};
 
 use resolver_base::Check;
 use resolver_fetch_scan::scan::Answer;
 use resolver_flat::reading::{
     flag, list, moment, name, number, octet, outcome, rest, value, whole, wide,
 };
-use resolver_flat::{Leaving, Misread, Name};
+use resolver_flat::{FlatName, Leaving, Misread};
 use resolver_model_peer::inputs::{Event, Happening, Input};
 use std::alloc::Global;
 
-/// What happens around a core over names of 32 bytes.
-pub type Happens = Event<Name, Name, u64, Leaving<Name, u64>>;
+/// What happens around a core in bytes.
+pub type Happens<K> = Event<K, K, u64, Leaving<K, u64>>;
 
 /// What such a core takes.
-pub type Taken = Input<Name, Name, u64, Leaving<Name, u64>>;
+pub type Taken<K> = Input<K, K, u64, Leaving<K, u64>>;
 
 /// Tags from this one on are answers to a scan.
 const ANSWERS: u8 = 16;
 
 /// The input that these bytes spell, all of them.
-pub fn input_from(alloc: Global, bytes: &[u8]) -> Result<Taken, Misread>
-    ensures { (moment : ℕ) → Gives (fed_of as_bytes (stays by_name) moment) result
-        (input_from moment bytes.now) }
+pub fn input_from<K: FlatName>(alloc: Global, bytes: &[u8]) -> Result<Taken<K>, Misread>
+    ensures { (moment : ℕ) → Gives
+        (fed_of (codec K.SIZE K.bytes_of K.read_from) (stays (names K.cmp nat_cmp)) moment)
+        result
+        (input_from (shape K.SIZE K.bytes_of K.read_from K.cmp) moment bytes.now) }
 {
     let (input, bytes) = input(alloc, bytes)?;
     whole(input, bytes)
 }
 
 #[tactic(auto, unfolding(crate::specs::Inputs::input_at))]
-fn input(alloc: Global, bytes: &[u8]) -> Result<(Taken, &[u8]), Misread>
+fn input<K: FlatName>(alloc: Global, bytes: &[u8]) -> Result<(Taken<K>, &[u8]), Misread>
     ensures { (moment : ℕ) → Gives
-        (λ x. (fed_of as_bytes (stays by_name) moment x.0, x.1.now)) result
-        (input_at moment bytes.now) }
+        (λ x. (
+          fed_of (codec K.SIZE K.bytes_of K.read_from)
+              (stays (names K.cmp nat_cmp)) moment x.0,
+          x.1.now,
+        )) result
+        (input_at (shape K.SIZE K.bytes_of K.read_from K.cmp) moment bytes.now) }
 {
     let (tag, bytes) = octet(bytes)?;
     if tag < ANSWERS {
@@ -49,10 +57,18 @@ fn input(alloc: Global, bytes: &[u8]) -> Result<(Taken, &[u8]), Misread>
 }
 
 #[tactic(auto, unfolding(crate::specs::Inputs::happens_at))]
-fn event_behind(alloc: Global, tag: u8, bytes: &[u8]) -> Result<(Taken, &[u8]), Misread>
+fn event_behind<K: FlatName>(
+    alloc: Global,
+    tag: u8,
+    bytes: &[u8],
+) -> Result<(Taken<K>, &[u8]), Misread>
     ensures { (moment : ℕ) → Gives
-        (λ x. (fed_of as_bytes (stays by_name) moment x.0, x.1.now)) result
-        (happens_at tag bytes.now) }
+        (λ x. (
+          fed_of (codec K.SIZE K.bytes_of K.read_from)
+              (stays (names K.cmp nat_cmp)) moment x.0,
+          x.1.now,
+        )) result
+        (happens_at (shape K.SIZE K.bytes_of K.read_from K.cmp) tag bytes.now) }
 {
     let (now, bytes) = moment(bytes)?;
     let (event, bytes) = event(alloc, tag, bytes)?;
@@ -64,10 +80,14 @@ fn event_behind(alloc: Global, tag: u8, bytes: &[u8]) -> Result<(Taken, &[u8]), 
 }
 
 #[tactic(auto, unfolding(crate::specs::Inputs::answers_at))]
-fn answer_behind(tag: u8, bytes: &[u8]) -> Result<(Taken, &[u8]), Misread>
+fn answer_behind<K: FlatName>(tag: u8, bytes: &[u8]) -> Result<(Taken<K>, &[u8]), Misread>
     ensures { (moment : ℕ) → Gives
-        (λ x. (fed_of as_bytes (stays by_name) moment x.0, x.1.now)) result
-        (answers_at moment tag bytes.now) }
+        (λ x. (
+          fed_of (codec K.SIZE K.bytes_of K.read_from)
+              (stays (names K.cmp nat_cmp)) moment x.0,
+          x.1.now,
+        )) result
+        (answers_at (shape K.SIZE K.bytes_of K.read_from K.cmp) moment tag bytes.now) }
 {
     let (answer, bytes) = answer(tag, bytes)?;
     Ok((Input::Answers(answer), bytes))
@@ -111,9 +131,14 @@ fn sent(bytes: &[u8]) -> Result<(Answer, &[u8]), Misread>
 }
 
 #[tactic(auto, unfolding(crate::specs::Inputs::event_at))]
-fn event(alloc: Global, tag: u8, bytes: &[u8]) -> Result<(Happens, &[u8]), Misread>
-    ensures { Gives (λ x. (event_of as_bytes (stays by_name) x.0, x.1.now)) result
-        (event_at tag bytes.now) }
+fn event<K: FlatName>(alloc: Global, tag: u8, bytes: &[u8]) -> Result<(Happens<K>, &[u8]), Misread>
+    ensures { Gives
+        (λ x. (
+          event_of (codec K.SIZE K.bytes_of K.read_from)
+              (stays (names K.cmp nat_cmp)) x.0,
+          x.1.now,
+        )) result
+        (event_at (shape K.SIZE K.bytes_of K.read_from K.cmp) tag bytes.now) }
 {
     match tag {
         0 => fetch(alloc, bytes),
@@ -131,27 +156,42 @@ fn event(alloc: Global, tag: u8, bytes: &[u8]) -> Result<(Happens, &[u8]), Misre
 }
 
 #[tactic(auto, unfolding(crate::specs::Inputs::fetch_at))]
-fn fetch(alloc: Global, bytes: &[u8]) -> Result<(Happens, &[u8]), Misread>
-    ensures { Gives (λ x. (event_of as_bytes (stays by_name) x.0, x.1.now)) result
-        (fetch_at bytes.now) }
+fn fetch<K: FlatName>(alloc: Global, bytes: &[u8]) -> Result<(Happens<K>, &[u8]), Misread>
+    ensures { Gives
+        (λ x. (
+          event_of (codec K.SIZE K.bytes_of K.read_from)
+              (stays (names K.cmp nat_cmp)) x.0,
+          x.1.now,
+        )) result
+        (fetch_at (shape K.SIZE K.bytes_of K.read_from K.cmp) bytes.now) }
 {
     let (items, bytes) = list(alloc, bytes)?;
     Ok((Event::Fetch(items), bytes))
 }
 
 #[tactic(auto, unfolding(crate::specs::Inputs::retain_at))]
-fn retain(alloc: Global, bytes: &[u8]) -> Result<(Happens, &[u8]), Misread>
-    ensures { Gives (λ x. (event_of as_bytes (stays by_name) x.0, x.1.now)) result
-        (retain_at bytes.now) }
+fn retain<K: FlatName>(alloc: Global, bytes: &[u8]) -> Result<(Happens<K>, &[u8]), Misread>
+    ensures { Gives
+        (λ x. (
+          event_of (codec K.SIZE K.bytes_of K.read_from)
+              (stays (names K.cmp nat_cmp)) x.0,
+          x.1.now,
+        )) result
+        (retain_at (shape K.SIZE K.bytes_of K.read_from K.cmp) bytes.now) }
 {
     let (pairs, bytes) = list(alloc, bytes)?;
     Ok((Event::Retain(Leaving::of(alloc, pairs)?), bytes))
 }
 
 #[tactic(auto, unfolding(crate::specs::Inputs::peer_set_at))]
-fn peer_set(alloc: Global, bytes: &[u8]) -> Result<(Happens, &[u8]), Misread>
-    ensures { Gives (λ x. (event_of as_bytes (stays by_name) x.0, x.1.now)) result
-        (peer_set_at bytes.now) }
+fn peer_set<K: FlatName>(alloc: Global, bytes: &[u8]) -> Result<(Happens<K>, &[u8]), Misread>
+    ensures { Gives
+        (λ x. (
+          event_of (codec K.SIZE K.bytes_of K.read_from)
+              (stays (names K.cmp nat_cmp)) x.0,
+          x.1.now,
+        )) result
+        (peer_set_at (shape K.SIZE K.bytes_of K.read_from K.cmp) bytes.now) }
 {
     let (index, bytes) = number(bytes)?;
     let (peers, bytes) = list(alloc, bytes)?;
@@ -159,18 +199,28 @@ fn peer_set(alloc: Global, bytes: &[u8]) -> Result<(Happens, &[u8]), Misread>
 }
 
 #[tactic(auto, unfolding(crate::specs::Inputs::blocked_at))]
-fn blocked(alloc: Global, bytes: &[u8]) -> Result<(Happens, &[u8]), Misread>
-    ensures { Gives (λ x. (event_of as_bytes (stays by_name) x.0, x.1.now)) result
-        (blocked_at bytes.now) }
+fn blocked<K: FlatName>(alloc: Global, bytes: &[u8]) -> Result<(Happens<K>, &[u8]), Misread>
+    ensures { Gives
+        (λ x. (
+          event_of (codec K.SIZE K.bytes_of K.read_from)
+              (stays (names K.cmp nat_cmp)) x.0,
+          x.1.now,
+        )) result
+        (blocked_at (shape K.SIZE K.bytes_of K.read_from K.cmp) bytes.now) }
 {
     let (peers, bytes) = list(alloc, bytes)?;
     Ok((Event::Blocked(peers), bytes))
 }
 
 #[tactic(auto, unfolding(crate::specs::Inputs::verdict_at))]
-fn verdict(bytes: &[u8]) -> Result<(Happens, &[u8]), Misread>
-    ensures { Gives (λ x. (event_of as_bytes (stays by_name) x.0, x.1.now)) result
-        (verdict_at bytes.now) }
+fn verdict<K: FlatName>(bytes: &[u8]) -> Result<(Happens<K>, &[u8]), Misread>
+    ensures { Gives
+        (λ x. (
+          event_of (codec K.SIZE K.bytes_of K.read_from)
+              (stays (names K.cmp nat_cmp)) x.0,
+          x.1.now,
+        )) result
+        (verdict_at (shape K.SIZE K.bytes_of K.read_from K.cmp) bytes.now) }
 {
     let (number, bytes) = number(bytes)?;
     let (outcome, bytes) = outcome(bytes)?;
@@ -178,9 +228,14 @@ fn verdict(bytes: &[u8]) -> Result<(Happens, &[u8]), Misread>
 }
 
 #[tactic(auto, unfolding(crate::specs::Inputs::served_at))]
-fn served(alloc: Global, bytes: &[u8]) -> Result<(Happens, &[u8]), Misread>
-    ensures { Gives (λ x. (event_of as_bytes (stays by_name) x.0, x.1.now)) result
-        (served_at bytes.now) }
+fn served<K: FlatName>(alloc: Global, bytes: &[u8]) -> Result<(Happens<K>, &[u8]), Misread>
+    ensures { Gives
+        (λ x. (
+          event_of (codec K.SIZE K.bytes_of K.read_from)
+              (stays (names K.cmp nat_cmp)) x.0,
+          x.1.now,
+        )) result
+        (served_at (shape K.SIZE K.bytes_of K.read_from K.cmp) bytes.now) }
 {
     let (serve, bytes) = number(bytes)?;
     let (value, bytes) = value(alloc, bytes)?;
@@ -188,9 +243,14 @@ fn served(alloc: Global, bytes: &[u8]) -> Result<(Happens, &[u8]), Misread>
 }
 
 #[tactic(auto, unfolding(crate::specs::Inputs::net_at))]
-fn net(alloc: Global, bytes: &[u8]) -> Result<(Happens, &[u8]), Misread>
-    ensures { Gives (λ x. (event_of as_bytes (stays by_name) x.0, x.1.now)) result
-        (net_at bytes.now) }
+fn net<K: FlatName>(alloc: Global, bytes: &[u8]) -> Result<(Happens<K>, &[u8]), Misread>
+    ensures { Gives
+        (λ x. (
+          event_of (codec K.SIZE K.bytes_of K.read_from)
+              (stays (names K.cmp nat_cmp)) x.0,
+          x.1.now,
+        )) result
+        (net_at (shape K.SIZE K.bytes_of K.read_from K.cmp) bytes.now) }
 {
     let (peer, bytes) = name(bytes)?;
     let (sent, left) = rest(alloc, bytes)?;

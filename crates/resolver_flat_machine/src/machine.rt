@@ -5,29 +5,36 @@ ghost use Rattle.resolver_flat_machine.specs.Either.{Counts, Expires, Lists, Ope
 
 use crate::flat_core::FlatCore;
 use resolver_base::Fault;
-use resolver_flat::{Misread, Refusal};
+use resolver_flat::{Misread, Name, Refusal};
 use resolver_flat_actor::FlatActor;
 use resolver_metrics::metrics::Metrics;
 use std::alloc::{AllocError, Global};
 
-/// One of both machines, and the effects of its last step.
+/// One of both machines, over names of one of both sizes, and the effects of its last step.
 #[derive(Drop)]
 pub enum Machine {
-    /// Fetches from peers.
-    Core(FlatCore),
-    /// Fetches from one source.
-    Actor(FlatActor),
+    /// Fetches from peers. Names have 32 bytes.
+    Core(FlatCore<Name<32>>),
+    /// Fetches from one source. Names have 32 bytes.
+    Actor(FlatActor<Name<32>>),
+    /// Fetches from peers. Names have 8 bytes.
+    ShortCore(FlatCore<Name<8>>),
+    /// Fetches from one source. Names have 8 bytes.
+    ShortActor(FlatActor<Name<8>>),
 }
 
 impl Machine {
-    /// A machine of this kind, with the settings that these bytes spell, all of them: 0 is a core, 1 an
-    /// actor. Other kinds are misspelled.
+    /// A machine of this kind, with the settings that these bytes spell, all of them: 0 is a core and 1
+    /// an actor over names of 32 bytes, 2 and 3 are the same over names of 8. Other kinds are
+    /// misspelled.
     pub fn of_kind(alloc: Global, kind: u8, settings: &[u8]) -> Result<Machine, Misread>
         ensures { Opened kind settings.now result }
     {
         match kind {
             0 => Ok(Machine::Core(FlatCore::new(alloc, settings)?)),
             1 => Ok(Machine::Actor(FlatActor::new(alloc, settings)?)),
+            2 => Ok(Machine::ShortCore(FlatCore::new(alloc, settings)?)),
+            3 => Ok(Machine::ShortActor(FlatActor::new(alloc, settings)?)),
             _ => Err(Misread::Misspelled),
         }
     }
@@ -39,6 +46,8 @@ impl Machine {
         match self {
             Machine::Core(core) => core.step(bytes),
             Machine::Actor(actor) => actor.step(bytes),
+            Machine::ShortCore(core) => core.step(bytes),
+            Machine::ShortActor(actor) => actor.step(bytes),
         }
     }
 
@@ -49,6 +58,8 @@ impl Machine {
         match self {
             Machine::Core(core) => core.told(),
             Machine::Actor(actor) => actor.told(),
+            Machine::ShortCore(core) => core.told(),
+            Machine::ShortActor(actor) => actor.told(),
         }
     }
 
@@ -60,6 +71,8 @@ impl Machine {
         match self {
             Machine::Core(core) => core.rows(),
             Machine::Actor(actor) => actor.rows(),
+            Machine::ShortCore(core) => core.rows(),
+            Machine::ShortActor(actor) => actor.rows(),
         }
     }
 
@@ -70,6 +83,8 @@ impl Machine {
         match self {
             Machine::Core(core) => core.pending(),
             Machine::Actor(actor) => actor.next_retry(),
+            Machine::ShortCore(core) => core.pending(),
+            Machine::ShortActor(actor) => actor.next_retry(),
         }
     }
 
@@ -80,6 +95,8 @@ impl Machine {
         match self {
             Machine::Core(core) => core.active(),
             Machine::Actor(_) => None,
+            Machine::ShortCore(core) => core.active(),
+            Machine::ShortActor(_) => None,
         }
     }
 
@@ -90,6 +107,8 @@ impl Machine {
         match self {
             Machine::Core(core) => Some(core.metrics()),
             Machine::Actor(_) => None,
+            Machine::ShortCore(core) => Some(core.metrics()),
+            Machine::ShortActor(_) => None,
         }
     }
 }

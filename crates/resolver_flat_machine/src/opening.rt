@@ -1,19 +1,19 @@
 //! What a core is opened with, as it is spelled.
 
-ghost use Rattle.std.specs.Prelude.{◌≡◌};
 ghost use Rattle.resolver_fetch_scan.specs.Fetcher.{IsTimely};
+ghost use Rattle.resolver_flat.specs.Naming.{shape};
 ghost use Rattle.resolver_flat.specs.Reading.{Gives, name_at, option_at};
 ghost use Rattle.resolver_flat_machine.specs.Settings.{IsSet, said, settings_at};
 
 use crate::settings::Settings;
 use resolver_fetch_scan::config::Config;
 use resolver_flat::reading::{count, flag, moment, name};
-use resolver_flat::{Misread, Name};
+use resolver_flat::{FlatName, Misread};
 use std::num::NonZeroU32;
 
-impl Settings {
+impl<K> Settings<K> {
     /// The configuration that the settings are.
-    pub fn configuration(self) -> Config<Name>
+    pub fn configuration(self) -> Config<K>
         ensures set { IsSet (said self) result }
         ensures timely { IsTimely result.fetch_timeout result.retry_delay }
     {
@@ -30,8 +30,9 @@ impl Settings {
 /// The settings at the front: a name of one's own behind a flag, the timeout, which is not 0, the
 /// delay, the limit, and two flags.
 #[tactic(auto, unfolding(crate::specs::Settings::settings_at))]
-pub fn settings_in(bytes: &[u8]) -> Result<(Settings, &[u8]), Misread>
-    ensures { Gives (λ x. (said x.0, x.1.now)) result (settings_at bytes.now) }
+pub fn settings_in<K: FlatName>(bytes: &[u8]) -> Result<(Settings<K>, &[u8]), Misread>
+    ensures { Gives (λ x. (said x.0, x.1.now)) result
+        (settings_at (shape K.SIZE K.bytes_of K.read_from K.cmp) bytes.now) }
 {
     let (me, bytes) = named(bytes)?;
     let (fetch_timeout, bytes) = moment(bytes)?;
@@ -55,8 +56,9 @@ pub fn settings_in(bytes: &[u8]) -> Result<(Settings, &[u8]), Misread>
 
 /// A name behind a flag, or none.
 #[tactic(auto, unfolding(resolver_flat::specs::Reading::option_at))]
-fn named(bytes: &[u8]) -> Result<(Option<Name>, &[u8]), Misread>
-    ensures { Gives (λ x. (x.0, x.1.now)) result (option_at name_at bytes.now) }
+fn named<K: FlatName>(bytes: &[u8]) -> Result<(Option<K>, &[u8]), Misread>
+    ensures { Gives (λ x. (x.0, x.1.now)) result
+        (option_at (name_at (shape K.SIZE K.bytes_of K.read_from K.cmp)) bytes.now) }
 {
     let (is_there, bytes) = flag(bytes)?;
     if !is_there {

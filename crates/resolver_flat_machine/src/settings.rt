@@ -2,13 +2,11 @@
 
 ghost use Rattle.resolver_fetch_scan.specs.Fetcher.{IsTimely};
 
-use resolver_flat::Name;
-
 /// How a core is to work, as it is spelled: durations in nanoseconds, and 0 where a peer may have any
 /// number of requests.
 #[derive(Drop)]
-pub struct Settings {
-    pub me: Option<Name>,
+pub struct Settings<K> {
+    pub me: Option<K>,
     pub fetch_timeout: u128,
     pub retry_delay: u128,
     pub peer_limit: u32,

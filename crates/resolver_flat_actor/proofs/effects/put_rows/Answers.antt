@@ -4,4 +4,4 @@ use Rattle.resolver_flat_actor.specs.Effects.{row_spelled}
 use Rattle.resolver_flat_actor.proofs.effects.put_rows.Goals as goal
 
 pub loop-row-preserved : goal.loop-row-preserved
-loop-row-preserved c = written_more row_spelled _ _ _ _ _ _ c.loop-row-test.true c.in_ok-put_row.ensures c.loop-row.invariant (search rules)
+loop-row-preserved g c = written_more (row_spelled g.K.Span.bytes_of) _ _ _ _ _ _ c.loop-row-test.true c.in_ok-put_row.ensures c.loop-row.invariant (search rules)

@@ -4,4 +4,4 @@ use Rattle.resolver_flat_machine.specs.Effects.{spelled}
 use Rattle.resolver_flat_machine.proofs.effects.put_all.Goals as goal
 
 pub loop-effect-preserved : goal.loop-effect-preserved
-loop-effect-preserved c = written_more spelled _ _ _ _ _ _ c.loop-effect-test.true c.in_ok-put_effect.ensures c.loop-effect.invariant (search rules)
+loop-effect-preserved g c = written_more (spelled g.K.Span.bytes_of) _ _ _ _ _ _ c.loop-effect-test.true c.in_ok-put_effect.ensures c.loop-effect.invariant (search rules)

@@ -4,4 +4,4 @@ use Rattle.resolver_flat_machine.proofs.effects.put_all.Given as goal
 
 -- what is written, with those that are left, is all of it
 abbrev pub invariant-loop-effect : goal.invariant-loop-effect
-invariant-loop-effect l = l.out.items ++ all_spelled (drop l.effect-index l.effects) ≡ l.fn.out.items ++ all_spelled l.effects
+invariant-loop-effect g l = l.out.items ++ all_spelled g.K.Span.bytes_of (drop l.effect-index l.effects) ≡ l.fn.out.items ++ all_spelled g.K.Span.bytes_of l.effects

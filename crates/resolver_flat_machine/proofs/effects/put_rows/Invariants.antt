@@ -4,4 +4,4 @@ use Rattle.resolver_flat_machine.proofs.effects.put_rows.Given as goal
 
 -- what is written, with those that are left, is all of it
 abbrev pub invariant-loop-row : goal.invariant-loop-row
-invariant-loop-row l = l.out.items ++ all_rows (drop l.row-index l.rows) ≡ l.fn.out.items ++ all_rows l.rows
+invariant-loop-row g l = l.out.items ++ all_rows g.K.Span.bytes_of (drop l.row-index l.rows) ≡ l.fn.out.items ++ all_rows g.K.Span.bytes_of l.rows
