@@ -1,7 +1,7 @@
 /* Either machine of the resolver for C programs: a core that fetches keys from peers, or an actor that
    fetches them from one source. `crates/resolver_c` proves what stands behind these declarations; what
-   they say of the archive, nothing checks. docs/BINDINGS.md has how inputs, effects, rows and settings
-   are spelled as bytes, how the archive is built, and what its user answers for.
+   they say of the archive, nothing checks. bindings/BYTES.md has how inputs, effects, rows and settings
+   are spelled as bytes, and docs/BINDINGS.md how the archive is built and what its user answers for.
 
    A program keeps a slot, opens a machine in it, hands it inputs, and carries out the effects that each
    of them has:
