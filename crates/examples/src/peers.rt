@@ -9,10 +9,12 @@ use bytes::Bytes;
 use futures::StreamExt;
 use futures::channel::mpsc;
 use futures::executor::block_on;
-use lent::{All, First, Guard, Hasty, Sets};
-use network::{Inbox, Peer, Seen, Told, Wire};
+use lent::{First, Guard, Hasty};
+use network::{End, Peer, Seen, Told};
 use resolver::base::{Blocker, Provider};
 use resolver::mailbox::Unrecorded;
+use resolver::node::OneSet;
+use resolver::node::predicates::All;
 use resolver::p2p::mocks::{Consumer, Key, Producer, Quiet};
 use resolver::p2p::{Config, Engine, Mailbox};
 use resolver::{Fetch, Handle, Resolver};
@@ -75,14 +77,11 @@ where
 }
 
 /// Runs an engine that asks for key 7, until the consumer has taken a value.
-fn ask<R>(rt: R, alloc: Global, net: (Wire, Inbox), told: &Told) -> Result<Option<(Key, Bytes)>>
+fn ask<R>(rt: R, alloc: Global, net: End, told: &Told) -> Result<Option<(Key, Bytes)>>
 where
     R: Threads + Wait + RandomSource + AllocGlobal + Copy + Drop + Send + 'static,
 {
-    let sets = Sets {
-        set: Some(Vec::from_slice(alloc, &[Peer(0), Peer(1), Peer(2)])?),
-        rest: Quiet::new(),
-    };
+    let sets = OneSet::new(Vec::from_slice(alloc, &[Peer(0), Peer(1), Peer(2)])?);
     let guard = Guard {
         alloc,
         told: told.clone()?,
@@ -108,7 +107,7 @@ where
 }
 
 /// Runs an engine that has these bytes for key 7.
-fn answer<R>(rt: R, alloc: Global, net: (Wire, Inbox), bytes: &'static [u8]) -> Result<Running<R>>
+fn answer<R>(rt: R, alloc: Global, net: End, bytes: &'static [u8]) -> Result<Running<R>>
 where
     R: Threads + Wait + RandomSource + AllocGlobal + Copy + Drop + Send + 'static,
 {
@@ -124,7 +123,7 @@ fn begin<R, D, B>(
     alloc: Global,
     peers: (D, B),
     hands: (Consumer<Key, Bytes, u16>, Producer<Key, Bytes>),
-    net: (Wire, Inbox),
+    net: End,
 ) -> Result<Running<R>>
 where
     R: Threads + Wait + RandomSource + AllocGlobal + Copy + Drop + Send + 'static,

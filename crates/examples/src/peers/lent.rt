@@ -1,31 +1,10 @@
 //! What the engines are lent besides.
 
-ghost use Rattle.std.specs.Prelude.{true};
-ghost use Rattle.std.proofs.Common.{rules};
-
 use crate::peers::network::{Peer, Seen, Told};
 use futures::task::{Context, Poll};
-use resolver::base::{Blocker, Clock, Draws, Faithful, Predicate, Provider};
-use resolver::p2p::mocks::{Key, Quiet};
+use resolver::base::{Blocker, Clock, Draws, Provider};
+use resolver::p2p::mocks::Quiet;
 use std::alloc::Global;
-
-/// One set of peers, and no other.
-#[derive(Drop)]
-pub struct Sets {
-    pub set: Option<Vec<Peer>>,
-    pub rest: Quiet<Peer>,
-}
-
-impl Provider for Sets {
-    type PublicKey = Peer;
-
-    fn poll_update(&mut self, cx: &mut Context<'_>) -> Poll<Option<(u64, Vec<Peer>)>> {
-        match self.set.take() {
-            Some(peers) => Poll::Ready(Some((0, peers))),
-            None => self.rest.poll_update(cx),
-        }
-    }
-}
 
 /// Blocks the peer that it is asked to block, and tells.
 #[derive(Drop)]
@@ -82,22 +61,4 @@ impl Draws for First {
     fn below(&mut self, _: u128) -> u128 {
         0
     }
-}
-
-/// Keeps every subscriber.
-#[derive(Clone, Copy)]
-pub struct All;
-
-impl Predicate<Key, u16> for All {
-    ghost keeps = { λ _ _ _. true };
-
-    fn keep(&self, _: &Key, _: &u16) -> bool {
-        true
-    }
-
-    ghost alike = { λ q k l s t same_key same_subscriber. Prim.search rules };
-}
-
-impl Faithful for All {
-    ghost clones = { Prim.search rules };
 }

@@ -1,13 +1,13 @@
-//! The network in memory.
+//! A network in memory of which is seen who sends.
 
 ghost use Rattle.std.proofs.Common.{rules};
 
+use anyhow::{Result, bail};
 use bytes::Bytes;
-use futures::Stream;
 use futures::channel::mpsc;
-use futures::task::{Context, Poll};
-use resolver::base::{Check, Faithful, Feedback, PublicKey, Receiver, Sender, Unreliable};
-use std::alloc::{AllocError, Global};
+use resolver::base::{Check, Faithful, PublicKey, Sender, Unreliable};
+use resolver::node::{Inbox, Link, Weather, network};
+use std::alloc::Global;
 use std::fmt;
 
 /// A name of an engine.
@@ -41,76 +41,49 @@ impl fmt::Display for Seen {
 /// Where it is told.
 pub type Told = mpsc::UnboundedSender<Seen>;
 
-/// Where messages to an engine are put.
-pub type Post = mpsc::UnboundedSender<(Peer, Bytes)>;
-
-/// What an engine receives.
-#[derive(Drop)]
-pub struct Inbox(pub mpsc::UnboundedReceiver<(Peer, Bytes)>);
-
-impl Receiver for Inbox {
-    type PublicKey = Peer;
-
-    fn poll_recv(&mut self, cx: &mut Context<'_>) -> Poll<Option<(Peer, Bytes)>> {
-        self.0.poll_next(cx)
-    }
-}
-
-/// The way of an engine to the others, whose posts stand in the order of their names.
+/// An engine's way to the others, which tells what it sends.
 #[derive(Drop)]
 pub struct Wire {
     pub me: Peer,
-    pub posts: Vec<Post>,
+    pub link: Link<Peer>,
     pub told: Told,
 }
 
-impl Wire {
-    /// The way of this engine.
-    pub fn new(alloc: Global, me: u8, posts: &[Post], told: &Told) -> Result<Wire, AllocError> {
-        let mut all = Vec::new(alloc);
-        for post in posts {
-            all.push(post.clone()?)?;
-        }
-        Ok(Wire {
-            me: Peer(me),
-            posts: all,
-            told: told.clone()?,
-        })
-    }
-}
-
 /// What an engine has of the network: its way to the others, and what it receives.
-pub type End = (Wire, Inbox);
+pub type End = (Wire, Inbox<Peer>);
 
 /// A network of three engines, 0 to 2.
-pub fn joined(alloc: Global, told: &Told) -> Result<(End, End, End), AllocError> {
-    let (first, own) = mpsc::unbounded(alloc)?;
-    let (second, wrong) = mpsc::unbounded(alloc)?;
-    let (third, right) = mpsc::unbounded(alloc)?;
-    let posts = [first, second, third];
-    Ok((
-        (Wire::new(alloc, 0, &posts, told)?, Inbox(own)),
-        (Wire::new(alloc, 1, &posts, told)?, Inbox(wrong)),
-        (Wire::new(alloc, 2, &posts, told)?, Inbox(right)),
-    ))
+pub fn joined(alloc: Global, told: &Told) -> Result<(End, End, End)> {
+    let names = Vec::from_slice(alloc, &[Peer(0), Peer(1), Peer(2)])?;
+    let mut ends = network(alloc, names, Weather::FAIR)?;
+    let third = last(&mut ends, Peer(2), told)?;
+    let second = last(&mut ends, Peer(1), told)?;
+    let first = last(&mut ends, Peer(0), told)?;
+    Ok((first, second, third))
+}
+
+/// The last end, which is this engine's.
+fn last(ends: &mut Vec<(Link<Peer>, Inbox<Peer>)>, me: Peer, told: &Told) -> Result<End> {
+    let Some((link, inbox)) = ends.pop() else {
+        bail!("no end is left");
+    };
+    let told = told.clone()?;
+    Ok((Wire { me, link, told }, inbox))
 }
 
 impl Sender for Wire {
     type PublicKey = Peer;
 
-    fn check(&mut self, _: &Peer) -> Check {
-        Check::Clear
+    fn check(&mut self, peer: &Peer) -> Check {
+        self.link.check(peer)
     }
 
-    fn send(&mut self, peer: &Peer, message: Bytes, _: bool) -> Unreliable {
+    fn send(&mut self, peer: &Peer, message: Bytes, priority: bool) -> Unreliable {
         let seen = match self.me {
             Peer(0) => Seen::Asked(*peer),
             other => Seen::Answered(other),
         };
         let _ = self.told.unbounded_send(seen);
-        if let Some(post) = self.posts.get(usize::from(peer.0)) {
-            let _ = post.unbounded_send((self.me, message));
-        }
-        Unreliable::Outcome(Feedback::Ok)
+        self.link.send(peer, message, priority)
     }
 }
