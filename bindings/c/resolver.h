@@ -32,9 +32,11 @@ typedef struct resolver_slot {
   void *at;
 } resolver_slot;
 
-/* Kinds of machines. */
+/* Kinds of machines: over names of 32 bytes, and the short ones over names of 8. */
 #define RESOLVER_CORE 0
 #define RESOLVER_ACTOR 1
+#define RESOLVER_SHORT_CORE 2
+#define RESOLVER_SHORT_ACTOR 3
 
 /* What a call answers: 0, or why it was refused. */
 #define RESOLVER_OK 0

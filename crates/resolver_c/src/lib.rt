@@ -19,8 +19,8 @@ use crate::deadline::Deadline;
 use crate::slot::Slot;
 use std::alloc::Global;
 
-/// Opens a machine in an empty slot: of kind 0 a core, of kind 1 an actor, over names of 32 bytes, with
-/// the settings that these bytes spell, all of them.
+/// Opens a machine in an empty slot, with the settings that these bytes spell, all of them: of kind 0 a
+/// core and of kind 1 an actor over names of 32 bytes, of kinds 2 and 3 the same over names of 8.
 ///
 /// 0: it is open. Else the slot is empty still: 1, there is no memory; 64, the bytes spell no settings,
 /// or there is no such kind.
