@@ -317,3 +317,36 @@ fn three_nodes_of_which_one_lies() {
     assert!(!nodes[0].blocked.is_empty());
     assert_eq!(nodes[0].driver.rows(&mut Room::new()).unwrap().count(), 0);
 }
+
+/// Counts what is sent.
+struct Counted(usize);
+
+impl Transport<8> for Counted {
+    fn check(&mut self, _: Name<8>) -> Check {
+        Check::Clear
+    }
+
+    fn send(&mut self, _: Name<8>, bytes: &[u8], _: bool) -> bool {
+        self.0 += 1;
+        bytes.len() == 8 + 1 + 8
+    }
+}
+
+#[test]
+fn names_of_eight_bytes() {
+    let core = match Core::<8>::new(&Settings::default()) {
+        Err(Fault::Misspelled) => {
+            println!("the archive has no machines over names of 8 bytes");
+            return;
+        }
+        core => core.unwrap(),
+    };
+    let mut driver = Driver::new(core, Seeded::new(1));
+    let (mut counted, mut room) = (Counted(0), Room::new());
+    let peers = [Name::from(3_u64.to_be_bytes())];
+    driver.feed(0, &Event::PeerSet { index: 1, peers: &peers }, &mut counted, &mut room).unwrap();
+    let wanted = Wanted { key: Name::numbered(1), subscribers: &[(10, 7)], targets: None };
+    driver.feed(0, &Event::Fetch(&[wanted]), &mut counted, &mut room).unwrap();
+    assert_eq!(counted.0, 1);
+    assert_eq!(driver.deadlines().active, Some(1_000_000_000));
+}
