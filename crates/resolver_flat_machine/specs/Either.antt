@@ -4,6 +4,7 @@ use Rattle.resolver_metrics.specs.declared.metrics.Metrics.{Metrics}
 use Rattle.resolver_model_opaque.specs.Opaque.{next_retry}
 use Rattle.resolver_model_opaque.specs.OpaqueListed.{listed}
 use Rattle.resolver_flat.specs.Naming.{of_bytes}
+use Rattle.resolver_flat.specs.declared.name.Name.{Name}
 use Rattle.resolver_flat.specs.declared.reading.Misread.{Misread}
 use Rattle.resolver_flat.specs.declared.reading.Misread.TheVariants.{Misspelled}
 use Rattle.resolver_flat.specs.declared.refusal.Refusal.{Refusal}
@@ -17,9 +18,9 @@ use Rattle.resolver_flat_machine.specs.declared.machine.Machine.TheVariants.{Act
 -- Why no machine of a kind is opened: its settings are refused, or there is no such kind. The kinds are 0 to 3.
 pub record Unopened (kind : ℕ) (bytes : List ℕ) (misread : Misread) : Type 0 where
   pub core : kind ≡ 0 → cores.Opened (of_bytes {N = 32}) bytes (Err misread)
-  pub actor : kind ≡ 1 → actors.Opened bytes (Err misread)
+  pub actor : kind ≡ 1 → actors.Opened {K = Name 32} bytes (Err misread)
   pub short_core : kind ≡ 2 → cores.Opened (of_bytes {N = 8}) bytes (Err misread)
-  pub short_actor : kind ≡ 3 → actors.Opened bytes (Err misread)
+  pub short_actor : kind ≡ 3 → actors.Opened {K = Name 8} bytes (Err misread)
   pub other : kind ≢ 0 → kind ≢ 1 → kind ≢ 2 → kind ≢ 3 → misread ≡ Misspelled
 
 -- what opening a machine of this kind answers: 0 is a core, 1 an actor, and 2 and 3 are the same over short names
