@@ -5,8 +5,8 @@
 mod blocks;
 mod network;
 
-use crate::peers::lent::{Hasty, Sets};
-use crate::peers::network::{Inbox, Peer};
+use crate::peers::lent::Hasty;
+use crate::peers::network::Peer;
 use anyhow::{Result, bail};
 use blocks::{Block, Blocks};
 use bytes::Bytes;
@@ -18,6 +18,7 @@ use resolver::Handle;
 use resolver::backfill::{Plan, Without, fill, refill, settle};
 use resolver::base::{Feedback, Seeded};
 use resolver::mailbox::Unrecorded;
+use resolver::node::{Inbox, OneSet};
 use resolver::p2p::mocks::{Key, Producer, Quiet};
 use resolver::p2p::{Config, Engine, Mailbox};
 use std::alloc::{AllocGlobal, Global};
@@ -204,10 +205,7 @@ where
     let (told, arrived) = mpsc::unbounded(alloc)?;
     let (post, inbox) = mpsc::unbounded(alloc)?;
     let cfg = Config {
-        peer_provider: Sets {
-            set: Some(Vec::from_slice(alloc, &[SPARSE, FULL])?),
-            rest: Quiet::new(),
-        },
+        peer_provider: OneSet::new(Vec::from_slice(alloc, &[SPARSE, FULL])?),
         blocker: Quiet::<Peer>::new(),
         consumer: Blocks { alloc, told },
         producer: Producer::<Key, Bytes>::new(alloc),
@@ -225,7 +223,7 @@ where
         now: 0,
         rest: Quiet::new(),
     };
-    let handle = engine.start((wire, Inbox(inbox)), clock, Seeded::new(7))?;
+    let handle = engine.start((wire, Inbox::new(inbox)), clock, Seeded::new(7))?;
     Ok(Running {
         mailbox,
         handle,

@@ -63,31 +63,13 @@ pub enum Answer {
 pub enum Effect<K, P, S> {
     Draw(u128),
     Check(P),
-    Request {
-        peer: P,
-        id: u64,
-        key: K,
-    },
-    Deliver {
-        number: u64,
-        response: u64,
-        key: K,
-        subscribers: Rc<[(S, u64)]>,
-        value: Rc<[u8]>,
-    },
+    Request { peer: P, id: u64, key: K },
+    Deliver { number: u64, response: u64, key: K, subscribers: Rc<[(S, u64)]>, value: Rc<[u8]> },
     Cancel(u64),
     Produce(u64, K),
     Reply(P, Vec<u8>),
-    Credit {
-        response: u64,
-        peer: P,
-        elapsed: u128,
-        bytes: u64,
-    },
-    Block {
-        response: u64,
-        peer: P,
-    },
+    Credit { response: u64, peer: P, elapsed: u128, bytes: u64 },
+    Block { response: u64, peer: P },
 }
 
 #[derive(Clone, Copy, PartialEq, Eq)]
@@ -112,10 +94,7 @@ pub struct Targets<P> {
 
 impl<P: Ord + Clone> Targets<P> {
     fn of(peers: Vec<P>) -> Self {
-        let mut targets = Targets {
-            listed: Vec::new(),
-            names: BTreeSet::new(),
-        };
+        let mut targets = Targets { listed: Vec::new(), names: BTreeSet::new() };
         targets.add(peers);
         targets
     }
@@ -283,10 +262,7 @@ impl<K: Key, P: Ord + Clone, S: Ord + Clone> Machine<K, P, S> {
                     subscribers: marked(item.subscribers),
                     targets: item.targets.map(Targets::of),
                     retries: 0,
-                    phase: Phase::Waiting {
-                        is_retry: false,
-                        due: now,
-                    },
+                    phase: Phase::Waiting { is_retry: false, due: now },
                 });
                 self.waiter = 0;
             }
@@ -306,8 +282,7 @@ impl<K: Key, P: Ord + Clone, S: Ord + Clone> Machine<K, P, S> {
     fn retain<Q: Fn(&K, &S) -> bool>(&mut self, keep: Q, effects: &mut Effects<K, P, S>) {
         let mut emptied = Vec::new();
         for (key, row) in &mut self.rows {
-            row.subscribers
-                .retain(|subscriber, _| keep(key, subscriber));
+            row.subscribers.retain(|subscriber, _| keep(key, subscriber));
             if row.subscribers.is_empty() {
                 emptied.push(key.clone());
             }
@@ -403,10 +378,7 @@ impl<K: Key, P: Ord + Clone, S: Ord + Clone> Machine<K, P, S> {
             elapsed: elapsed_since(request.start, now),
             value: value.into(),
         };
-        let row = self
-            .rows
-            .get_mut(&request.key)
-            .expect("an asked key is wanted");
+        let row = self.rows.get_mut(&request.key).expect("an asked key is wanted");
         let delivery = Delivery {
             key: request.key,
             subscribers: listed(&row.subscribers),
@@ -515,17 +487,9 @@ impl<K: Key, P: Ord + Clone, S: Ord + Clone> Machine<K, P, S> {
             Outcome::Complete | Outcome::Partial => {
                 let (elapsed, bytes) = (response.elapsed, response.value.len() as u64);
                 self.peers.record(&peer, elapsed, bytes);
-                Some(Effect::Credit {
-                    response: name,
-                    peer,
-                    elapsed,
-                    bytes,
-                })
+                Some(Effect::Credit { response: name, peer, elapsed, bytes })
             }
-            Outcome::Invalid => Some(Effect::Block {
-                response: name,
-                peer,
-            }),
+            Outcome::Invalid => Some(Effect::Block { response: name, peer }),
             Outcome::Unresolved | Outcome::Ignored => None,
         }
     }
@@ -533,31 +497,19 @@ impl<K: Key, P: Ord + Clone, S: Ord + Clone> Machine<K, P, S> {
     /// A key is tried again once the delay is over.
     fn retry(&mut self, now: u128, key: K) {
         let due = now + self.delay;
-        let row = self
-            .rows
-            .get_mut(&key)
-            .expect("a key that is tried is wanted");
+        let row = self.rows.get_mut(&key).expect("a key that is tried is wanted");
         row.retries = row.retries.saturating_add(1);
-        row.phase = Phase::Waiting {
-            is_retry: true,
-            due,
-        };
+        row.phase = Phase::Waiting { is_retry: true, due };
         self.retried.insert((due, key));
         self.waiter = 0;
     }
 
     fn queue(&mut self, is_retry: bool) -> &mut BTreeSet<(u128, K)> {
-        if is_retry {
-            &mut self.retried
-        } else {
-            &mut self.fresh
-        }
+        if is_retry { &mut self.retried } else { &mut self.fresh }
     }
 
     fn is_asked(&self, id: u64, peer: &P) -> bool {
-        self.requests
-            .get(&id)
-            .is_some_and(|request| request.peer == *peer)
+        self.requests.get(&id).is_some_and(|request| request.peer == *peer)
     }
 
     /// Takes a request out that is there.
@@ -584,8 +536,6 @@ fn attach<S: Ord>(there: &mut BTreeMap<S, u64>, subscribers: Vec<(S, u64)>) {
 }
 
 fn listed<S: Clone>(subscribers: &BTreeMap<S, u64>) -> Rc<[(S, u64)]> {
-    let pairs = subscribers
-        .iter()
-        .map(|(subscriber, mark)| (subscriber.clone(), *mark));
+    let pairs = subscribers.iter().map(|(subscriber, mark)| (subscriber.clone(), *mark));
     pairs.collect()
 }

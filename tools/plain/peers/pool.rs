@@ -54,17 +54,11 @@ struct Sum {
 
 impl Sum {
     fn of(weight: u64) -> Sum {
-        Sum {
-            weight: u128::from(weight),
-            count: usize::from(weight > 0),
-        }
+        Sum { weight: u128::from(weight), count: usize::from(weight > 0) }
     }
 
     fn and(self, other: Sum) -> Sum {
-        Sum {
-            weight: self.weight + other.weight,
-            count: self.count + other.count,
-        }
+        Sum { weight: self.weight + other.weight, count: self.count + other.count }
     }
 }
 
@@ -212,15 +206,8 @@ impl<P: Ord + Clone> Peers<P> {
     pub fn replace(&mut self, mut names: Vec<P>) {
         names.sort_unstable();
         names.dedup();
-        let score = |name| {
-            self.names
-                .binary_search(name)
-                .map(|place| self.scores[place])
-        };
-        self.scores = names
-            .iter()
-            .map(|name| score(name).unwrap_or_default())
-            .collect();
+        let score = |name| self.names.binary_search(name).map(|place| self.scores[place]);
+        self.scores = names.iter().map(|name| score(name).unwrap_or_default()).collect();
         self.names = names;
         self.weigh_all();
     }

@@ -49,12 +49,9 @@ impl<K: Key, P: Ord + Clone, S: Ord + Clone> Machine<K, P, S> {
         self.waiter = 0;
         let found = self.first_fresh(moment, Bound::Unbounded);
         match found.or_else(|| self.first_retried(moment, Bound::Unbounded)) {
-            Some(trial) => self.try_key(Scan {
-                moment,
-                trial,
-                expects: Expected::Mode,
-                limit: None,
-            }),
+            Some(trial) => {
+                self.try_key(Scan { moment, trial, expects: Expected::Mode, limit: None })
+            }
             None => self.wait(moment, None),
         }
     }
@@ -157,19 +154,12 @@ impl<K: Key, P: Ord + Clone, S: Ord + Clone> Machine<K, P, S> {
         self.peers.restore();
         let peer = self.peers.name(place).clone();
         self.peers.load(&peer);
-        let row = self
-            .rows
-            .get_mut(&trial.key)
-            .expect("a waiting key is wanted");
+        let row = self.rows.get_mut(&trial.key).expect("a waiting key is wanted");
         row.phase = Phase::Asked(id);
         let place = (trial.due, trial.key);
         self.queue(trial.is_retry).remove(&place);
-        let request = Request {
-            key: place.1,
-            peer,
-            start: moment,
-            deadline: moment + self.timeout,
-        };
+        let request =
+            Request { key: place.1, peer, start: moment, deadline: moment + self.timeout };
         self.deadlines.insert((request.deadline, id));
         self.requests.insert(id, request);
         None
@@ -193,19 +183,9 @@ impl<K: Key, P: Ord + Clone, S: Ord + Clone> Machine<K, P, S> {
             return self.try_key(scan);
         }
         self.peers.restore();
-        let Scan {
-            moment,
-            trial,
-            expects,
-            limit,
-        } = scan;
+        let Scan { moment, trial, expects, limit } = scan;
         match self.next_trial(moment, trial) {
-            Some(trial) => self.try_key(Scan {
-                moment,
-                trial,
-                expects,
-                limit,
-            }),
+            Some(trial) => self.try_key(Scan { moment, trial, expects, limit }),
             None => self.wait(moment, Some(limit.unwrap_or(moment + self.delay))),
         }
     }
@@ -219,10 +199,7 @@ impl<K: Key, P: Ord + Clone, S: Ord + Clone> Machine<K, P, S> {
     /// A scan is over in vain. The next one may do something once a key becomes due, or when what was tried may be
     /// tried again.
     fn wait(&mut self, moment: u128, again: Option<u128>) -> Asked<K, P, S> {
-        let due = least(
-            self.due_after(&self.fresh, moment),
-            self.due_after(&self.retried, moment),
-        );
+        let due = least(self.due_after(&self.fresh, moment), self.due_after(&self.retried, moment));
         self.waiter = least(again, due).unwrap_or(u128::MAX);
         None
     }
@@ -231,10 +208,7 @@ impl<K: Key, P: Ord + Clone, S: Ord + Clone> Machine<K, P, S> {
     fn due_after(&self, queue: &BTreeSet<(u128, K)>, moment: u128) -> Option<u128> {
         let (last, _) = self.rows.last_key_value()?;
         let behind = Bound::Excluded((moment, last.clone()));
-        queue
-            .range((behind, Bound::Unbounded))
-            .next()
-            .map(|(due, _)| *due)
+        queue.range((behind, Bound::Unbounded)).next().map(|(due, _)| *due)
     }
 
     /// What is tried once a key has no peer left.
@@ -267,29 +241,24 @@ impl<K: Key, P: Ord + Clone, S: Ord + Clone> Machine<K, P, S> {
             return None;
         }
         let behind = queue.range((from, Bound::Unbounded));
-        behind
-            .take_while(|(due, _)| *due <= moment)
-            .find_map(|(due, key)| {
-                let row = &self.rows[key];
-                let left = match &row.targets {
-                    None => Left::All,
-                    Some(targets) => {
-                        let few = targets
-                            .names
-                            .iter()
-                            .filter_map(|name| self.peers.askable(name));
-                        Left::Few(few.collect())
-                    }
-                };
-                let is_any = !matches!(&left, Left::Few(few) if few.is_empty());
-                is_any.then(|| Trial {
-                    is_retry,
-                    due: *due,
-                    key: key.clone(),
-                    retries: row.retries,
-                    left,
-                })
+        behind.take_while(|(due, _)| *due <= moment).find_map(|(due, key)| {
+            let row = &self.rows[key];
+            let left = match &row.targets {
+                None => Left::All,
+                Some(targets) => {
+                    let few = targets.names.iter().filter_map(|name| self.peers.askable(name));
+                    Left::Few(few.collect())
+                }
+            };
+            let is_any = !matches!(&left, Left::Few(few) if few.is_empty());
+            is_any.then(|| Trial {
+                is_retry,
+                due: *due,
+                key: key.clone(),
+                retries: row.retries,
+                left,
             })
+        })
     }
 }
 

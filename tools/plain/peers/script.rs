@@ -80,10 +80,7 @@ fn list(field: &str) -> Option<Vec<u8>> {
     if field == "-" {
         return Some(Vec::new());
     }
-    field
-        .split(',')
-        .map(|part| Some(number(part, 255)? as u8))
-        .collect()
+    field.split(',').map(|part| Some(number(part, 255)? as u8)).collect()
 }
 
 fn bytes(field: &str) -> Option<Vec<u8>> {
@@ -92,10 +89,7 @@ fn bytes(field: &str) -> Option<Vec<u8>> {
         return None;
     }
     let digit = |byte: u8| char::from(byte).to_digit(16);
-    digits
-        .chunks(2)
-        .map(|pair| Some((digit(pair[0])? * 16 + digit(pair[1])?) as u8))
-        .collect()
+    digits.chunks(2).map(|pair| Some((digit(pair[0])? * 16 + digit(pair[1])?) as u8)).collect()
 }
 
 fn outcome(field: &str) -> Option<Option<Outcome>> {
@@ -130,12 +124,7 @@ pub fn open(line: &[u8]) -> Option<Session> {
         return None;
     }
     Some(Session {
-        machine: Machine::new(Config {
-            me,
-            timeout,
-            delay,
-            limit,
-        }),
+        machine: Machine::new(Config { me, timeout, delay, limit }),
         now: 0,
         plan: None,
     })
@@ -203,11 +192,7 @@ impl Session {
                 let (subscriber, mark) = (fields.number(65_535)? as u16, fields.count()?);
                 end(fields)?;
                 let wanted = BTreeSet::new();
-                self.plan = Some(Plan {
-                    subscriber,
-                    mark,
-                    wanted,
-                });
+                self.plan = Some(Plan { subscriber, mark, wanted });
                 Some(Ok(()))
             }
             "want" | "done" => {
@@ -241,10 +226,7 @@ impl Session {
     }
 
     fn done<W: Write>(&mut self, plan: &mut Plan, keys: Vec<u8>, out: &mut W) -> io::Result<()> {
-        let old: BTreeSet<u8> = keys
-            .into_iter()
-            .filter(|key| plan.wanted.contains(key))
-            .collect();
+        let old: BTreeSet<u8> = keys.into_iter().filter(|key| plan.wanted.contains(key)).collect();
         if old.is_empty() {
             return Ok(());
         }
@@ -278,11 +260,7 @@ impl Session {
         write!(out, " retries {} phase ", row.retries)?;
         match row.phase {
             Phase::Waiting { is_retry, due } => {
-                writeln!(
-                    out,
-                    "waiting {} {due}",
-                    if is_retry { "retry" } else { "fresh" }
-                )
+                writeln!(out, "waiting {} {due}", if is_retry { "retry" } else { "fresh" })
             }
             Phase::Asked(id) => {
                 let request = self.machine.request(id);
@@ -329,11 +307,7 @@ fn fetch(fields: &mut Fields<'_>) -> Option<Step> {
         None => None,
         Some(field) => Some(list(field).filter(|peers| !peers.is_empty())?),
     };
-    Some(Event::Fetch(vec![Fetch {
-        key,
-        subscribers,
-        targets,
-    }]))
+    Some(Event::Fetch(vec![Fetch { key, subscribers, targets }]))
 }
 
 fn answer(word: &str, field: &str) -> Option<Answer> {
@@ -354,9 +328,7 @@ fn print_all<W: Write>(
 ) -> io::Result<bool> {
     match answered {
         Ok(effects) => {
-            effects
-                .into_iter()
-                .try_for_each(|effect| print(effect, out))?;
+            effects.into_iter().try_for_each(|effect| print(effect, out))?;
             Ok(true)
         }
         Err(refusal) => {
@@ -377,13 +349,7 @@ fn print<W: Write>(effect: Effect<u8, u8, u16>, out: &mut W) -> io::Result<()> {
         Effect::Draw(below) => writeln!(out, "draw {below}"),
         Effect::Check(peer) => writeln!(out, "check {peer}"),
         Effect::Request { peer, id, key } => writeln!(out, "request {peer} {id} {key}"),
-        Effect::Deliver {
-            number,
-            response,
-            key,
-            subscribers,
-            value,
-        } => {
+        Effect::Deliver { number, response, key, subscribers, value } => {
             write!(out, "deliver {number} {key} ")?;
             print_list(subscribers.iter().map(|(subscriber, _)| subscriber), out)?;
             out.write_all(b" ")?;
@@ -400,12 +366,7 @@ fn print<W: Write>(effect: Effect<u8, u8, u16>, out: &mut W) -> io::Result<()> {
             print_bytes(&message, out)?;
             out.write_all(b"\n")
         }
-        Effect::Credit {
-            response,
-            peer,
-            elapsed,
-            bytes,
-        } => {
+        Effect::Credit { response, peer, elapsed, bytes } => {
             writeln!(out, "credit {response} {peer} {elapsed} {bytes}")
         }
         Effect::Block { response, peer } => writeln!(out, "block {response} {peer}"),
