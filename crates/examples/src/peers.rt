@@ -1,5 +1,5 @@
 //! Three engines in one process, over a network in memory. Engine 0 wants a key that the others have: 1
-//! sends wrong bytes, which the consumer refuses, and 2 the right ones. It prints what engine 0 did.
+//! sends wrong bytes, which the consumer refuses, and 2 the right ones. It prints what engine 0 did, and what it counted.
 
 pub mod lent;
 pub mod network;
@@ -16,7 +16,7 @@ use resolver::mailbox::Unrecorded;
 use resolver::node::OneSet;
 use resolver::node::predicates::All;
 use resolver::p2p::mocks::{Consumer, Key, Producer, Quiet};
-use resolver::p2p::{Config, Engine, Mailbox};
+use resolver::p2p::{Config, Engine, Mailbox, Metrics, Monitor};
 use resolver::{Fetch, Handle, Resolver};
 use std::alloc::{AllocGlobal, Global};
 use std::num::NonZeroUsize;
@@ -24,12 +24,16 @@ use std::random::RandomSource;
 use std::sync::Wait;
 use std::thread::Threads;
 
-/// An engine that runs, and the handle through which it is asked.
+/// An engine that runs, the handle through which it is asked, and a look at its counts.
 #[derive(Drop)]
 struct Running<R> {
     mailbox: Mailbox<Key, Peer, u16, All, Unrecorded, R>,
+    monitor: Monitor<Key, Peer, u16>,
     handle: Handle,
 }
+
+/// What engine 0 has taken, and what it counted.
+type Done = (Option<(Key, Bytes)>, Metrics);
 
 /// Where the consumer tells what it has found right.
 type Taken = mpsc::UnboundedReceiver<(Key, Bytes)>;
@@ -41,15 +45,15 @@ where
 {
     let alloc = rt.alloc();
     let (told, mut seen) = mpsc::unbounded(alloc)?;
-    let taken = work(rt, alloc, &told)?;
-    print(&rt, &mut seen, &taken)
+    let done = work(rt, alloc, &told)?;
+    print(&rt, &mut seen, &done)
 }
 
-/// Prints what was seen, up to the last of it, and what was taken.
+/// Prints what was seen, up to the last of it, and what was taken and counted.
 fn print(
     rt: &impl Print,
     seen: &mut mpsc::UnboundedReceiver<Seen>,
-    taken: &Option<(Key, Bytes)>,
+    (taken, metrics): &Done,
 ) -> Result<()> {
     for _ in 0..10 {
         match seen.try_recv() {
@@ -60,24 +64,26 @@ fn print(
     if let Some((key, value)) = taken {
         println!(rt; "took {value:?} as {key}")?;
     }
+    let sent = metrics.requests_sent.success;
+    println!(rt; "{sent} requests, {} in vain", metrics.fetch.failure)?;
     Ok(())
 }
 
 /// Has the three engines run until engine 0 has taken a value.
-fn work<R>(rt: R, alloc: Global, told: &Told) -> Result<Option<(Key, Bytes)>>
+fn work<R>(rt: R, alloc: Global, told: &Told) -> Result<Done>
 where
     R: Threads + Wait + RandomSource + AllocGlobal + Copy + Drop + Send + 'static,
 {
     let (own, wrong, right) = network::joined(alloc, told)?;
     let wrong = answer(rt, alloc, wrong, b"wrong")?;
     let right = answer(rt, alloc, right, b"right")?;
-    let taken = ask(rt, alloc, own, told);
+    let done = ask(rt, alloc, own, told);
     let ended = end(&rt, wrong).and(end(&rt, right));
-    ended.and(taken)
+    ended.and(done)
 }
 
 /// Runs an engine that asks for key 7, until the consumer has taken a value.
-fn ask<R>(rt: R, alloc: Global, net: End, told: &Told) -> Result<Option<(Key, Bytes)>>
+fn ask<R>(rt: R, alloc: Global, net: End, told: &Told) -> Result<Done>
 where
     R: Threads + Wait + RandomSource + AllocGlobal + Copy + Drop + Send + 'static,
 {
@@ -93,7 +99,8 @@ where
     let hands = (consumer, Producer::new(alloc));
     let mut running = begin(rt, alloc, (sets, guard), hands, net)?;
     let value = take(rt, &mut running, &mut taken);
-    end(&rt, running).and(value)
+    let metrics = end(&rt, running)?;
+    Ok((value?, metrics))
 }
 
 /// Asks a running engine for key 7, and waits for what the consumer has found right.
@@ -143,22 +150,28 @@ where
         priority_requests: false,
         priority_responses: false,
     };
-    let (engine, mailbox) = Engine::new(rt, alloc, cfg)?;
+    let (mut engine, mailbox) = Engine::new(rt, alloc, cfg)?;
+    let monitor = engine.monitor()?;
     let clock = Hasty {
         now: 0,
         rest: Quiet::new(),
     };
     let handle = engine.start(net, clock, First)?;
-    Ok(Running { mailbox, handle })
+    Ok(Running {
+        mailbox,
+        monitor,
+        handle,
+    })
 }
 
-/// Ends an engine, and waits for its end.
-fn end<R: Threads + Wait + Drop>(rt: &R, engine: Running<R>) -> Result<()> {
+/// Ends an engine, waits for its end, and answers what it counted.
+fn end<R: Threads + Wait + Drop>(rt: &R, engine: Running<R>) -> Result<Metrics> {
     let Running {
         mut mailbox,
+        monitor,
         handle,
     } = engine;
     mailbox.close();
     handle.join(rt)?;
-    Ok(())
+    Ok(monitor.metrics(rt))
 }

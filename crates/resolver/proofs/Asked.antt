@@ -1,7 +1,7 @@
 -- What a step asks is what its machine asks then, under an id that is new where the machine's is.
-use Rattle.std.proofs.Common.{◌≡◌, refl, ap, sym, ◌∙◌, subst, ℕ, Bool, true, false, List, [], ◌∷◌, Option, None, Some, Result, Ok, Err}
+use Rattle.std.proofs.Common.{◌≡◌, subst, ℕ, Bool, true, false, List, Option, None, Some, Result, Ok, Err}
 use Rattle.std.specs.Option.{option_and_then, option_map}
-use Rattle.std.specs.Prelude.{option_to_list, ◌≢◌, ⊤}
+use Rattle.std.specs.Prelude.{option_to_list, ⊤}
 use Rattle.resolver_base.specs.declared.fault.Fault.{Fault}
 use Rattle.resolver_fetch_scan.specs.declared.scan.Ask.{Ask as Question}
 use Rattle.resolver_fetch_scan.specs.declared.scan.Ask.TheVariants as asks
@@ -11,7 +11,7 @@ use Rattle.resolver_fetch_scan.specs.Scan.{Turn, is_over, takes}
 use Rattle.resolver_model_peer.specs.Parties.{Parties, orders_of}
 use Rattle.resolver_model.specs.declared.status.Status.{Status}
 use Rattle.resolver_model.specs.declared.status.Status.TheVariants.{Running, Ended, Failed}
-use Rattle.resolver_model_peer.specs.Peer.{Machine, Done, Effect, Ask, Event, Input, Happens, Answers, and_then, answer_of, does, is_due, question, scanned, scanned_if, snapshot, step_in, step_of, step_running, turned, wake_up}
+use Rattle.resolver_model_peer.specs.Peer.{Machine, Done, Effect, Ask, Input, Happens, Answers, and_then, answer_of, does, is_due, question, scanned, scanned_if, snapshot, step_in, step_of, step_running, turned, wake_up}
 use Rattle.resolver_model_peer.specs.PeerLaws.{HasNewId}
 use Rattle.resolver_model_peer.specs.PeerRun.{Fed}
 use Rattle.resolver_model_peer.specs.PeerSteps.{step_on}

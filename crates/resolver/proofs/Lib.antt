@@ -5,3 +5,4 @@ mod Shown
 mod RunLaws
 mod Asked
 mod Taking
+mod Phases

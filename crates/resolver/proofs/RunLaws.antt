@@ -1,35 +1,24 @@
 -- What the engine tells is what its machine says, with the bytes of its messages; and what holds of the machine's runs.
 use Rattle.std.proofs.Common.{◌≡◌, refl, ap, sym, ◌∙◌, subst, ℕ, ◌<◌, Bool, true, false, length, List, [], ◌∷◌, map, Option, Result, Ok, Err}
 use Rattle.std.specs.Prelude.{MatchBool}
-use Rattle.std.proofs.lemmas.Cmp.{eq_by_cmp_equiv}
-use Rattle.std.specs.Cmp.{IsTotalOrder}
 use Rattle.resolver_base.specs.declared.fault.Fault.{Fault}
 use Rattle.resolver_base.specs.declared.fault.Fault.TheVariants as faults
 use Rattle.resolver_messages.specs.declared.message.FetchKey.{FetchKey}
 use Rattle.resolver_model.specs.Lawful.{AnswersAlike, Each, IsLawful}
 use Rattle.resolver_model.specs.Steps.{stops}
 use Rattle.resolver_model_peer.specs.Parties.{Parties, names_of}
-use Rattle.resolver_model.specs.declared.status.Status.TheVariants.{Failed}
-use Rattle.resolver_model_peer.specs.Peer.{Machine, Effect, Happens, opening}
+use Rattle.resolver_model_peer.specs.Peer.{Machine, Effect, Happens}
 use Rattle.resolver_model_peer.specs.PeerLaws.{AllLawful}
 use Rattle.resolver_model_peer.specs.PeerRun.{Fed, change_of}
-use Rattle.resolver_model_peer.specs.PeerRunLaws.{AsksNew}
 use Rattle.resolver_model_peer.specs.PeerSteps as machines
 use Rattle.resolver_model_peer.specs.PeerSteps.{MayWant, step_on}
-use Rattle.resolver_model_peer.proofs.AskedOnce.{asked_once}
-use Rattle.resolver_model_peer.proofs.AsksWell.{asks_well}
-use Rattle.resolver_model_peer.proofs.PaysOnce.{is_paid_once}
-use Rattle.resolver_model_peer.proofs.PaysSenders.{is_paid_to_senders}
-use Rattle.resolver_model_peer.proofs.PeerKept.{demand_is_kept}
-use Rattle.resolver_model_peer.proofs.PeerRunLaws.{asks-new, keeps-awake}
 use Rattle.resolver_model_peer.specs.declared.effects.Effect.{Effect as Told}
 use Rattle.resolver_model_peer.specs.declared.inputs.Event.{Event as CodeEvent}
 use Rattle.resolver_model_peer.specs.declared.inputs.Event.TheVariants as events
 use Rattle.resolver_model_peer.specs.declared.inputs.Input.{Input as CodeInput}
 use Rattle.resolver_model_peer.specs.declared.inputs.Input.TheVariants as inputs
-use Rattle.resolver.specs.EngineLaws.{AreSaid, RunsWell}
+use Rattle.resolver.specs.EngineLaws.{AreSaid}
 use Rattle.resolver_peer_step.specs.EngineSteps.{Runs, Takes, all_fed, step_written, written_of}
-use Rattle.resolver.specs.Matching.{Engine, Matches}
 use Rattle.resolver_peer_step.specs.Said.{Codec, event_of, item_of}
 
 abbrev Answer : Type 0 → Type 0

@@ -1,6 +1,6 @@
 -- What a core took is a run of each machine that it matched, by however many calls.
-use Rattle.std.proofs.Common.{◌≡◌, refl, ap, sym, ◌∙◌, subst, ℕ, ◌<◌, ◌≤◌, ◌||◌, arith, Bool, true, false, List, [], ◌∷◌, ◌++◌, length, map, Result, Ok, Err}
-use Rattle.std.specs.Prelude.{MatchBool, ◌≢◌, ⊤}
+use Rattle.std.proofs.Common.{◌≡◌, refl, ap, sym, ◌∙◌, subst, ℕ, ◌≤◌, ◌||◌, arith, Bool, true, false, List, [], ◌∷◌, ◌++◌, length, map, Result, Ok, Err}
+use Rattle.std.specs.Prelude.{MatchBool, ◌≢◌}
 use Rattle.std.specs.List.{list_any}
 use Rattle.std.specs.Cmp.{IsTotalOrder}
 use Rattle.std.proofs.lemmas.Cmp.{eq_by_cmp_equiv}
@@ -9,7 +9,6 @@ use Rattle.std.specs.declared.vec.Vec.{Vec}
 use Rattle.std.specs.declared.alloc.Global.{Global}
 use Rattle.resolver_base.specs.declared.fault.Fault.{Fault}
 use Rattle.resolver_base.specs.declared.fault.Fault.TheVariants as faults
-use Rattle.resolver_fetch_scan.specs.declared.config.Config.{Config}
 use Rattle.resolver_fetch_scan.specs.FetcherLaws.{AllAre}
 use Rattle.resolver_model.specs.Lawful.{AnswersAlike}
 use Rattle.resolver_model.specs.Steps.{stops}
@@ -17,9 +16,9 @@ use Rattle.resolver_model.proofs.Runs.{goes-on as none-stops, runs-join}
 use Rattle.resolver_model_peer.specs.Parties.{Parties, names_of}
 use Rattle.resolver_model.specs.declared.status.Status.{Status}
 use Rattle.resolver_model.specs.declared.status.Status.TheVariants.{Running, Ended, Failed}
-use Rattle.resolver_model_peer.specs.Peer.{Machine, Effect, Event, Fetch, Retain, PeerSet, Blocked, ActiveDue, PendingDue, Verdict, Served, Net, End, Input, Happens, Answers, opening, step, step_in}
+use Rattle.resolver_model_peer.specs.Peer.{Machine, Effect, Event, Fetch, Retain, PeerSet, Blocked, ActiveDue, PendingDue, Verdict, Served, Net, End, Input, Happens, Answers, step, step_in}
 use Rattle.resolver_model_peer.specs.PeerLaws.{AcceptsSend, EndsOrRetries, HasNewId}
-use Rattle.resolver_model_peer.specs.PeerRun.{Fed, after, effects_of}
+use Rattle.resolver_model_peer.specs.PeerRun.{Fed, after}
 use Rattle.resolver_model_peer.specs.PeerSteps as machines
 use Rattle.resolver_model_peer.specs.PeerSteps.{MayWant, step_on}
 use Rattle.resolver_model_peer.specs.declared.effects.Effect.{Effect as Told}

@@ -14,13 +14,16 @@ pub mod laws;
 mod looping;
 mod mail;
 pub mod mocks;
+mod monitor;
 pub mod rows;
 mod starting;
 mod stepping;
 
 pub use config::Config;
+pub use counts::Phases;
 pub use engine::Engine;
 pub use looping::Loop;
+pub use monitor::{Monitor, Rows};
 pub use resolver_fetch::fetcher;
 pub use resolver_handles::mailbox::{FetchKey, Mailbox, Message};
 pub use resolver_metrics::metrics::{Durations, Metrics, Tally};

@@ -24,6 +24,8 @@ mod mailboxes;
 #[cfg(test)]
 mod mocks;
 #[cfg(test)]
+mod monitor;
+#[cfg(test)]
 mod ordering;
 #[cfg(test)]
 mod pair;

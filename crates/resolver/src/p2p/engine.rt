@@ -13,6 +13,7 @@ ghost use Rattle.resolver.specs.EngineLaws.{RunsWell};
 ghost use Rattle.resolver.specs.Taking.{Took};
 ghost use Rattle.resolver_peer_step.specs.EngineSteps.{Takes, all_fed};
 ghost use Rattle.resolver.specs.Listed.{listed};
+ghost use Rattle.resolver.specs.Phased.{IsPhased};
 ghost use Rattle.resolver.specs.Matching.{Matches};
 ghost use Rattle.resolver_peer_step.specs.Said.{answer_of, codec, fed_of};
 ghost use Rattle.resolver_peer_step.specs.Tied.{fetcher_of};
@@ -20,9 +21,11 @@ ghost use Rattle.resolver.specs.Configured.{fetching};
 
 use crate::p2p::answers::Asking;
 use crate::p2p::config::Config;
+use crate::p2p::counts::Phases;
 use crate::p2p::hands::Hands;
 use crate::p2p::looping::Loop;
 use crate::p2p::mail::Mail;
+use crate::p2p::monitor::{Monitor, Shown};
 use crate::p2p::rows::Row;
 use crate::p2p::stepping::Core;
 use bytes::Bytes;
@@ -60,6 +63,7 @@ pub struct Engine<
     pub(crate) rt: R,
     alloc: Global,
     core: Core<K, P, S, Q>,
+    shown: Option<Shown<K, P, S>>,
     mail: Mail<K, P, S, Q, R>,
     peer_provider: D,
     blocker: B,
@@ -83,6 +87,7 @@ impl<
             rt: _,
             alloc: _,
             core: _,
+            shown: _,
             mail: _,
             peer_provider: _,
             blocker: _,
@@ -140,6 +145,7 @@ impl<
             rt,
             alloc,
             core: Core::new(alloc, configuration, cfg.priority_responses),
+            shown: None,
             mail,
             peer_provider: cfg.peer_provider,
             blocker: cfg.blocker,
@@ -147,6 +153,21 @@ impl<
             producer: cfg.producer,
         };
         Ok((engine, Mailbox::over(alloc, sender)))
+    }
+
+    /// A look at the engine, for threads that want its counts, or its rows, while its loop runs. Each call answers
+    /// another look at the same. Where memory is refused (`OutOfMemory`), nothing changes.
+    pub fn monitor(&mut self) -> Result<Monitor<K, P, S>, Fault>
+        ensures stays { self.new ≡ self.old }
+        ensures only { IfErr result (λ fault. fault ≡ OutOfMemory) }
+    {
+        if let Some(shown) = &self.shown {
+            return shown.monitor();
+        }
+        let shown = Shown::new(self.alloc, self.core.metrics(), self.core.phases())?;
+        let monitor = shown.monitor()?;
+        self.shown = Some(shown);
+        Ok(monitor)
     }
 
     /// The engine's loop over this network, clock and source of draws, which its caller polls in a
@@ -169,6 +190,7 @@ impl<
             rt: _,
             alloc,
             core,
+            shown,
             mail,
             peer_provider,
             blocker,
@@ -181,13 +203,14 @@ impl<
         match Hands::new(alloc, peers, consumer, producer, asking) {
             Ok(hands) => Ok(Loop {
                 core,
+                shown,
                 mail,
                 hands,
                 receiver,
                 clock,
             }),
             Err(fault) => {
-                drop((core, mail, receiver, clock));
+                drop((core, shown, mail, receiver, clock));
                 Err(fault)
             }
         }
@@ -298,5 +321,13 @@ impl<
             → m.status ≢ Failed → result.serve_processing ≡ length m.serves }
     {
         self.core.metrics()
+    }
+
+    /// How many demanded keys are in each phase now.
+    pub fn phases(&self) -> Phases
+        ensures { (m : Machine K S P) → Matches (parties K.cmp S.cmp P.cmp) self.now m
+            → m.status ≢ Failed → IsPhased (parties K.cmp S.cmp P.cmp) m result }
+    {
+        self.core.phases()
     }
 }

@@ -5,6 +5,7 @@ ghost use Rattle.futures.specs.Task.{IsArmed, Keeps};
 
 use crate::p2p::hands::Hands;
 use crate::p2p::mail::{Mail, poll_mail};
+use crate::p2p::monitor::Shown;
 use crate::p2p::stepping::Core;
 use bytes::Bytes;
 use futures::Future;
@@ -43,6 +44,7 @@ where
     Q: Predicate<K, S>,
 {
     pub(crate) core: Core<K, P, S, Q>,
+    pub(crate) shown: Option<Shown<K, P, S>>,
     pub(crate) mail: Mail<K, P, S, Q, R>,
     pub(crate) hands: Hands<D, B, C, O, X, G>,
     pub(crate) receiver: Y,
@@ -62,6 +64,7 @@ where
     fn drop(self) {
         let Self {
             core: _,
+            shown: _,
             mail: _,
             hands: _,
             receiver: _,
@@ -172,10 +175,8 @@ where
         }
     }
 
-    /// Takes what has come, and is ready once the loop is over, with how it ended and the mailbox
-    /// closed. Where nothing has come so far, every source that may give something wakes the task.
-    /// After `TURNS` turns it asks to be polled again.
-    pub fn poll(&mut self, cx: &mut Context<'_>) -> Poll<Ending>
+    /// Takes what has come, in at most `TURNS` turns.
+    fn poll_turns(&mut self, cx: &mut Context<'_>) -> Poll<Ending>
         ensures armed { OnPending result (IsArmed cx.new) }
         ensures kept { Keeps cx.old cx.new }
     {
@@ -190,6 +191,28 @@ where
             }
         }
         cx.yield_now()
+    }
+
+    /// Takes what has come, and is ready once the loop is over, with how it ended and the mailbox
+    /// closed. Where nothing has come so far, every source that may give something wakes the task.
+    /// After `TURNS` turns it asks to be polled again.
+    pub fn poll(&mut self, cx: &mut Context<'_>) -> Poll<Ending>
+        ensures armed { OnPending result (IsArmed cx.new) }
+        ensures kept { Keeps cx.old cx.new }
+    {
+        let polled = self.poll_turns(cx);
+        if let Some(shown) = &mut self.shown {
+            shown.show(&self.core, cx);
+        }
+        if polled.is_ready() {
+            self.shown = None;
+        }
+        polled
+    }
+
+    /// The machine with all that it counts and lists, for who polls the loop by hand.
+    pub fn core(&self) -> &Core<K, P, S, Q> {
+        &self.core
     }
 }
 

@@ -14,11 +14,12 @@ ghost use Rattle.resolver.specs.EngineLaws.{RunsWell};
 ghost use Rattle.resolver.specs.Taking.{Took};
 ghost use Rattle.resolver_peer_step.specs.EngineSteps.{Takes, all_fed};
 ghost use Rattle.resolver.specs.Listed.{listed};
+ghost use Rattle.resolver.specs.Phased.{IsPhased};
 ghost use Rattle.resolver.specs.Matching.{Matches, UnlessFailed, is_final};
 ghost use Rattle.resolver_peer_step.specs.Said.{answer_of, codec, fed_of};
 ghost use Rattle.resolver_peer_step.specs.Tied.{fetcher_of};
 
-use crate::p2p::counts::metrics;
+use crate::p2p::counts::{Phases, metrics, phases_of};
 use crate::p2p::rows;
 use crate::p2p::rows::Row;
 use resolver_base::{Fault, Span};
@@ -235,6 +236,14 @@ impl<K: Span + Drop, P: Ord + Clone + Drop, S: Ord + Clone + Drop, Q: Predicate<
             → m.status ≢ Failed → result.serve_processing ≡ length m.serves }
     {
         metrics(&self.parts, &self.counted)
+    }
+
+    /// How many demanded keys are in each phase now.
+    pub fn phases(&self) -> Phases
+        ensures { (m : Machine K S P) → Matches (parties K.cmp S.cmp P.cmp) self.now m
+            → m.status ≢ Failed → IsPhased (parties K.cmp S.cmp P.cmp) m result }
+    {
+        phases_of(&self.parts)
     }
 }
 

@@ -388,23 +388,31 @@ pub fn make_loop<Q: Predicate<Key, u16> + Faithful + Drop, R: Copy>(
     setting: Setting,
 ) -> Result<(World<Asked<Q, R>>, Looped<Looping<Q, R>>), Fault> {
     match make_world(rt, alloc, setting) {
-        Ok((world, engine, lent)) => {
-            let looped = match parts_of(lent) {
-                Ok((network, clock, draws)) => engine.into_loop(network, clock, draws),
-                Err(fault) => {
-                    drop(engine);
-                    Err(fault)
-                }
-            };
-            match looped {
-                Ok(looped) => Ok((world, Looped { looped })),
-                Err(fault) => {
-                    drop(world);
-                    Err(fault)
-                }
+        Ok((world, engine, lent)) => match into_loop(engine, lent) {
+            Ok(looped) => Ok((world, looped)),
+            Err(fault) => {
+                drop(world);
+                Err(fault)
             }
-        }
+        },
         Err(fault) => Err(fault),
+    }
+}
+
+/// The loop of a world's engine.
+pub fn into_loop<Q: Predicate<Key, u16> + Faithful + Drop, R: Copy>(
+    engine: Made<Q, R>,
+    lent: Lent,
+) -> Result<Looped<Looping<Q, R>>, Fault> {
+    match parts_of(lent) {
+        Ok((network, clock, draws)) => {
+            let looped = engine.into_loop(network, clock, draws)?;
+            Ok(Looped { looped })
+        }
+        Err(fault) => {
+            drop(engine);
+            Err(fault)
+        }
     }
 }
 

@@ -1,5 +1,5 @@
 use Rattle.futures.specs.Task.{Keeps}
-use Rattle.resolver.proofs.p2p.looping.Loop.poll.Given as goal
+use Rattle.resolver.proofs.p2p.looping.Loop.poll_turns.Given as goal
 
 -- the context is kept over the turns
 abbrev pub invariant-loop : goal.invariant-loop
