@@ -6,11 +6,11 @@ use bytes::{Bytes, BytesMut};
 use resolver::backfill::Without;
 use resolver::base::{Check, Draws, Moment, Seeded};
 use resolver::ingress::FetchKey;
+use resolver::names::Height;
 use resolver::p2p::Core;
 use resolver::p2p::effects::Effect;
 use resolver::p2p::fetcher::{Answer, Ask, Config};
 use resolver::p2p::inputs::{Event, Happening, Input};
-use resolver::p2p::mocks::Key;
 use resolver::p2p::wire::{Message, Payload};
 use resolver::{Fetch, Outcome};
 use std::alloc::Global;
@@ -18,7 +18,7 @@ use std::collections::BTreeMap;
 use std::num::NonZeroU32;
 
 /// A height is a key and a peer a number. There is one subscriber, 0, who gives nothing up.
-type Happens = Event<Key, u8, u16, Without<Key, u16>>;
+type Happens = Event<Height, u8, u16, Without<Height, u16>>;
 
 /// Nanoseconds in a millisecond.
 const MS: u128 = 1_000_000;
@@ -29,7 +29,7 @@ const SLOW: u8 = 3;
 
 #[derive(Drop)]
 struct Synchroniser {
-    core: Core<Key, u8, u16, Without<Key, u16>>,
+    core: Core<Height, u8, u16, Without<Height, u16>>,
     draws: Seeded,
     now: Moment,
     /// What will happen, by its moment in nanoseconds and then in order: messages, verdicts, what is blocked.
@@ -88,7 +88,10 @@ impl Synchroniser {
     }
 
     /// Feeds one input, and does what comes of it. The answer to what is asked, if something is.
-    fn step(&mut self, input: Input<Key, u8, u16, Without<Key, u16>>) -> Result<Option<Answer>> {
+    fn step(
+        &mut self,
+        input: Input<Height, u8, u16, Without<Height, u16>>,
+    ) -> Result<Option<Answer>> {
         let effects = self.core.step(input)?;
         let mut answer = None;
         for effect in effects {
@@ -101,7 +104,7 @@ impl Synchroniser {
     }
 
     /// Does what comes of an input, but for what a scan asks.
-    fn carry_out(&mut self, effect: Effect<Key, u8, u16>) -> Result<()> {
+    fn carry_out(&mut self, effect: Effect<Height, u8, u16>) -> Result<()> {
         match effect {
             Effect::Deliver {
                 number,
@@ -115,7 +118,7 @@ impl Synchroniser {
     }
 
     /// Judges what was handed out.
-    fn judge(&mut self, number: u64, height: Key, value: Bytes) -> Result<()> {
+    fn judge(&mut self, number: u64, height: Height, value: Bytes) -> Result<()> {
         let is_right = value.as_slice() == block_of(height).as_slice();
         self.blocks = self.blocks.saturating_add(u64::from(is_right));
         let outcome = Some(Outcome::from(is_right));
@@ -133,7 +136,7 @@ impl Synchroniser {
     }
 
     /// Answers a question: draws a number, looks at a peer, or sends a request, whose answer is on its way at once.
-    fn answer(&mut self, ask: Ask<Key, u8>) -> Result<Answer> {
+    fn answer(&mut self, ask: Ask<Height, u8>) -> Result<Answer> {
         Ok(match ask {
             Ask::Draw(bound) => Answer::Drawn(self.draws.below(bound.max(1))),
             Ask::Check(_) => Answer::Checked(Check::Clear),
@@ -147,18 +150,20 @@ impl Synchroniser {
     }
 }
 
-/// The block of a height.
-fn block_of(height: Key) -> [u8; 2] {
-    [height.0, 255 - height.0]
+/// The block of a height: each byte of the number turned.
+fn block_of(height: Height) -> [u8; 8] {
+    (!u64::from(height)).to_be_bytes()
 }
 
-/// A peer's message that answers a request. The liar has one byte wrong.
-fn answer_of(alloc: Global, peer: u8, id: u64, height: Key) -> Result<Bytes> {
-    let [first, last] = block_of(height);
-    let last = if peer == LIAR { first } else { last };
-    let payload = Payload::Response(Bytes::copy_from_slice(alloc, &[first, last])?);
+/// A peer's message that answers a request. The liar has each byte wrong.
+fn answer_of(alloc: Global, peer: u8, id: u64, height: Height) -> Result<Bytes> {
+    let block = match peer {
+        LIAR => height.bytes,
+        _ => block_of(height),
+    };
+    let payload = Payload::Response(Bytes::copy_from_slice(alloc, &block)?);
     let mut out = BytesMut::new(alloc);
-    Message::<Key> { id, payload }.write(&mut out)?;
+    Message::<Height> { id, payload }.write(&mut out)?;
     Ok(out.freeze()?)
 }
 
@@ -167,8 +172,8 @@ fn show(rt: &impl Print, node: &mut Synchroniser) -> Result<()> {
     let peers = Vec::from_slice(node.alloc, &[1, LIAR, SLOW])?;
     node.expect(0, Event::PeerSet { index: 0, peers })?;
     let mut items = Vec::new(node.alloc);
-    for height in 1..=50 {
-        items.push(FetchKey::from_fetch(node.alloc, Fetch::from(Key(height)))?)?;
+    for height in 1..=50u64 {
+        items.push(FetchKey::from_fetch(node.alloc, Fetch::from(Height::from(height)))?)?;
     }
     node.expect(0, Event::Fetch(items))?;
     let mut shown = 0;

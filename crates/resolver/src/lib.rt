@@ -16,6 +16,7 @@ pub mod backfill;
 pub mod base;
 pub mod delivery;
 pub mod ingress;
+pub mod names;
 pub mod node;
 pub mod opaque;
 pub mod p2p;

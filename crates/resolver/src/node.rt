@@ -1,4 +1,6 @@
-//! What a node lends to its engine, ready to be used: a network, sets of peers, a blocker, and
-//! predicates for `retain`.
+//! What a node lends to its engine, ready to be used: a clock, a network, sets of peers, a
+//! blocker, and predicates for `retain`.
 
-pub use resolver_node::{Blocked, Inbox, Link, OneSet, Sets, Weather, network, predicates};
+pub use resolver_node::{
+    Blocked, Inbox, Link, OneSet, Sets, SystemClock, Timer, Weather, network, predicates,
+};

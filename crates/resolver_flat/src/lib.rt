@@ -9,6 +9,7 @@ pub mod refusal;
 pub mod writing;
 
 pub use leaving::Leaving;
-pub use name::{FlatName, Name, Short};
+pub use name::FlatName;
 pub use reading::{Misread, Spelled};
 pub use refusal::Refusal;
+pub use resolver_names::Name;

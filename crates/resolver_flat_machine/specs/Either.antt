@@ -4,7 +4,7 @@ use Rattle.resolver_metrics.specs.declared.metrics.Metrics.{Metrics}
 use Rattle.resolver_model_opaque.specs.Opaque.{next_retry}
 use Rattle.resolver_model_opaque.specs.OpaqueListed.{listed}
 use Rattle.resolver_flat.specs.Naming.{of_bytes}
-use Rattle.resolver_flat.specs.declared.name.Name.{Name}
+use Rattle.resolver_names.specs.declared.name.Name.{Name}
 use Rattle.resolver_flat.specs.declared.reading.Misread.{Misread}
 use Rattle.resolver_flat.specs.declared.reading.Misread.TheVariants.{Misspelled}
 use Rattle.resolver_flat.specs.declared.refusal.Refusal.{Refusal}

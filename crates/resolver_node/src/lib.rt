@@ -1,5 +1,5 @@
-//! What a node lends to its engine, ready to be used: a network, sets of peers, a blocker, and
-//! predicates for `retain`.
+//! What a node lends to its engine, ready to be used: a clock, a network, sets of peers, a
+//! blocker, and predicates for `retain`.
 #![tactic(auto)]
 
 pub mod blocked;
@@ -7,8 +7,10 @@ pub mod inbox;
 pub mod memory;
 pub mod one_set;
 pub mod predicates;
+pub mod system_clock;
 
 pub use blocked::Blocked;
 pub use inbox::{Inbox, Sets};
 pub use memory::{Link, Weather, network};
 pub use one_set::OneSet;
+pub use system_clock::{SystemClock, Timer};

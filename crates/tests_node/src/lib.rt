@@ -9,3 +9,5 @@ mod peers;
 mod predicates;
 #[cfg(test)]
 mod support;
+#[cfg(test)]
+mod system_clock;

@@ -25,6 +25,8 @@ mod mail;
 #[cfg(test)]
 mod messages;
 #[cfg(test)]
+mod names;
+#[cfg(test)]
 mod non_empty_vec;
 #[cfg(test)]
 mod numbers;
