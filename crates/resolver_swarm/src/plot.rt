@@ -62,8 +62,8 @@ fn down(milliseconds: u128, top: u128) -> u128 {
 
 /// The lines that cross the picture with their labels, and what the axes are.
 fn write_axes(out: &mut String, name: &str, top: u128) -> Result<(), AllocError> {
-    for line in 0..=LINES {
-        let milliseconds = (top / LINES).saturating_mul(line);
+    for line in 0..=5u8 {
+        let milliseconds = (top / LINES).saturating_mul(u128::from(line));
         let y = down(milliseconds, top);
         let (right, label) = (LEFT + WIDTH, y.saturating_add(4));
         writeln!(
