@@ -3,7 +3,7 @@
 use clap::{Arg, ArgMatches, Command, Error, value_parser};
 use resolver_swarm::settings::Settings;
 use resolver_swarm::sweep::Sweep;
-use resolver_swarm::words::{Misread, WORDS};
+use resolver_swarm::words::{Misread, WORDS, Word};
 use std::alloc::{AllocError, Global};
 
 /// What the words want.
@@ -27,20 +27,29 @@ pub fn usual_numbers(alloc: Global) -> Result<Vec<String>, AllocError> {
         .try_collect(alloc)
 }
 
-/// The command, with all words.
-fn command<'a>(alloc: Global, usual: &'a [String]) -> Result<Command<'a>, AllocError> {
-    let mut command = Command::new(alloc, "resolver-swarm").about(
-        "Runs many nodes that fetch from one another, and says how long they take.",
-    );
-    for (word, usual) in WORDS.iter().zip(usual) {
-        let arg = Arg::new(alloc, word.name)
-            .long(word.name)
-            .value_name("N")
-            .value_parser(value_parser!(u64))
-            .default_value(usual.as_str())
-            .help(word.help);
-        command = command.arg(arg)?;
-    }
+/// The command without a word.
+fn bare<'a>(alloc: Global, name: &'a str, about: &'a str) -> Command<'a> {
+    Command::new(alloc, name).about(about)
+}
+
+/// The command with a word for a number more.
+fn with_number<'a>(
+    alloc: Global,
+    command: Command<'a>,
+    word: &'a Word,
+    usual: &'a str,
+) -> Result<Command<'a>, AllocError> {
+    let arg = Arg::new(alloc, word.name)
+        .long(word.name)
+        .value_name("N")
+        .value_parser(value_parser!(u64))
+        .default_value(usual)
+        .help(word.help);
+    command.arg(arg)
+}
+
+/// The command with the words of a sweep.
+fn with_sweep<'a>(alloc: Global, command: Command<'a>) -> Result<Command<'a>, AllocError> {
     let sweep = Arg::new(alloc, "sweep")
         .long("sweep")
         .value_name("NAME=N,N,..")
@@ -51,6 +60,16 @@ fn command<'a>(alloc: Global, usual: &'a [String]) -> Result<Command<'a>, AllocE
         .requires_arg("sweep")?
         .help("a picture of the sweep, as SVG");
     command.arg(sweep)?.arg(plot)
+}
+
+/// The command, with all words.
+fn command<'a>(alloc: Global, usual: &'a [String]) -> Result<Command<'a>, AllocError> {
+    let about = "Runs many nodes that fetch from one another, and says how long they take.";
+    let mut command: Command<'a> = bare(alloc, "resolver-swarm", about);
+    for (word, usual) in WORDS.iter().zip(usual) {
+        command = with_number(alloc, command, word, usual.as_str())?;
+    }
+    with_sweep(alloc, command)
 }
 
 /// The settings that the words say.
@@ -69,7 +88,7 @@ fn settings_of(matches: &ArgMatches<'_>) -> Result<Settings, Misread> {
 }
 
 /// What the words want, but for what `clap` can't read.
-fn wanted<'a>(alloc: Global, matches: &ArgMatches<'a>) -> Result<Wanted<'a>, Misread> {
+fn meant<'a>(alloc: Global, matches: &ArgMatches<'a>) -> Result<Wanted<'a>, Misread> {
     let settings = settings_of(matches)?;
     match matches.get_str("sweep") {
         Some(text) => {
@@ -87,7 +106,10 @@ pub fn read<'a>(
     usual: &'a [String],
 ) -> Result<Wanted<'a>, AllocError> {
     match command(alloc, usual)?.try_get_matches_from(words) {
-        Ok(matches) => Ok(wanted(alloc, &matches).unwrap_or_else(Wanted::Misread)),
+        Ok(matches) => match meant(alloc, &matches) {
+            Ok(wanted) => Ok(wanted),
+            Err(misread) => Ok(Wanted::Misread(misread)),
+        },
         Err(error) => Ok(Wanted::Nothing(error)),
     }
 }

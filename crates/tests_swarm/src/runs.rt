@@ -77,11 +77,31 @@ fn assert_synced(rt: &(impl Abort + AllocGlobal), settings: Settings) {
     );
 }
 
-#[test]
-fn all_keys_come_at_a_hundred_seeds_of_hard_settings(rt: HostRuntime) {
-    for seed in 0..100 {
-        assert_synced(&rt, hard(seed));
+/// That all keys come at 25 seeds of hard settings from this one on.
+fn assert_synced_from(rt: &(impl Abort + AllocGlobal), first: u64) {
+    for seed in first..first.saturating_add(25) {
+        assert_synced(rt, hard(seed));
     }
+}
+
+#[test]
+fn all_keys_come_at_hard_settings_from_seed_0(rt: HostRuntime) {
+    assert_synced_from(&rt, 0);
+}
+
+#[test]
+fn all_keys_come_at_hard_settings_from_seed_25(rt: HostRuntime) {
+    assert_synced_from(&rt, 25);
+}
+
+#[test]
+fn all_keys_come_at_hard_settings_from_seed_50(rt: HostRuntime) {
+    assert_synced_from(&rt, 50);
+}
+
+#[test]
+fn all_keys_come_at_hard_settings_from_seed_75(rt: HostRuntime) {
+    assert_synced_from(&rt, 75);
 }
 
 #[test]
