@@ -1,0 +1,390 @@
+//! A model of a node's core.
+
+ghost use Rattle.std.specs.Prelude.{◌≡◌, ◌≢◌, ◌↔◌, IsTrue, IsSome, false, None, Some};
+ghost use Rattle.std.specs.Ordering.{nat_cmp};
+ghost use Rattle.std.specs.BTreeMap.{get};
+ghost use Rattle.std.specs.BTreeSet.{contains};
+ghost use Rattle.resolver_swarm.specs.Judging.{IsLater, first_found};
+
+use crate::height::Height;
+use crate::judging::complaint::Complaint;
+use crate::judging::said::{Said, read};
+use crate::settings::{Settings, nanos};
+use crate::world::Happens;
+use resolver::base::Check;
+use resolver::p2p::effects::Effect;
+use resolver::p2p::inputs::Event;
+use resolver::p2p::rows::{Phase, Row};
+use resolver::{Outcome, Resolution};
+use std::alloc::{AllocError, Global};
+use std::collections::{BTreeMap, BTreeSet};
+
+/// A request without an answer.
+#[derive(Clone, Copy, Debug, PartialEq, Eq)]
+pub struct Asked {
+    pub key: Height,
+    pub peer: u16,
+    /// When its time is over, in nanoseconds.
+    pub deadline: u128,
+}
+
+/// What a core is to have and to do, and what it did wrong first. Nothing is given up in a run, so no retain is told.
+#[derive(Drop)]
+pub struct Judge {
+    pub me: u16,
+    pub limit: u32,
+    pub timeout: u128,
+    pub now: u128,
+    pub index: Option<u64>,
+    pub peers: BTreeSet<u16>,
+    pub blocked: BTreeSet<u16>,
+    /// The keys that were fetched and not retired.
+    pub demand: BTreeSet<Height>,
+    /// The requests without an answer, by their ids.
+    pub asked: BTreeMap<u64, Asked>,
+    /// The keys of the deliveries without a verdict, by their numbers.
+    pub open: BTreeMap<u64, Height>,
+    /// The senders of the responses that have earned nothing, by their numbers.
+    pub senders: BTreeMap<u64, u16>,
+    /// The request that was answered by the last event with a value.
+    pub answered: Option<Asked>,
+    /// The peer that may be sent to, as the last check said.
+    pub clear: Option<u16>,
+    /// What is wrong, if something is: what was found first.
+    pub complaint: Option<Complaint>,
+}
+
+impl Judge {
+    /// A judge of the node of this name, which wants nothing and knows nobody.
+    pub fn new(alloc: Global, me: u16, settings: &Settings) -> Judge {
+        Judge {
+            me,
+            limit: settings.peer_limit,
+            timeout: nanos(settings.timeout),
+            now: 0,
+            index: None,
+            peers: BTreeSet::new(alloc),
+            blocked: BTreeSet::new(alloc),
+            demand: BTreeSet::new(alloc),
+            asked: BTreeMap::new(alloc),
+            open: BTreeMap::new(alloc),
+            senders: BTreeMap::new(alloc),
+            answered: None,
+            clear: None,
+            complaint: None,
+        }
+    }
+
+    /// How many requests have no answer.
+    pub fn open_requests(&self) -> usize {
+        self.asked.len()
+    }
+
+    /// Something is wrong.
+    pub fn complain(&mut self, complaint: Complaint)
+        ensures found { self.new
+            ≡ record self.old { complaint = first_found self.old.complaint complaint } }
+        ensures some { IsSome self.new.complaint }
+    {
+        match self.complaint {
+            Some(_) => {}
+            None => self.complaint = Some(complaint),
+        }
+    }
+
+    /// Something is wrong unless this holds.
+    fn expect(&mut self, holds: bool, complaint: Complaint)
+        ensures judged { self.new.complaint ≡ None → IsTrue holds }
+        ensures found { self.new ≡ record self.old { complaint = self.new.complaint } }
+        ensures stays { IsSome self.old.complaint → self.new.complaint ≡ self.old.complaint }
+    {
+        if !holds {
+            self.complain(complaint);
+        }
+    }
+
+    /// The core takes an event.
+    pub fn take(&mut self, now: u128, event: &Happens) -> Result<(), AllocError> {
+        self.now = now;
+        self.answered = None;
+        self.clear = None;
+        match event {
+            Event::Fetch(items) => {
+                for item in items {
+                    self.demand.insert(item.key)?;
+                }
+            }
+            Event::PeerSet { index, peers } => self.set_peers(*index, peers.as_slice())?,
+            Event::Blocked(peers) => replace(&mut self.blocked, peers.as_slice())?,
+            Event::ActiveDue => self.time_out(),
+            Event::Verdict { number, outcome } => self.rule(*number, *outcome),
+            Event::Net { peer, bytes } => self.receive(*peer, bytes.as_slice()),
+            Event::Retain(_) | Event::PendingDue | Event::Served { .. } | Event::End => {}
+        }
+        Ok(())
+    }
+
+    /// A set takes the place of the last one where its index is greater.
+    fn set_peers(&mut self, index: u64, peers: &[u16]) -> Result<(), AllocError> {
+        if self.index.is_some_and(|last| index <= last) {
+            return Ok(());
+        }
+        self.index = Some(index);
+        replace(&mut self.peers, peers)
+    }
+
+    /// The first request whose time is over, by its deadline and then by its id.
+    fn overdue(&self) -> Option<u64> {
+        let over = self
+            .asked
+            .iter()
+            .filter(|(_, asked)| asked.deadline <= self.now);
+        let first = over.map(|(id, asked)| (asked.deadline, *id)).min();
+        first.map(|(_, id)| id)
+    }
+
+    /// The time of a request is over.
+    fn time_out(&mut self) {
+        if let Some(id) = self.overdue() {
+            self.asked.remove(&id);
+        }
+    }
+
+    /// A verdict: a key that is complete, or that is let go, is retired.
+    fn rule(&mut self, number: u64, outcome: Option<Outcome>) {
+        let Some(key) = self.open.remove(&number) else {
+            return;
+        };
+        if is_retiring(outcome) {
+            self.demand.remove(&key);
+        }
+    }
+
+    /// A message of a peer ends the request that it answers.
+    fn receive(&mut self, peer: u16, bytes: &[u8]) {
+        match read(bytes) {
+            Some(Said::Response { id }) => self.answered = self.end_request(id, peer),
+            Some(Said::Missing { id }) => {
+                self.end_request(id, peer);
+            }
+            Some(Said::Request) | None => {}
+        }
+    }
+
+    /// Ends the request of this id, if this peer was asked.
+    fn end_request(&mut self, id: u64, peer: u16) -> Option<Asked> {
+        let asked = self.asked.get(&id).copied()?;
+        if asked.peer != peer {
+            return None;
+        }
+        self.asked.remove(&id)
+    }
+
+    /// How many requests a peer has.
+    fn load(&self, peer: u16) -> usize {
+        self.asked
+            .values()
+            .filter(|asked| asked.peer == peer)
+            .count()
+    }
+
+    /// Whether a peer may be asked: it is of the last set, neither the node itself nor blocked, and has fewer requests
+    /// than it may have.
+    pub fn is_eligible(&self, peer: u16) -> bool
+        ensures listed { IsTrue result → IsTrue (contains nat_cmp self.entry.now.peers peer) }
+        ensures other { IsTrue result → peer ≢ self.entry.now.me }
+        ensures unblocked { IsTrue result → contains nat_cmp self.entry.now.blocked peer ≡ false }
+    {
+        self.peers.contains(&peer)
+            && peer != self.me
+            && !self.blocked.contains(&peer)
+            && (self.limit == 0 || self.load(peer) < self.limit as usize)
+    }
+
+    /// A peer is looked at, which says this.
+    pub fn note_check(&mut self, peer: u16, check: Check)
+        ensures listed { self.new.complaint ≡ None
+            → IsTrue (contains nat_cmp self.old.peers peer) }
+        ensures other { self.new.complaint ≡ None → peer ≢ self.old.me }
+        ensures unblocked { self.new.complaint ≡ None
+            → contains nat_cmp self.old.blocked peer ≡ false }
+    {
+        self.clear = match check {
+            Check::Clear => Some(peer),
+            Check::Until(_) => None,
+        };
+        let is_eligible = self.is_eligible(peer);
+        self.expect(is_eligible, Complaint::Ineligible);
+    }
+
+    /// Whether a key is asked for.
+    fn is_asked(&self, key: Height) -> bool {
+        self.asked.values().any(|asked| asked.key == key)
+    }
+
+    /// Whether a key may be asked for under this id: it is wanted, neither asked for nor judged, and the id is free.
+    fn may_request(&self, key: Height, id: u64) -> bool {
+        self.demand.contains(&key)
+            && !self.is_asked(key)
+            && !self.open.values().any(|judged| *judged == key)
+            && !self.asked.contains_key(&id)
+    }
+
+    /// A request is sent, and accepted or not.
+    pub fn note_request(
+        &mut self,
+        (key, peer, id): (Height, u16, u64),
+        is_accepted: bool,
+    ) -> Result<(), AllocError> {
+        let is_eligible = self.is_eligible(peer) && self.clear == Some(peer);
+        self.expect(is_eligible, Complaint::Ineligible);
+        let is_right = self.may_request(key, id);
+        self.expect(is_right, Complaint::Request);
+        if is_accepted {
+            let deadline = self.now.saturating_add(self.timeout);
+            let asked = Asked {
+                key,
+                peer,
+                deadline,
+            };
+            self.asked.insert(id, asked)?;
+        }
+        Ok(())
+    }
+
+    /// The core tells this.
+    pub fn note_effect(&mut self, effect: &Effect<Height, u16, u16>) -> Result<(), AllocError> {
+        match effect {
+            Effect::Deliver {
+                number,
+                delivery,
+                ..
+            } => self.note_delivery(*number, delivery.key),
+            Effect::Credit { response, source } => {
+                self.note_earning(*response, source.peer);
+                Ok(())
+            }
+            Effect::Block { response, peer } => {
+                self.note_earning(*response, *peer);
+                Ok(())
+            }
+            Effect::Ask(_)
+            | Effect::Cancel { .. }
+            | Effect::Produce { .. }
+            | Effect::Reply { .. } => Ok(()),
+        }
+    }
+
+    /// A key's value is handed out: it is what the asked peer answered just now.
+    fn note_delivery(&mut self, number: u64, key: Height) -> Result<(), AllocError> {
+        let answered = self.answered.take();
+        let is_answer = answered.is_some_and(|asked| asked.key == key);
+        self.expect(is_answer, Complaint::Delivery);
+        if let Some(asked) = answered {
+            self.senders.insert(number, asked.peer)?;
+            self.open.insert(number, key)?;
+        }
+        Ok(())
+    }
+
+    /// A response earns its sender a credit or a block, and nothing after that.
+    fn note_earning(&mut self, response: u64, peer: u16)
+        ensures judged { self.new.complaint ≡ None
+            → get nat_cmp self.old.senders response ≡ Some peer }
+        ensures once { get nat_cmp self.new.senders response ≡ None }
+    {
+        let is_right = self.senders.remove(&response) == Some(peer);
+        self.expect(is_right, Complaint::Earned);
+    }
+
+    /// What the core lists once an event is over: the demand, and the open requests.
+    pub fn note_rows(&mut self, rows: &[Row<Height, u16, u16>]) {
+        let is_demand = self.has_demand(rows);
+        self.expect(is_demand, Complaint::Demand);
+        let are_asked = self.has_requests(rows);
+        self.expect(are_asked, Complaint::Requests);
+        let is_unanswered = self.answered.is_none();
+        self.expect(is_unanswered, Complaint::Delivery);
+    }
+
+    /// Whether the rows are the demanded keys, in their order.
+    fn has_demand(&self, rows: &[Row<Height, u16, u16>]) -> bool {
+        rows.len() == self.demand.len()
+            && rows
+                .iter()
+                .zip(self.demand.iter())
+                .all(|(row, key)| row.key == *key)
+    }
+
+    /// Whether the rows have the open requests.
+    fn has_requests(&self, rows: &[Row<Height, u16, u16>]) -> bool {
+        let asked = rows
+            .iter()
+            .filter(|row| matches!(row.phase, Phase::Asked { .. }));
+        asked.count() == self.asked.len() && rows.iter().all(|row| self.is_known(row))
+    }
+
+    /// Whether a row is of no request, or of one that is open.
+    fn is_known(&self, row: &Row<Height, u16, u16>) -> bool {
+        let Phase::Asked { id, peer, deadline } = &row.phase else {
+            return true;
+        };
+        let asked = Asked {
+            key: row.key,
+            peer: *peer,
+            deadline: *deadline,
+        };
+        self.asked.get(id).copied() == Some(asked)
+    }
+
+    /// When the time of the first request is over.
+    fn next_deadline(&self) -> Option<u128> {
+        self.asked.values().map(|asked| asked.deadline).min()
+    }
+
+    /// Whether there is a key that waits and a peer that may be asked.
+    fn has_work(&self) -> bool {
+        let busy = self.asked.len().saturating_add(self.open.len());
+        self.demand.len() > busy && self.peers.iter().any(|peer| self.is_eligible(*peer))
+    }
+
+    /// What the core waits for, once all that is due was fed.
+    pub fn note_waits(&mut self, active: Option<u128>, pending: Option<u128>)
+        ensures judged { self.new.complaint ≡ None
+            → IsLater self.old.now active × IsLater self.old.now pending }
+    {
+        let is_timed = active == self.next_deadline();
+        self.expect(is_timed, Complaint::Deadline);
+        let is_fed = is_later(self.now, active) && is_later(self.now, pending);
+        self.expect(is_fed, Complaint::Overdue);
+        let is_awake = pending.is_some_and(|wake| wake < u128::MAX) || !self.has_work();
+        self.expect(is_awake, Complaint::Asleep);
+    }
+}
+
+/// Whether a node is woken later than now, if it is woken.
+fn is_later(now: u128, wake: Option<u128>) -> bool
+    ensures { IsTrue result ↔ IsLater now wake }
+{
+    match wake {
+        Some(wake) => wake > now,
+        None => true,
+    }
+}
+
+/// Whether a verdict retires its key, where one subscriber wants it.
+fn is_retiring(outcome: Option<Outcome>) -> bool {
+    matches!(
+        outcome,
+        None | Some(Outcome::Resolved(Resolution::Complete) | Outcome::Ignored)
+    )
+}
+
+/// These peers take the place of others.
+fn replace(set: &mut BTreeSet<u16>, peers: &[u16]) -> Result<(), AllocError> {
+    set.clear();
+    for peer in peers {
+        set.insert(*peer)?;
+    }
+    Ok(())
+}

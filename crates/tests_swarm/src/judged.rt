@@ -1,0 +1,262 @@
+//! One wrong step for each thing that a judge judges.
+
+use bytes::Bytes;
+use resolver::base::{Check, NonEmptyVec};
+use resolver::p2p::FetchKey;
+use resolver::p2p::effects::Effect;
+use resolver::p2p::inputs::Event;
+use resolver::p2p::named::Source;
+use resolver::p2p::rows::{Phase, Row};
+use resolver::{Delivery, Fetch, Outcome};
+use resolver_swarm::height::Height;
+use resolver_swarm::judging::complaint::Complaint;
+use resolver_swarm::judging::judge::Judge;
+use resolver_swarm::settings::Settings;
+use resolver_swarm::world::Happens;
+use std::alloc::Global;
+use std::panic::Expect;
+use std::process::Abort;
+
+/// The key that is wanted.
+const KEY: Height = Height { high: 0, low: 5 };
+
+/// The id of the request.
+const ID: u64 = 9;
+
+/// That node 1 may ask one peer for one key at once.
+fn judge(alloc: Global) -> Judge {
+    let settings = Settings {
+        peer_limit: 1,
+        timeout: 1,
+        ..Settings::usual()
+    };
+    Judge::new(alloc, 1, &settings)
+}
+
+fn take(rt: &impl Abort, judge: &mut Judge, now: u128, event: Happens) {
+    judge.take(now, &event).expect(rt, "memory");
+    drop(event);
+}
+
+/// A judge of a node that wants a key and has peer 2.
+fn wanting(rt: &impl Abort, alloc: Global) -> Judge {
+    let mut judge = judge(alloc);
+    let mut items = Vec::new(alloc);
+    let item = FetchKey::from_fetch(alloc, Fetch::from(KEY));
+    items.push(item.expect(rt, "memory")).expect(rt, "memory");
+    take(rt, &mut judge, 0, Event::Fetch(items));
+    let peers = Vec::from_slice(alloc, &[1, 2]).expect(rt, "memory");
+    take(rt, &mut judge, 0, Event::PeerSet { index: 0, peers });
+    judge
+}
+
+/// The same, where peer 2 was asked for it.
+fn asking(rt: &impl Abort, alloc: Global) -> Judge {
+    let mut judge = wanting(rt, alloc);
+    judge.note_check(2, Check::Clear);
+    judge.note_request((KEY, 2, ID), true).expect(rt, "memory");
+    judge
+}
+
+fn response(rt: &impl Abort, alloc: Global) -> Bytes {
+    Bytes::copy_from_slice(alloc, b"\0\0\0\0\0\0\0\x09\x01\x02hi").expect(rt, "memory")
+}
+
+fn delivery(rt: &impl Abort, alloc: Global, number: u64) -> Effect<Height, u16, u16> {
+    let subscribers = NonEmptyVec::new(alloc, (0, 0)).expect(rt, "memory");
+    let delivery = Delivery {
+        key: KEY,
+        subscribers,
+    };
+    let value = Bytes::copy_from_slice(alloc, b"hi").expect(rt, "memory");
+    Effect::Deliver {
+        number,
+        response: number,
+        delivery,
+        value,
+    }
+}
+
+/// The same, where it answered, which was handed out under number 0.
+fn judging(rt: &impl Abort, alloc: Global) -> Judge {
+    let mut judge = asking(rt, alloc);
+    let bytes = response(rt, alloc);
+    take(rt, &mut judge, 10, Event::Net { peer: 2, bytes });
+    judge
+        .note_effect(&delivery(rt, alloc, 0))
+        .expect(rt, "memory");
+    judge
+}
+
+fn credit(response: u64, peer: u16) -> Effect<Height, u16, u16> {
+    Effect::Credit {
+        response,
+        source: Source {
+            peer,
+            elapsed: 10,
+            bytes: 2,
+        },
+    }
+}
+
+fn row(rt: &impl Abort, alloc: Global, phase: Phase<u16>) -> Row<Height, u16, u16> {
+    Row {
+        key: KEY,
+        subscribers: NonEmptyVec::new(alloc, (0, 0)).expect(rt, "memory"),
+        targets: None,
+        retries: 0,
+        phase,
+    }
+}
+
+fn assert_found(rt: &impl Abort, judge: &Judge, complaint: Option<Complaint>) {
+    assert_eq!(rt; judge.complaint, complaint);
+}
+
+#[test]
+fn a_right_node_is_not_complained_of(rt: HostRuntime) {
+    let mut judge = judging(&rt, rt.alloc());
+    let outcome = Some(Outcome::from(true));
+    take(&rt, &mut judge, 10, Event::Verdict { number: 0, outcome });
+    judge.note_effect(&credit(0, 2)).expect(&rt, "memory");
+    judge.note_rows(&[]);
+    judge.note_waits(None, None);
+    assert_found(&rt, &judge, None);
+}
+
+#[test]
+fn a_lost_demand_is_found(rt: HostRuntime) {
+    let mut judge = wanting(&rt, rt.alloc());
+    judge.note_rows(&[]);
+    assert_found(&rt, &judge, Some(Complaint::Demand));
+}
+
+#[test]
+fn a_demand_that_stays_is_found(rt: HostRuntime) {
+    let mut judge = judging(&rt, rt.alloc());
+    let outcome = Some(Outcome::from(true));
+    take(&rt, &mut judge, 10, Event::Verdict { number: 0, outcome });
+    judge.note_rows(&[row(&rt, rt.alloc(), Phase::Judged { number: 0 })]);
+    assert_found(&rt, &judge, Some(Complaint::Demand));
+}
+
+#[test]
+fn a_request_that_stays_is_found(rt: HostRuntime) {
+    let mut judge = asking(&rt, rt.alloc());
+    take(&rt, &mut judge, 1_000_000, Event::ActiveDue);
+    let phase = Phase::Asked {
+        id: ID,
+        peer: 2,
+        deadline: 1_000_000,
+    };
+    judge.note_rows(&[row(&rt, rt.alloc(), phase)]);
+    assert_found(&rt, &judge, Some(Complaint::Requests));
+}
+
+#[test]
+fn a_peer_that_is_asked_in_vain_is_found(rt: HostRuntime) {
+    let mut itself = wanting(&rt, rt.alloc());
+    itself.note_check(1, Check::Clear);
+    assert_found(&rt, &itself, Some(Complaint::Ineligible));
+    let mut stranger = wanting(&rt, rt.alloc());
+    stranger.note_check(3, Check::Clear);
+    assert_found(&rt, &stranger, Some(Complaint::Ineligible));
+    let mut full = asking(&rt, rt.alloc());
+    full.note_check(2, Check::Clear);
+    assert_found(&rt, &full, Some(Complaint::Ineligible));
+}
+
+#[test]
+fn a_blocked_peer_that_is_asked_is_found(rt: HostRuntime) {
+    let mut judge = wanting(&rt, rt.alloc());
+    let blocked = Vec::from_slice(rt.alloc(), &[2]).expect(&rt, "memory");
+    take(&rt, &mut judge, 0, Event::Blocked(blocked));
+    judge.note_check(2, Check::Clear);
+    assert_found(&rt, &judge, Some(Complaint::Ineligible));
+}
+
+#[test]
+fn a_limited_peer_that_is_asked_is_found(rt: HostRuntime) {
+    let mut judge = wanting(&rt, rt.alloc());
+    judge.note_check(2, Check::Until(50));
+    judge.note_request((KEY, 2, ID), true).expect(&rt, "memory");
+    assert_found(&rt, &judge, Some(Complaint::Ineligible));
+}
+
+#[test]
+fn a_key_that_nobody_wants_is_found(rt: HostRuntime) {
+    let mut judge = wanting(&rt, rt.alloc());
+    judge.note_check(2, Check::Clear);
+    judge
+        .note_request((Height::of(6), 2, ID), true)
+        .expect(&rt, "memory");
+    assert_found(&rt, &judge, Some(Complaint::Request));
+}
+
+#[test]
+fn a_delivery_that_nobody_answered_is_found(rt: HostRuntime) {
+    let mut judge = asking(&rt, rt.alloc());
+    judge
+        .note_effect(&delivery(&rt, rt.alloc(), 0))
+        .expect(&rt, "memory");
+    assert_found(&rt, &judge, Some(Complaint::Delivery));
+}
+
+#[test]
+fn an_answer_that_is_not_delivered_is_found(rt: HostRuntime) {
+    let mut judge = asking(&rt, rt.alloc());
+    let bytes = response(&rt, rt.alloc());
+    take(&rt, &mut judge, 10, Event::Net { peer: 2, bytes });
+    judge.note_rows(&[row(&rt, rt.alloc(), Phase::Judged { number: 0 })]);
+    assert_found(&rt, &judge, Some(Complaint::Delivery));
+}
+
+#[test]
+fn a_second_credit_is_found(rt: HostRuntime) {
+    let mut judge = judging(&rt, rt.alloc());
+    judge.note_effect(&credit(0, 2)).expect(&rt, "memory");
+    assert_found(&rt, &judge, None);
+    judge.note_effect(&credit(0, 2)).expect(&rt, "memory");
+    assert_found(&rt, &judge, Some(Complaint::Earned));
+}
+
+#[test]
+fn a_credit_of_another_peer_is_found(rt: HostRuntime) {
+    let mut judge = judging(&rt, rt.alloc());
+    judge.note_effect(&credit(0, 3)).expect(&rt, "memory");
+    assert_found(&rt, &judge, Some(Complaint::Earned));
+}
+
+#[test]
+fn a_block_after_a_credit_is_found(rt: HostRuntime) {
+    let mut judge = judging(&rt, rt.alloc());
+    judge.note_effect(&credit(0, 2)).expect(&rt, "memory");
+    let block = Effect::Block {
+        response: 0,
+        peer: 2,
+    };
+    judge.note_effect(&block).expect(&rt, "memory");
+    drop(block);
+    assert_found(&rt, &judge, Some(Complaint::Earned));
+}
+
+#[test]
+fn a_timeout_that_is_not_waited_for_is_found(rt: HostRuntime) {
+    let mut judge = asking(&rt, rt.alloc());
+    judge.note_waits(None, None);
+    assert_found(&rt, &judge, Some(Complaint::Deadline));
+}
+
+#[test]
+fn what_is_due_and_not_fed_is_found(rt: HostRuntime) {
+    let mut judge = wanting(&rt, rt.alloc());
+    judge.note_waits(None, Some(0));
+    assert_found(&rt, &judge, Some(Complaint::Overdue));
+}
+
+#[test]
+fn a_wake_up_that_is_lost_is_found(rt: HostRuntime) {
+    let mut judge = wanting(&rt, rt.alloc());
+    judge.note_waits(None, None);
+    assert_found(&rt, &judge, Some(Complaint::Asleep));
+}
