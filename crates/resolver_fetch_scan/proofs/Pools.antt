@@ -275,11 +275,11 @@ module _ {P : Type 0} {R : P → P → Ordering} (total : IsTotalOrder R) (x : P
   pub revalued-none : (pool : Pool P) (v : ℕ) → lookup (is_at (R x)) pool.all ≡ None → revalued R x v pool ≡ whole pool.all
   revalued-none pool v found = rw found refl
 
--- a weight that becomes another keeps its mark
-pub marks-stay : (ws : List ℕ) (i v : ℕ) → 0 < v → 0 < slice_index ws i → map mark (slice_set ws i v) ≡ map mark ws
-marks-stay [] i v some was = refl
-marks-stay (w ∷ ws) zero v some was = ap (λ m. m ∷ map mark ws) (some-mark v some ∙ sym (some-mark w was))
-marks-stay (w ∷ ws) (suc i) v some was = ap (λ ms. mark w ∷ ms) (marks-stay ws i v some was)
+-- the mark at a place
+pub mark-at : (ws : List ℕ) (i : ℕ) → slice_index (map mark ws) i ≡ mark (slice_index ws i)
+mark-at [] i = refl
+mark-at (w ∷ ws) zero = refl
+mark-at (w ∷ ws) (suc i) = mark-at ws i
 
 -- what is made of names and weights has them
 pub weighted-apart : {P : Type 0} (ps : List (P × ℕ)) → weighted (keys_of ps) (weights_of ps) ≡ ps
@@ -296,54 +296,37 @@ restored-more ws taken i =
 pub last-mark : (others m t : ℕ) → others + m ≡ t → (t == m) ≡ (others == 0)
 last-mark others m t is = grind (arith, nat_tests, is)
 
-module _ {P : Type 0} (R : P → P → Ordering) (ns : List P) (ws cs : List ℕ) (taken : List (ℕ × ℕ)) (pool : IsPool R ns ws cs taken) where
-  -- a place that has a name has a weight, and a mark
+module _ {P : Type 0} (R : P → P → Ordering) (ns : List P) (ws : List ℕ) (taken : List (ℕ × ℕ)) (pool : IsPool R ns ws taken) where
+  -- a place that has a name has a weight
   pub weighs-within : (x : P) (i : ℕ) → IsNamed R ns i x → i < length ws
   weighs-within x i named = omega (arith, named-within R x ns i named, pool.many)
 
-  pub marks-within : (x : P) (i : ℕ) → IsNamed R ns i x → i < length cs
-  marks-within x i named = omega (arith, named-within R x ns i named, pool.many, ap length pool.counted, length-map ws mark)
-
   -- it is a pool after one more place was taken
-  pub takes-one : (i w : ℕ) → i < length ws → IsPool R ns (slice_set ws i 0) (slice_set cs i 0) (taken ++ (i, w) ∷ [])
+  pub takes-one : (i w : ℕ) → i < length ws → IsPool R ns (slice_set ws i 0) (taken ++ (i, w) ∷ [])
   takes-one i w within =
       let same : length (slice_set ws i 0) ≡ length ws = length-set ws i 0 in
       record {
         ordered = pool.ordered;
         many = omega (arith, pool.many, same);
-        counted = ap (λ (ms : List ℕ). slice_set ms i 0) pool.counted ∙ sym (marks-set ws i 0);
         within = All-push (λ (one : ℕ × ℕ). one.0 < length (slice_set ws i 0)) taken (i, w)
             (λ k d it. omega (arith, pool.within k d it, same))
             (omega (arith, within, same));
       }
 
   -- and after all that were taken are back
-  pub gives-back : IsPool R ns (restored ws taken) (map mark (restored ws taken)) []
+  pub gives-back : IsPool R ns (restored ws taken) []
   gives-back = record {
     ordered = pool.ordered;
     many = omega (arith, pool.many, restored-length ws taken);
-    counted = refl;
     within = All-nil (λ (one : ℕ × ℕ). one.0 < length (restored ws taken));
   }
 
   -- and after a weight became another
-  pub weighs-else : (i v : ℕ) → IsPool R ns (slice_set ws i v) (slice_set cs i (mark v)) taken
+  pub weighs-else : (i v : ℕ) → IsPool R ns (slice_set ws i v) taken
   weighs-else i v =
       let same : length (slice_set ws i v) ≡ length ws = length-set ws i v in
       record {
         ordered = pool.ordered;
         many = omega (arith, pool.many, same);
-        counted = ap (λ (ms : List ℕ). slice_set ms i (mark v)) pool.counted ∙ sym (marks-set ws i v);
-        within = λ k d it. omega (arith, pool.within k d it, same);
-      }
-
-  -- also where the mark stays
-  pub weighs-on : (i v : ℕ) → 0 < v → 0 < slice_index ws i → IsPool R ns (slice_set ws i v) cs taken
-  weighs-on i v some was =
-      let same : length (slice_set ws i v) ≡ length ws = length-set ws i v in
-      record {
-        ordered = pool.ordered;
-        many = omega (arith, pool.many, same);
-        counted = pool.counted ∙ sym (marks-stay ws i v some was);
         within = λ k d it. omega (arith, pool.within k d it, same);
       }

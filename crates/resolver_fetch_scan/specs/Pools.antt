@@ -1,12 +1,11 @@
 -- Peers with what they weigh, as a scan draws from them.
-use Rattle.std.specs.Prelude.{◌≡◌, ℕ, ◌+◌, ◌-◌, ◌<◌, Bool, true, false, zero, suc, nat_lt, List, [], ◌∷◌, length, map, filter, All, Option, None, Some, IfSome, if◌then◌else◌}
+use Rattle.std.specs.Prelude.{◌≡◌, ℕ, ◌+◌, ◌-◌, ◌<◌, Bool, true, false, zero, suc, nat_lt, List, [], ◌∷◌, length, filter, All, Option, None, Some, IfSome, if◌then◌else◌}
 use Rattle.std.specs.BTreeMap.{is_at}
 use Rattle.std.specs.List.{list_any}
 use Rattle.std.specs.List.Sorted.{IsStrictlySortedBy}
 use Rattle.std.specs.Map.{lookup, set_value}
 use Rattle.std.specs.Ordering.{is_eq}
 use Rattle.std.specs.declared.cmp.Ordering.{Ordering}
-use Rattle.resolver_sampling.specs.SumTrees.{mark}
 use Rattle.resolver_fetch_scan.specs.Known.{Known, weight_in}
 use Rattle.resolver_fetch_scan.specs.Trying.{sampled}
 
@@ -75,9 +74,8 @@ module _ {P : Type 0} (by_peer : P → P → Ordering) where
   abbrev pub IsWhole : Known P → Option (Pool P) → Type 0
   IsWhole known at_hand = IfSome at_hand (λ pool. pool ≡ whole (sampled by_peer known))
 
--- names in their order, each with what it weighs, and a mark where that is something
-pub record IsPool {P : Type 0} (by_peer : P → P → Ordering) (names : List P) (weights counts : List ℕ) (taken : List (ℕ × ℕ)) : Type 0 where
+-- names in their order, each with what it weighs
+pub record IsPool {P : Type 0} (by_peer : P → P → Ordering) (names : List P) (weights : List ℕ) (taken : List (ℕ × ℕ)) : Type 0 where
   pub ordered : IsStrictlySortedBy by_peer names
   pub many : length names ≡ length weights
-  pub counted : counts ≡ map mark weights
   pub within : All (λ one. one.0 < length weights) taken

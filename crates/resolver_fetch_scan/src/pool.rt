@@ -1,6 +1,6 @@
 //! Peers with what they weigh, as a scan draws from them.
 
-ghost use Rattle.std.specs.Prelude.{◌≡◌, ◌==◌, ◌<◌, [], length, map, slice_set, sum, All, IfErr, IfOk, OnErr, OnOk};
+ghost use Rattle.std.specs.Prelude.{◌≡◌, ◌==◌, ◌<◌, [], length, sum, All, IfErr, IfOk, OnErr, OnOk};
 ghost use Rattle.std.specs.BTreeMap.{is_at};
 ghost use Rattle.std.specs.List.Sorted.{IsStrictlySortedBy};
 ghost use Rattle.std.specs.Map.{keys_of, set_value};
@@ -19,13 +19,17 @@ use std::marker::Model;
 /// Peers in their order with what they weigh, and which of them are left. Contracts see both as
 /// lists.
 ///
-/// A call takes time logarithmic in the number of peers, unless it says otherwise.
+/// A call takes time logarithmic in the number of peers, unless it says otherwise. A pool is moved
+/// as a pointer, since a scan hands it on with each question.
 pub struct Pool<P: Ord> {
+    held: Box<Held<P>>,
+}
+
+/// What a pool holds.
+struct Held<P> {
     names: Vec<P>,
     /// What each of them weighs: nothing once it is left no more.
     weights: WeightedIndex,
-    /// One for each that is left.
-    counts: WeightedIndex,
     /// The places of those that are left no more, with what they weighed, the last one last.
     taken: Vec<(usize, u64)>,
 }
@@ -37,19 +41,25 @@ impl<P: Ord> Model for Pool<P> {
     ghost Value = { Pool P };
 
     ghost view = { λ a. record {
-      all = weighted a.names.items (restored a.weights a.taken.items);
-      left = weighing (weighted a.names.items a.weights);
+      all = weighted a.held.value.names.items (restored a.held.value.weights a.held.value.taken.items);
+      left = weighing (weighted a.held.value.names.items a.held.value.weights);
     } };
 
-    ghost invariant = { λ a. IsPool P.cmp a.names.items a.weights a.counts a.taken.items };
+    ghost invariant = { λ a. IsPool P.cmp a.held.value.names.items a.held.value.weights
+        a.held.value.taken.items };
 }
 
 impl<P: Ord + Drop> Drop for Pool<P> {
     fn drop(self) {
+        let Self { held: _ } = self;
+    }
+}
+
+impl<P: Drop> Drop for Held<P> {
+    fn drop(self) {
         let Self {
             names: _,
             weights: _,
-            counts: _,
             taken: _,
         } = self;
     }
@@ -64,61 +74,62 @@ impl<P: Ord + Drop> Pool<P> {
         ensures only { IfErr result (λ fault. fault ≡ OutOfMemory) }
     {
         let (names, weights) = apart(alloc, peers)?;
-        match indices(alloc, &weights) {
-            Ok((weights, counts)) => Ok(Pool {
-                names,
-                weights,
-                counts,
-                taken: Vec::new(alloc),
-            }),
-            Err(fault) => {
-                drop(names);
-                Err(fault)
-            }
-        }
+        let weights = WeightedIndex::new(alloc, &weights)?;
+        let held = Held {
+            names,
+            weights,
+            taken: Vec::new(alloc),
+        };
+        Ok(Pool {
+            held: Box::new(alloc, held)?,
+        })
     }
 
     /// What those left weigh together, in constant time.
     pub fn total(&self) -> u128
         ensures { result ≡ sum (weights_of self.now.left) }
     {
-        self.weights.total()
+        self.held.weights.total()
     }
 
     /// How many are left, in constant time.
     pub fn count(&self) -> u128
         ensures { result ≡ length self.now.left }
     {
-        self.counts.total()
+        self.held.weights.positive_count() as u128
     }
 
     /// The peer left in whose interval of the weights a number lies, if it lies in one.
     pub fn by_weight(&self, number: u128) -> Option<&P>
         ensures { option_copied result ≡ at_weight self.now.left number }
     {
-        if number >= self.weights.total() {
+        let held = &*self.held;
+        if number >= held.weights.total() {
             return None;
         }
-        self.names.get(self.weights.pick(number))
+        held.names.get(held.weights.pick(number))
     }
 
     /// The peer at a place among those left.
     pub fn by_place(&self, number: u128) -> Option<&P>
         ensures { option_copied result ≡ at_place self.now.left number }
     {
-        if number >= self.counts.total() {
+        let held = &*self.held;
+        if number >= held.weights.positive_count() as u128 {
             return None;
         }
-        self.names.get(self.counts.pick(number))
+        held.names.get(held.weights.pick_positive(number))
     }
 
     /// Whether none is left but this one.
     pub fn is_last(&self, peer: &P) -> bool
         ensures { result ≡ (length (apart_from P.cmp peer.now self.now.left) == 0) }
     {
-        match place_of(&self.names, peer) {
-            Some(place) => self.counts.total() == u128::from(self.counts.weight(place)),
-            None => self.counts.total() == 0,
+        let held = &*self.held;
+        let count = held.weights.positive_count();
+        match place_of(&held.names, peer) {
+            Some(place) => count == mark(held.weights.weight(place)),
+            None => count == 0,
         }
     }
 
@@ -129,13 +140,13 @@ impl<P: Ord + Drop> Pool<P> {
         ensures err { OnErr result (self.new ≡ self.old) }
         ensures only { IfErr result (λ fault. fault ≡ OutOfMemory) }
     {
-        let Some(place) = place_of(&self.names, peer) else {
+        let held = &mut *self.held;
+        let Some(place) = place_of(&held.names, peer) else {
             return Ok(());
         };
-        let weight = self.weights.weight(place);
-        self.taken.push((place, weight))?;
-        self.weights.set(place, 0);
-        self.counts.set(place, 0);
+        let weight = held.weights.weight(place);
+        held.taken.push((place, weight))?;
+        held.weights.set(place, 0);
         Ok(())
     }
 
@@ -143,18 +154,20 @@ impl<P: Ord + Drop> Pool<P> {
     pub fn restore(&mut self)
         ensures { self.new ≡ whole self.old.all }
     {
-        restore(&mut self.weights, &mut self.counts, &mut self.taken);
+        let held = &mut *self.held;
+        restore(&mut held.weights, &mut held.taken);
     }
 
     /// This peer weighs this, if it is one of them, and all that weigh something are left again.
     pub fn set(&mut self, peer: &P, weight: u64)
         ensures { self.new ≡ whole (set_value (is_at (P.cmp peer.now)) self.old.all weight) }
     {
-        restore(&mut self.weights, &mut self.counts, &mut self.taken);
-        if let Some(place) = place_of(&self.names, peer) {
-            self.weights.set(place, weight);
-            remark(&mut self.counts, place, mark(weight));
-        }
+        let held = &mut *self.held;
+        restore(&mut held.weights, &mut held.taken);
+        let Some(place) = place_of(&held.names, peer) else {
+            return;
+        };
+        held.weights.set(place, weight);
     }
 
     /// This peer weighs this, if it is one of them and weighs something, and all that weigh
@@ -163,22 +176,15 @@ impl<P: Ord + Drop> Pool<P> {
         requires some { 0 < value }
         ensures { self.new ≡ revalued P.cmp peer.now value self.old }
     {
-        restore(&mut self.weights, &mut self.counts, &mut self.taken);
-        if let Some(place) = place_of(&self.names, peer) {
-            if self.weights.weight(place) > 0 {
-                self.weights.set(place, value);
-            }
+        let held = &mut *self.held;
+        restore(&mut held.weights, &mut held.taken);
+        let Some(place) = place_of(&held.names, peer) else {
+            return;
+        };
+        if held.weights.weight(place) == 0 {
+            return;
         }
-    }
-}
-
-/// A place has this mark. Where it has it already, the index is left alone, which costs less.
-fn remark(counts: &mut WeightedIndex, place: usize, mark: u64)
-    requires { place < length counts.old }
-    ensures { counts.new ≡ slice_set counts.old place mark }
-{
-    if counts.weight(place) != mark {
-        counts.set(place, mark);
+        held.weights.set(place, value);
     }
 }
 
@@ -196,50 +202,19 @@ fn apart<P: Drop>(alloc: Global, peers: Vec<(P, u64)>) -> Result<(Vec<P>, Vec<u6
     Ok((names, weights))
 }
 
-/// An index of these weights, and one of their marks.
-fn indices(alloc: Global, weights: &[u64]) -> Result<(WeightedIndex, WeightedIndex), Fault>
-    ensures weights { IfOk result (λ indices. indices.0 ≡ weights.now) }
-    ensures marks { IfOk result (λ indices. indices.1 ≡ map mark weights.now) }
-    ensures only { IfErr result (λ fault. fault ≡ OutOfMemory) }
-{
-    let marks = marks_of(alloc, weights)?;
-    let counts = WeightedIndex::new(alloc, &marks)?;
-    match WeightedIndex::new(alloc, weights) {
-        Ok(index) => Ok((index, counts)),
-        Err(fault) => {
-            drop(counts);
-            Err(fault)
-        }
-    }
-}
-
-/// One for each weight, and zero for none.
-fn marks_of(alloc: Global, weights: &[u64]) -> Result<Vec<u64>, AllocError>
-    ensures { IfOk result (λ marks. marks.items ≡ map mark weights.now) }
-{
-    let mut marks = Vec::with_capacity(alloc, weights.len())?;
-    for weight in weights {
-        marks.push(mark(*weight))?;
-    }
-    Ok(marks)
-}
-
 /// Gives the places that were taken what they weighed, the last one first.
-fn restore(weights: &mut WeightedIndex, counts: &mut WeightedIndex, taken: &mut Vec<(usize, u64)>)
+fn restore(weights: &mut WeightedIndex, taken: &mut Vec<(usize, u64)>)
     requires within { All (λ one. one.0 < length weights.old) taken.old.items }
-    requires counted { counts.old ≡ map mark weights.old }
     ensures weights { weights.new ≡ restored weights.old taken.old.items }
-    ensures counted { counts.new ≡ map mark weights.new }
     ensures none { taken.new.items ≡ [] }
 {
     while let Some((place, weight)) = taken.pop() {
         weights.set(place, weight);
-        counts.set(place, mark(weight));
     }
 }
 
 /// One for a weight, and zero for none.
-fn mark(weight: u64) -> u64
+fn mark(weight: u64) -> usize
     ensures { result ≡ mark weight }
 {
     if weight > 0 { 1 } else { 0 }

@@ -113,7 +113,7 @@ impl Selection {
         ensures taken { Takes self.old self.new result }
         ensures visits { VisitsAtMost 3 (length self.old.weights) visits.old visits.new }
     {
-        let place = self.index.pick_positive(number, visits);
+        let place = self.index.pick_positive_counted(number, visits);
         self.take(place, visits);
         place
     }

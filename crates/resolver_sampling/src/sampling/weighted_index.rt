@@ -140,16 +140,27 @@ impl WeightedIndex {
     }
 
     /// How many weights are positive, in constant time.
-    pub(super) fn positive_count(&self) -> usize
-        ensures { result ≡ length (positive_places self.now) }
+    pub fn positive_count(&self) -> usize
+        ensures places { result ≡ length (positive_places self.now) }
+        ensures marks { result ≡ sum (map mark self.now) }
     {
         self.counts.total() as usize
     }
 
     /// The place of positive weight that has as many of them before it as the number.
-    pub(super) fn pick_positive(&self, number: u128, visits: &mut Visits) -> usize
+    pub fn pick_positive(&self, number: u128) -> usize
         requires { number < length (positive_places self.now) }
         ensures place { result ≡ slice_index (positive_places self.now) number }
+        ensures marks { result ≡ chosen (map mark self.now) number }
+    {
+        self.pick_positive_counted(number, &mut Visits::new())
+    }
+
+    /// The same, which counts its visits.
+    pub fn pick_positive_counted(&self, number: u128, visits: &mut Visits) -> usize
+        requires { number < length (positive_places self.now) }
+        ensures place { result ≡ slice_index (positive_places self.now) number }
+        ensures marks { result ≡ chosen (map mark self.now) number }
         ensures visits { VisitsAtMost 1 (length self.now) visits.old visits.new }
     {
         self.counts.choose(number, visits)

@@ -1,9 +1,7 @@
-use Rattle.std.proofs.Common.{◌≡◌, ◌<◌, ◌∙◌, ◌++◌, [], ◌∷◌, ℕ, List, sym, ap, length, slice_set, arith}
+use Rattle.std.proofs.Common.{◌≡◌, ◌<◌, ◌∙◌, ◌++◌, [], ◌∷◌, ℕ, List, sym, ap, length, slice_set}
 use Rattle.std.specs.Prelude.{All}
-use Rattle.std.proofs.lemmas.List.{length-map, length-set}
+use Rattle.std.proofs.lemmas.List.{length-set}
 use Rattle.resolver_sampling.specs.LeftPlaces.{restored}
-use Rattle.resolver_sampling.specs.SumTrees.{mark}
-use Rattle.resolver_sampling.proofs.Marks.{marks-set}
 use Rattle.resolver_sampling.proofs.Restored.{all-front, all-last, restored-last}
 use Rattle.resolver_fetch_scan.proofs.pool.restore.Goals as goal
 
@@ -11,12 +9,6 @@ pub set-requires : goal.set-requires
 set-requires c =
     let items : c.loop-place.taken.items ≡ c.pop.new.self.items ++ (c.in-Some.place, c.in-Some.weight) ∷ [] = c.in-Some.ensures.items in
     all-last (λ one. one.0 < length c.loop-place.weights) c.pop.new.self.items (c.in-Some.place, c.in-Some.weight) (rw (← items) c.loop-place.invariant.within)
-
-pub set-requires-in-Some : goal.set-requires-in-Some
-set-requires-in-Some c =
-    let items : c.loop-place.taken.items ≡ c.pop.new.self.items ++ (c.in-Some.place, c.in-Some.weight) ∷ [] = c.in-Some.ensures.items in
-    let within = all-last (λ one. one.0 < length c.loop-place.weights) c.pop.new.self.items (c.in-Some.place, c.in-Some.weight) (rw (← items) c.loop-place.invariant.within) in
-    omega (arith, within, ap length c.loop-place.invariant.counted, length-map c.loop-place.weights mark)
 
 pub loop-place-preserved : goal.loop-place-preserved
 loop-place-preserved c =
@@ -30,6 +22,5 @@ loop-place-preserved c =
           ∙ sym (restored-last c.loop-place.weights c.pop.new.self.items c.in-Some.place c.in-Some.weight)
           ∙ ap (restored c.loop-place.weights) (sym items)
           ∙ c.loop-place.invariant.weights;
-      counted = rw (c.set-in-Some.ensures, c.mark.ensures, c.loop-place.invariant.counted, c.set.ensures) (sym (marks-set c.loop-place.weights c.in-Some.place c.in-Some.weight));
       within = rw (c.set.ensures, same) before;
     }

@@ -1,8 +1,7 @@
-use Rattle.std.proofs.Common.{◌≡◌, ◌<◌, length, map}
+use Rattle.std.proofs.Common.{◌≡◌, ◌<◌, length}
 use Rattle.std.specs.Prelude.{All}
 use Rattle.std.specs.Vec.{vec_len}
 use Rattle.resolver_sampling.specs.LeftPlaces.{restored}
-use Rattle.resolver_sampling.specs.SumTrees.{mark}
 use Rattle.resolver_fetch_scan.proofs.pool.restore.Given as goal
 
 abbrev pub decreases-loop-place : goal.decreases-loop-place
@@ -12,6 +11,5 @@ decreases-loop-place l = vec_len l.taken
 abbrev pub invariant-loop-place : goal.invariant-loop-place
 invariant-loop-place l = record {
   weights : restored l.weights l.taken.items ≡ restored l.initial.weights l.initial.taken.items;
-  counted : l.counts ≡ map mark l.weights;
   within : All (λ one. one.0 < length l.weights) l.taken.items;
 }

@@ -6,8 +6,11 @@ use Rattle.resolver_sampling.specs.SumTrees.{mark}
 use Rattle.resolver_sampling.proofs.Positive.{marks-count, positive-few}
 use Rattle.resolver_sampling.proofs.sampling.weighted_index.WeightedIndex.positive_count.Goals as goal
 
-pub returns : goal.returns
-returns c = rw (← c.self.view_is) (c.total.ensures.total ∙ ap sum c.self.invariant ∙ marks-count c.self.inside.sums 0)
+pub returns-clause-places : goal.returns-clause-places
+returns-clause-places c = rw (← c.self.view_is) (c.total.ensures.total ∙ ap sum c.self.invariant ∙ marks-count c.self.inside.sums 0)
+
+pub returns-clause-marks : goal.returns-clause-marks
+returns-clause-marks c = rw (← c.self.view_is) (c.total.ensures.total ∙ ap sum c.self.invariant)
 
 pub overflow_cast-result : goal.overflow_cast-result
 overflow_cast-result c =
