@@ -5,7 +5,7 @@ ghost use Rattle.std.specs.Prelude.{◌≡◌, true};
 
 mod leaving;
 
-use anyhow::{Result, bail};
+use anyhow::{Context, Result, bail};
 use futures::StreamExt;
 use futures::executor::block_on;
 use leaving::AllBut;
@@ -15,6 +15,7 @@ use resolver::mailbox;
 use resolver::mailbox::{Entry, Naming, Pages, Receiver, Sender};
 use std::alloc::Global;
 use std::marker::Brand;
+use std::num::NonZeroUsize;
 use std::random::RandomSource;
 use std::sync::Wait;
 use std::thread;
@@ -44,11 +45,14 @@ where
     requires puts { pages.puts.name ≡ N.puts }
     requires takes { pages.takes.name ≡ N.takes }
 {
-    let (first, mut taker): (Putter<N, R>, Taker<N, R>) = mailbox::recorded(rt, alloc, pages, 2)?;
+    let room = NonZeroUsize::new(2).context("a mailbox without room")?;
+    let (first, mut taker): (Putter<N, R>, Taker<N, R>) = mailbox::recorded(
+        rt, alloc, pages, room,
+    )?;
     let (one, other) = put_by_two(&rt, alloc, first)?;
     taker.close();
     let keys = take_all(&rt, &mut taker)?;
-    let puts = puts_booked(alloc, &one, &other, &taker)?;
+    let puts = puts_booked(&one, &other, &taker)?;
     Ok((keys, puts))
 }
 
@@ -111,7 +115,6 @@ fn keys_of(message: &Message<u32, u16, (), AllBut>) -> u64 {
 
 /// How many puts the book has, which is lent for the shares of both handles.
 fn puts_booked<N: Naming, R: Wait>(
-    alloc: Global,
     one: &Putter<N, R>,
     other: &Putter<N, R>,
     taker: &Taker<N, R>,
@@ -119,7 +122,7 @@ fn puts_booked<N: Naming, R: Wait>(
     let (Some(first), Some(second)) = (one.share(), other.share()) else {
         bail!("a handle without a share");
     };
-    let book = taker.book(alloc, &[first, second])?;
+    let book = taker.book(&[first, second])?;
     Ok(puts_in(book.as_slice()))
 }
 

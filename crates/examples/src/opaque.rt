@@ -11,18 +11,17 @@ use futures::executor::block_on;
 use futures::task::{Context, Poll};
 use futures::{Future, StreamExt};
 use resolver::base::{Clock, Faithful, Fault, Predicate};
-use resolver::mailbox::Unrecorded;
-use resolver::opaque::{Fetcher, init};
+use resolver::opaque::{ActorHandle, Config, Fetcher, init};
 use resolver::p2p::mocks::Key;
-use resolver::{Consumer, Delivery, Fetch, Handle, Resolver, opaque};
+use resolver::{Consumer, Delivery, Fetch, Handle, Resolver};
 use std::alloc::Global;
 use std::num::NonZeroUsize;
 use std::random::RandomSource;
 use std::sync::Wait;
 use std::thread::Threads;
 
-/// What the store is asked through. Readers are named by numbers, and there are no peers.
-type Store<R> = opaque::Resolver<Key, u16, (), All, Unrecorded, R>;
+/// What the store is asked through. Readers are named by numbers.
+type Store<R> = ActorHandle<Key, u16, All, R>;
 
 /// Reads the chunks, and prints each as it arrives.
 pub fn run<R>(rt: R) -> Result<()>
@@ -32,16 +31,13 @@ where
     let alloc = rt.alloc();
     let (told, mut arrived) = mpsc::unbounded(alloc)?;
     let reader = Reader { alloc, told };
-    let size = NonZeroUsize::MIN;
-    let (mut store, handle): (Store<_>, Handle) = init(
-        rt,
-        alloc,
-        Hasty(0),
-        Shelf,
-        reader,
-        size,
-        100,
-    )?;
+    let cfg = Config {
+        fetcher: Shelf,
+        consumer: reader,
+        mailbox_size: NonZeroUsize::MIN,
+        fetch_retry_delay: 100,
+    };
+    let (mut store, handle): (Store<_>, Handle) = init(rt, alloc, Hasty(0), cfg)?;
     let read = read(rt, &mut store, &mut arrived);
     store.close();
     handle.join(&rt)?;

@@ -12,11 +12,10 @@ use futures::executor::block_on;
 use lent::{First, Guard, Hasty};
 use network::{End, Peer, Seen, Told};
 use resolver::base::{Blocker, Provider};
-use resolver::mailbox::Unrecorded;
 use resolver::node::OneSet;
 use resolver::node::predicates::All;
 use resolver::p2p::mocks::{Consumer, Key, Producer, Quiet};
-use resolver::p2p::{Config, Engine, Mailbox, Metrics, Monitor};
+use resolver::p2p::{Config, Engine, EngineHandle, Metrics, Monitor};
 use resolver::{Fetch, Handle, Resolver};
 use std::alloc::{AllocGlobal, Global};
 use std::num::NonZeroUsize;
@@ -27,7 +26,7 @@ use std::thread::Threads;
 /// An engine that runs, the handle through which it is asked, and a look at its counts.
 #[derive(Drop)]
 struct Running<R> {
-    mailbox: Mailbox<Key, Peer, u16, All, Unrecorded, R>,
+    mailbox: EngineHandle<Key, Peer, u16, All, R>,
     monitor: Monitor<Key, Peer, u16>,
     handle: Handle,
 }

@@ -17,10 +17,9 @@ use network::{FULL, SPARSE, Wire};
 use resolver::Handle;
 use resolver::backfill::{Plan, Without, fill, refill, settle};
 use resolver::base::{Feedback, Seeded};
-use resolver::mailbox::Unrecorded;
 use resolver::node::{Inbox, OneSet};
 use resolver::p2p::mocks::{Key, Producer, Quiet};
-use resolver::p2p::{Config, Engine, Mailbox};
+use resolver::p2p::{Config, Engine, EngineHandle};
 use std::alloc::{AllocGlobal, Global};
 use std::collections::BTreeSet;
 use std::fmt;
@@ -36,7 +35,7 @@ const WINDOW: usize = 16;
 const LAST: u8 = 100;
 
 /// What an engine is asked through. A block goes by its height, and all are wanted for subscriber 10.
-type Asked<R> = Mailbox<Key, Peer, u16, Without<Key, u16>, Unrecorded, R>;
+type Asked<R> = EngineHandle<Key, Peer, u16, Without<Key, u16>, R>;
 
 /// An engine that runs, the handle through which it is asked, and where the blocks arrive.
 #[derive(Drop)]

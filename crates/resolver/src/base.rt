@@ -6,5 +6,5 @@ pub use resolver_base::{
     Unreliable,
 };
 pub use resolver_priority_set::PrioritySet;
-pub use resolver_runtime::{Blocker, Clock, Provider, Receiver};
+pub use resolver_runtime::{Blocker, Clock, Provider, Receiver, Unwatched, Watcher};
 pub use resolver_types::{NonEmptyVec, Predicate};

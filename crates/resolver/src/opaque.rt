@@ -2,7 +2,13 @@
 //!
 //! `Actor` is the machine: it takes inputs with their moments and answers with effects. `Resolver` is
 //! a handle of the mailbox of its loop, which `init` runs over a `Fetcher` in a thread; `open` gives the loop
-//! itself.
+//! itself. `init_watched` and `open_watched` do the same with a watcher, which is told what the loop takes and does.
 
+use resolver_mailbox::mailbox::Unrecorded;
 pub use resolver_opaque_actor::{Actor, Effect, Event, Input, Phase, Row, laws};
-pub use resolver_opaque_loop::{Fetcher, Loop, Resolver, init, open};
+pub use resolver_opaque_loop::{
+    Config, Fetcher, Loop, Resolver, init, init_watched, open, open_watched,
+};
+
+/// A handle of the mailbox of an actor's loop, as `init` answers it, for fetches that name no peers.
+pub type ActorHandle<K, S, Q, R> = Resolver<K, S, (), Q, Unrecorded, R>;

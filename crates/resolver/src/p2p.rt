@@ -26,6 +26,7 @@ pub use looping::Loop;
 pub use monitor::{Monitor, Rows};
 pub use resolver_fetch::fetcher;
 pub use resolver_handles::mailbox::{FetchKey, Mailbox, Message};
+use resolver_mailbox::mailbox::Unrecorded;
 pub use resolver_metrics::metrics::{Durations, Metrics, Tally};
 pub use resolver_model_peer::{effects, inputs, named};
 pub use resolver_runtime::Producer;
@@ -33,3 +34,6 @@ pub use resolver_sampling::{sampling, score};
 pub use resolver_wire::wire;
 pub use resolver_wire::wire::{MAX_RESPONSE_OVERHEAD, REQUEST_OVERHEAD, max_message_size};
 pub use stepping::Core;
+
+/// A handle of the mailbox of an engine, as `Engine::new` answers it.
+pub type EngineHandle<K, P, S, Q, R> = Mailbox<K, P, S, Q, Unrecorded, R>;

@@ -149,7 +149,7 @@ fn ask<K, S, P, R>(
 ) -> Result<Feedback, Fault>
 where
     K: Span + Drop,
-    S: Eq + Drop,
+    S: Ord + Clone + Drop,
     P: PublicKey + Drop,
     R: TargetedResolver<Key = K, Subscriber = S, PublicKey = P>,
     requires peers_clone { (x y : P) → P.is_clone x y → y ≡ x }

@@ -19,9 +19,9 @@ impl Unreliable {
     pub fn is_accepted(self) -> bool
         ensures { result ≡ is_accepted self }
     {
-        matches!(
-            &self,
-            Unreliable::Outcome(Feedback::Ok) | Unreliable::Outcome(Feedback::Backoff)
-        )
+        match &self {
+            Unreliable::Rejected => false,
+            Unreliable::Outcome(feedback) => feedback.accepted(),
+        }
     }
 }

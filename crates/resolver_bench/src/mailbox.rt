@@ -10,6 +10,7 @@ use resolver_mailbox::mailbox::{self, Naming, Receiver, Sender, Unrecorded};
 use resolver_messages::Message;
 use resolver_types::NonEmptyVec;
 use std::alloc::Global;
+use std::num::NonZeroUsize;
 use std::random::RandomSource;
 use std::rt::Clock;
 use std::sync::Wait;
@@ -29,7 +30,7 @@ pub fn run<R: AllocGlobal + Clock + Print + Wait + RandomSource + Copy + Drop>(
     rt: R,
     load: &Load,
 ) -> Result<(), Fault> {
-    match mailbox::new(rt, rt.alloc(), 1) {
+    match mailbox::new(rt, rt.alloc(), NonZeroUsize::MIN) {
         Ok((mut sender, mut receiver)) => {
             let taken = put_and_take(&rt, &mut sender, &mut receiver, load);
             drop(sender);

@@ -1,6 +1,7 @@
 //! What is ready to be taken, and what waits behind it.
 
 ghost use Rattle.std.specs.Prelude.{◌≡◌, ◌≤◌, ◌<◌, ◌∷◌, ◌++◌, ◌↔◌, [], map, take, nat_lt, None, Some, is_some, true, false, IsTrue, IfOk, IfErr, OnOk, OnErr, MatchOption, ◌≢◌, ◌+◌, ◌^◌, if◌then◌else◌, length};
+ghost use Rattle.std.specs.NonZero.{non_zero_usize_get};
 ghost use Rattle.std.specs.Option.{ForSome, option_copied, option_map};
 ghost use Rattle.std.specs.Vec.{vec_len, vec_capacity};
 ghost use Rattle.std.specs.VecDeque.{deque_capacity};
@@ -17,10 +18,11 @@ use crate::entry::Entry;
 use resolver_base::{Fault, Feedback};
 use resolver_messages::{Message, Metadata};
 use resolver_types::Predicate;
-use std::alloc::{AllocError, Global};
+use std::alloc::Global;
 use std::collections::VecDeque;
 use std::hash::Hash;
 use std::marker::Model;
+use std::num::NonZeroUsize;
 
 /// Messages that are ready to be taken, and what waits while there is no room for more. In a
 /// recorded desk there is also the book of the calls.
@@ -71,10 +73,12 @@ impl<
     Q: Predicate<K, S> + Clone + Drop,
 > Desk<K, S, M, Q> {
     /// A desk with room for this many ready messages. Takes the memory for them.
-    pub fn new(alloc: Global, capacity: usize) -> Result<Self, AllocError>
-        requires { 0 < capacity }
-        ensures { IfOk result (λ desk. desk ≡ empty_desk capacity None) }
+    pub fn new(alloc: Global, capacity: NonZeroUsize) -> Result<Self, Fault>
+        ensures empty { IfOk result
+            (λ desk. desk ≡ empty_desk (non_zero_usize_get capacity) None) }
+        ensures only { IfErr result (λ fault. fault ≡ OutOfMemory) }
     {
+        let capacity = capacity.get();
         Ok(Desk {
             capacity,
             ready: VecDeque::with_capacity(alloc, capacity)?,
@@ -86,10 +90,12 @@ impl<
     }
 
     /// The same, with a book of the calls.
-    pub fn recorded(alloc: Global, capacity: usize) -> Result<Self, AllocError>
-        requires { 0 < capacity }
-        ensures { IfOk result (λ desk. desk ≡ empty_desk capacity (Some empty_book)) }
+    pub fn recorded(alloc: Global, capacity: NonZeroUsize) -> Result<Self, Fault>
+        ensures empty { IfOk result
+            (λ desk. desk ≡ empty_desk (non_zero_usize_get capacity) (Some empty_book)) }
+        ensures only { IfErr result (λ fault. fault ≡ OutOfMemory) }
     {
+        let capacity = capacity.get();
         Ok(Desk {
             capacity,
             ready: VecDeque::with_capacity(alloc, capacity)?,
@@ -313,7 +319,7 @@ fn note_take<K: Clone + Drop, S: Clone + Drop, M: Metadata + Drop, Q: Clone + Dr
     book: &mut Option<Book<K, S, M, Q>>,
     front: &Message<K, S, M, Q>,
     alloc: Global,
-) -> Result<(), AllocError>
+) -> Result<(), Fault>
     requires keys_clone { (x y : K) → K.is_clone x y → y ≡ x }
     requires subscribers_clone { (x y : S) → S.is_clone x y → y ≡ x }
     requires tests_clone { (x y : Q) → Q.is_clone x y → y ≡ x }
@@ -321,11 +327,13 @@ fn note_take<K: Clone + Drop, S: Clone + Drop, M: Metadata + Drop, Q: Clone + Dr
         ≡ option_map (with_call (Take (told_of front.now))) (option_map book_of book.old)) }
     ensures err { OnErr result (option_map book_of book.new ≡ option_map book_of book.old) }
     ensures recorded { OnErr result (is_some book.old ≡ true) }
+    ensures only { IfErr result (λ fault. fault ≡ OutOfMemory) }
 {
     let Some(book) = book else {
         return Ok(());
     };
-    book.take(front.copy(alloc)?)
+    book.take(front.copy(alloc)?)?;
+    Ok(())
 }
 
 /// Books a close, where there is a book.

@@ -1,3 +1,4 @@
+pub mod Draining
 pub mod Waiting
 pub mod Fetched
 pub mod Places

@@ -9,6 +9,7 @@ use Rattle.resolver_types.specs.Names.{Names, same_key}
 use Rattle.resolver_types.specs.Subscribers.{joined_subscribers}
 use Rattle.resolver_types.specs.Demand.{Act, Adds, Keeps, Pair, acts, pairs_of, IsSameDemand}
 use Rattle.resolver_messages.specs.Places.{IsPlaced}
+use Rattle.resolver_messages.specs.Draining as draining
 
 -- a fetch of one key
 pub record Item (K S M : Type 0) : Type 0 where
@@ -68,25 +69,15 @@ module _ {K S M : Type 0} where
     rest [] = no_backlog
     rest (test ∷ retains) = record backlog { retains = retains }
 
-  -- a message that isn't taken is handed back
+  -- what is drained of such messages
   abbrev pub HandsBack : {Q F : Type 0} → (F → Message K S M Q → Option (Message K S M Q) → F → Type 0) → Type 0
-  HandsBack {Q = Q} {F = F} step = (push : F) (message : Message K S M Q) (answer : Option (Message K S M Q)) (after : F)
-      → step push message answer after → IfSome answer (λ back. told_of back ≡ told_of message)
+  HandsBack step = draining.HandsBack told_of step
 
-  -- nothing is left, or the first message is handed back
-  abbrev pub IsRefused : {Q F : Type 0} → (F → Message K S M Q → Option (Message K S M Q) → F → Type 0) → F → List (Told K S M Q) → Type 0
-  IsRefused step push [] = Unit {0}
-  IsRefused {Q = Q} {F = F} step push (told ∷ behind) = (message : Message K S M Q) × (back : Message K S M Q) × (after : F) × (told_of message ≡ told) × step push message (Some back) after
-
-  -- what waits is taken in order, up to what is left
   abbrev pub Takes : {Q F : Type 0} → (F → Message K S M Q → Option (Message K S M Q) → F → Type 0) → F → F → List (Told K S M Q) → List (Told K S M Q) → Type 0
-  Takes {Q = Q} {F = F} step push last was left = (taken : List (Message K S M Q))
-      × FoldsTo (λ state message after. step state message None after) push taken last
-      × (was ≡ map told_of taken ++ left)
+  Takes step push last was left = draining.Takes told_of step push last was left
 
-  -- What waits is taken in order, until nothing is left or a message is handed back.
   abbrev pub Drains : {Q F : Type 0} → (F → Message K S M Q → Option (Message K S M Q) → F → Type 0) → F → List (Told K S M Q) → List (Told K S M Q) → Type 0
-  Drains {F = F} step push was left = (last : F) × Takes step push last was left × IsRefused step last left
+  Drains step push was left = draining.Drains told_of step push was left
 
   -- the pairs of some fetches
   abbrev pub asked_by : List (Item K S M) → List (Pair K S)

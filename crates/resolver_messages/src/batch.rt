@@ -1,6 +1,7 @@
 //! Fetches that wait, one for each key, and their places by key.
 
-ghost use Rattle.std.specs.Prelude.{◌≡◌, ◌≤◌, ◌<◌, [], ◌∷◌, ◌++◌, List, None, length, map, IfOk, OnOk, OnErr};
+ghost use Rattle.std.specs.Prelude.{◌≡◌, ◌≤◌, ◌<◌, [], ◌∷◌, ◌++◌, List, None, length, map, IfErr, IfOk, OnOk, OnErr};
+ghost use Rattle.resolver_base.specs.declared.fault.Fault.TheVariants.{OutOfMemory};
 ghost use Rattle.std.specs.List.{list_any};
 ghost use Rattle.std.specs.Vec.{vec_capacity, vec_len};
 ghost use Rattle.std.specs.BTreeMap.{is_at};
@@ -14,6 +15,7 @@ ghost use Rattle.resolver_types.specs.Undone.{without_each};
 use crate::message::FetchKey;
 use crate::metadata::Metadata;
 use crate::places::Places;
+use resolver_base::Fault;
 use resolver_types::{NonEmptyVec, Predicate};
 use std::alloc::{AllocError, Global};
 use std::mem;
@@ -23,11 +25,12 @@ pub(super) fn merged<K: Clone + Drop, S: Ord + Clone + Drop, M: Metadata + Drop>
     alloc: Global,
     earlier: &FetchKey<K, S, M>,
     later: FetchKey<K, S, M>,
-) -> Result<FetchKey<K, S, M>, AllocError>
+) -> Result<FetchKey<K, S, M>, Fault>
     requires keys_clone { (x y : K) → K.is_clone x y → y ≡ x }
     requires subscribers_clone { (x y : S) → S.is_clone x y → y ≡ x }
-    ensures { IfOk result (λ both. item_of both
+    ensures both { IfOk result (λ both. item_of both
         ≡ merged_item S.cmp M.merged (item_of earlier.now) (item_of later)) }
+    ensures only { IfErr result (λ fault. fault ≡ OutOfMemory) }
 {
     let key = earlier.key.clone()?;
     let mut subscribers = earlier.subscribers.clone()?;
@@ -49,7 +52,7 @@ pub(super) fn put<K: Ord + Clone + Drop, S: Ord + Clone + Drop, M: Metadata + Dr
     batch: &mut Vec<FetchKey<K, S, M>>,
     places: &mut Places<K>,
     item: FetchKey<K, S, M>,
-) -> Result<Option<(usize, FetchKey<K, S, M>)>, AllocError>
+) -> Result<Option<(usize, FetchKey<K, S, M>)>, Fault>
     requires keys_clone { (x y : K) → K.is_clone x y → y ≡ x }
     requires subscribers_clone { (x y : S) → S.is_clone x y → y ≡ x }
     requires placed { IsPlaced K.cmp places.old (keys_of_items batch.old.items) }
@@ -61,11 +64,12 @@ pub(super) fn put<K: Ord + Clone + Drop, S: Ord + Clone + Drop, M: Metadata + Dr
         (keys_of_items batch.new.items) places.new) }
     ensures err { OnErr result (batch.new.items ≡ batch.old.items) }
     ensures err_places { OnErr result (places.new ≡ places.old) }
+    ensures only { IfErr result (λ fault. fault ≡ OutOfMemory) }
 {
     let Some(place) = places.get(&item.key) else {
         if let Err(error) = make_place(batch, places, &item.key) {
             drop(item);
-            return Err(error);
+            return Err(error.into());
         }
         batch.push_reserved(item);
         return Ok(None);
@@ -101,7 +105,7 @@ pub fn put_all<K: Ord + Clone + Drop, S: Ord + Clone + Drop, M: Metadata + Drop>
     batch: &mut Vec<FetchKey<K, S, M>>,
     places: &mut Places<K>,
     items: Vec<FetchKey<K, S, M>>,
-) -> Result<(), AllocError>
+) -> Result<(), Fault>
     requires keys_clone { (x y : K) → K.is_clone x y → y ≡ x }
     requires subscribers_clone { (x y : S) → S.is_clone x y → y ≡ x }
     requires placed { IsPlaced K.cmp places.old (keys_of_items batch.old.items) }
@@ -111,6 +115,7 @@ pub fn put_all<K: Ord + Clone + Drop, S: Ord + Clone + Drop, M: Metadata + Drop>
     ensures placed { OnOk result (IsPlaced K.cmp places.new (keys_of_items batch.new.items)) }
     ensures err { OnErr result (batch.new.items ≡ batch.old.items) }
     ensures err_places { OnErr result (places.new ≡ places.old) }
+    ensures only { IfErr result (λ fault. fault ≡ OutOfMemory) }
 {
     let count = batch.len();
     let mut changes = Vec::with_capacity(alloc, items.len())?;

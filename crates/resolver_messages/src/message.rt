@@ -1,9 +1,11 @@
 //! What a resolver is asked.
 
 ghost use Rattle.std.specs.Prelude.{◌≡◌, ◌<◌, [], ◌∷◌, length, IfOk, IfErr, OnOk, OnErr};
+ghost use Rattle.resolver_base.specs.declared.fault.Fault.TheVariants.{OutOfMemory};
 
+use resolver_base::Fault;
 use resolver_types::{Fetch, NonEmptyVec};
-use std::alloc::{AllocError, Global};
+use std::alloc::Global;
 
 /// A key to fetch and who wants it, with what else is said of the fetch.
 ///
@@ -22,11 +24,12 @@ pub struct FetchKey<K, S, M> {
 impl<K: Drop, S: Drop, M: Default> FetchKey<K, S, M> {
     /// A fetch of this key for its one subscriber, of which nothing else is said. Where memory is
     /// refused, the fetch is dropped.
-    pub fn from_fetch(alloc: Global, fetch: Fetch<K, S>) -> Result<Self, AllocError>
+    pub fn from_fetch(alloc: Global, fetch: Fetch<K, S>) -> Result<Self, Fault>
         ensures key { IfOk result (λ item. item.key ≡ fetch.key) }
         ensures one { IfOk result
             (λ item. item.subscribers ≡ (fetch.subscriber, fetch.mark) ∷ []) }
         ensures default { IfOk result (λ item. M.is_default item.metadata) }
+        ensures only { IfErr result (λ fault. fault ≡ OutOfMemory) }
     {
         let subscribers = NonEmptyVec::new(alloc, (fetch.subscriber, fetch.mark))?;
         Ok(FetchKey {

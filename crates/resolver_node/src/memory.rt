@@ -1,10 +1,13 @@
 //! A network between the nodes of one process, which loses and reorders messages by a seed.
 
+ghost use Rattle.std.specs.Prelude.{◌≡◌, IfErr};
+ghost use Rattle.resolver_base.specs.declared.fault.Fault.TheVariants.{OutOfMemory};
+
 use crate::inbox::Inbox;
 use bytes::Bytes;
 use futures::channel::mpsc;
 use futures::channel::mpsc::UnboundedSender;
-use resolver_base::{Check, Draws, Feedback, PublicKey, Seeded, Sender, Unreliable};
+use resolver_base::{Check, Draws, Fault, Feedback, PublicKey, Seeded, Sender, Unreliable};
 use std::alloc::{AllocError, Global};
 use std::collections::BTreeMap;
 
@@ -56,7 +59,9 @@ pub fn network<P: PublicKey + Drop>(
     alloc: Global,
     names: Vec<P>,
     weather: Weather,
-) -> Result<Vec<End<P>>, AllocError> {
+) -> Result<Vec<End<P>>, Fault>
+    ensures only { IfErr result (λ fault. fault ≡ OutOfMemory) }
+{
     let mut posts = Vec::with_capacity(alloc, names.len())?;
     let mut inboxes = Vec::with_capacity(alloc, names.len())?;
     for name in names {

@@ -1,6 +1,6 @@
 //! Looks for values that are under way.
 
-ghost use Rattle.std.specs.Prelude.{◌≡◌, IfErr};
+ghost use Rattle.std.specs.Prelude.{◌≡◌, None, [], IfErr};
 ghost use Rattle.std.specs.BTreeMap.{is_at};
 ghost use Rattle.std.specs.Map.{remove_entry};
 ghost use Rattle.std.specs.Ordering.{nat_cmp};
@@ -42,11 +42,11 @@ impl<V, F: Future<Output = Option<V>>> Future for Attempt<F> {
     }
 }
 
-/// Looks that are under way, each under the number of its attempt. A poll looks only at those that
-/// were woken.
+/// Looks that are under way, each under the number of its attempt, and none once they were ended. A
+/// poll looks only at those that were woken.
 pub(crate) struct Attempts<F> {
     alloc: Global,
-    looks: FuturesUnordered<Attempt<F>>,
+    looks: Option<FuturesUnordered<Attempt<F>>>,
     handles: BTreeMap<u64, AbortHandle>,
 }
 
@@ -67,19 +67,23 @@ impl<V, F: Future<Output = Option<V>>> Attempts<F> {
     {
         Ok(Attempts {
             alloc,
-            looks: FuturesUnordered::new(alloc)?,
+            looks: Some(FuturesUnordered::new(alloc)?),
             handles: BTreeMap::new(alloc),
         })
     }
 
-    /// Takes a look, under a number that no other has. Where memory is refused, it is dropped.
+    /// Takes a look, under a number that no other has. Where memory is refused, or the looks were ended,
+    /// it is dropped.
     pub(crate) fn add(&mut self, number: u64, future: F) -> Result<(), Fault>
         requires pollable { (future : F) → F.can_poll future }
         ensures only { IfErr result (λ fault. fault ≡ OutOfMemory) }
     {
+        let Some(looks) = &mut self.looks else {
+            return Ok(());
+        };
         let (look, handle) = Abortable::new(self.alloc, future)?;
         self.handles.insert(number, handle)?;
-        if self.looks.push(Attempt { number, look }).is_err() {
+        if looks.push(Attempt { number, look }).is_err() {
             self.handles.remove(&number);
             return Err(Fault::OutOfMemory);
         }
@@ -93,6 +97,15 @@ impl<V, F: Future<Output = Option<V>>> Attempts<F> {
         }
     }
 
+    /// Gives every look up, and drops it at once. None is taken from now on.
+    pub(crate) fn end(&mut self)
+        ensures gone { self.new.looks ≡ None }
+        ensures forgotten { self.new.handles.entries ≡ [] }
+    {
+        self.looks = None;
+        self.handles.clear();
+    }
+
     /// The next number whose look is over, with the value: nothing of it is kept. Where there is none so far, the
     /// task is woken by the next.
     pub(crate) fn poll_any(&mut self, cx: &mut Context<'_>) -> Poll<(u64, Option<V>)>
@@ -101,10 +114,11 @@ impl<V, F: Future<Output = Option<V>>> Attempts<F> {
             ≡ remove_entry (is_at (nat_cmp said.0)) self.old.handles.entries) }
         ensures kept { Keeps cx.old cx.new }
     {
-        if self.looks.is_empty() {
-            return Poll::Pending;
-        }
-        match self.looks.poll_next(cx) {
+        let looks = match &mut self.looks {
+            Some(looks) if !looks.is_empty() => looks,
+            _ => return Poll::Pending,
+        };
+        match looks.poll_next(cx) {
             Poll::Ready(Some((number, value))) => {
                 self.handles.remove(&number);
                 Poll::Ready((number, value))

@@ -10,8 +10,8 @@ use futures::{Future, Stream};
 use resolver_base::{Faithful, Span};
 use resolver_mailbox::mailbox::{Receiver, Unrecorded};
 use resolver_messages::Message;
-use resolver_opaque_actor::{Actor, Event, Input};
-use resolver_runtime::{Clock, Consumer, Ending, TURNS, Turn, poll_moment};
+use resolver_opaque_actor::{Actor, Effect, Event, Input};
+use resolver_runtime::{Clock, Consumer, Ending, TURNS, Turn, Unwatched, Watcher, poll_moment};
 use resolver_types::Predicate;
 use std::hash::Hash;
 use std::sync::Wait;
@@ -37,12 +37,12 @@ fn poll_mail<
     }
 }
 
-/// An actor with all that it is fed from and that its effects go to.
+/// An actor with all that it is fed from and that its effects go to, and with what is told of these.
 ///
 /// In each turn it looks for one input, in this order: the end, where memory was refused outside the
 /// actor; a value that was fetched; a verdict; a key that waits no longer; a message of the mailbox.
 /// A closed mailbox is the end.
-pub struct Loop<K, V, S, Q, R, W, F, C>
+pub struct Loop<K, V, S, Q, R, W, F, C, T = Unwatched>
 where
     K: Ord + Hash,
     S: Ord,
@@ -55,9 +55,10 @@ where
     pub(crate) mail: Receiver<K, S, (), Q, Unrecorded, R>,
     pub(crate) clock: W,
     pub(crate) hands: Hands<F, C>,
+    pub(crate) watcher: T,
 }
 
-impl<K, V: Drop, S, Q, R: Drop, W: Drop, F, C> Drop for Loop<K, V, S, Q, R, W, F, C>
+impl<K, V: Drop, S, Q, R: Drop, W: Drop, F, C, T: Drop> Drop for Loop<K, V, S, Q, R, W, F, C, T>
 where
     K: Ord + Hash + Drop,
     S: Ord + Drop,
@@ -72,11 +73,12 @@ where
             mail: _,
             clock: _,
             hands: _,
+            watcher: _,
         } = self;
     }
 }
 
-impl<K, V, S, Q, R, W, F, C> Loop<K, V, S, Q, R, W, F, C>
+impl<K, V, S, Q, R, W, F, C, T> Loop<K, V, S, Q, R, W, F, C, T>
 where
     K: Span + Faithful + Drop,
     V: Faithful + Drop,
@@ -87,6 +89,7 @@ where
     F: Fetcher<Key = K, Value = V> + Drop,
     C: Consumer<Key = K, Value = V, Subscriber = S> + Drop,
     C::Outcome: Drop,
+    T: Watcher<Input<K, V, S, Q>, Effect<K, V, S>> + Drop,
 {
     /// The first event that has come.
     fn poll_event(&mut self, cx: &mut Context<'_>) -> Poll<Event<K, V, S, Q>>
@@ -111,9 +114,11 @@ where
 
     /// Feeds an input to the actor, and carries out what it answers.
     fn feed(&mut self, input: Input<K, V, S, Q>) -> Option<Ending> {
+        self.watcher.takes(&input);
         match self.actor.step(input) {
             Ok(effects) => {
                 for effect in effects {
+                    self.watcher.wants(&effect);
                     self.hands.carry_out(effect);
                 }
                 None
@@ -149,8 +154,8 @@ where
         }
     }
 
-    /// Takes what has come, and is ready once the loop is over, with how it ended and the mailbox
-    /// closed. Where nothing has come so far, every source that may give something wakes the task.
+    /// Takes what has come, and is ready once the loop is over, with how it ended, the mailbox closed
+    /// and each look dropped. Where nothing has come so far, every source that may give something wakes the task.
     /// After `TURNS` turns it asks to be polled again.
     pub fn poll(&mut self, cx: &mut Context<'_>) -> Poll<Ending>
         ensures armed { OnPending result (IsArmed cx.new) }
@@ -161,6 +166,7 @@ where
                 Poll::Ready(Turn::Again) => {}
                 Poll::Ready(Turn::Over(ending)) => {
                     self.mail.close();
+                    self.hands.attempts.end();
                     return Poll::Ready(ending);
                 }
                 Poll::Pending => return Poll::Pending,
@@ -170,7 +176,7 @@ where
     }
 }
 
-impl<K, V, S, Q, R, W, F, C> Future for Loop<K, V, S, Q, R, W, F, C>
+impl<K, V, S, Q, R, W, F, C, T> Future for Loop<K, V, S, Q, R, W, F, C, T>
 where
     K: Span + Faithful + Drop,
     V: Faithful + Drop,
@@ -181,6 +187,7 @@ where
     F: Fetcher<Key = K, Value = V> + Drop,
     C: Consumer<Key = K, Value = V, Subscriber = S> + Drop,
     C::Outcome: Drop,
+    T: Watcher<Input<K, V, S, Q>, Effect<K, V, S>> + Drop,
 {
     type Output = Ending;
 

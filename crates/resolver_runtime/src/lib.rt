@@ -1,6 +1,6 @@
 //! What a caller lends to the loops of a resolver, and what both loops are made of.
 //!
-//! Lent are a consumer and a producer, the sources that a loop polls, and a clock. `mocks` has some
+//! Lent are a consumer and a producer, the sources that a loop polls, a clock, and a `Watcher`, which is told what a loop does. `mocks` has some
 //! for tests. Beside them stand the traits of the handles through which a resolver is asked,
 //! `Resolver` and `TargetedResolver`.
 //!
@@ -32,3 +32,4 @@ pub use traits::producer::Producer;
 pub use traits::provider::Provider;
 pub use traits::receiver::Receiver;
 pub use traits::resolver::{Resolver, TargetedResolver};
+pub use traits::watcher::{Unwatched, Watcher};

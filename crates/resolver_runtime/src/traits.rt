@@ -7,3 +7,4 @@ pub mod producer;
 pub mod provider;
 pub mod receiver;
 pub mod resolver;
+pub mod watcher;

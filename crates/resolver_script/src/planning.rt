@@ -132,10 +132,13 @@ fn keys_of(alloc: Global, fetches: &[Fetch<Key, u16>]) -> Result<Vec<Key>, Alloc
 pub fn items_of<M: Default + Drop>(
     alloc: Global,
     fetches: Vec<Fetch<Key, u16>>,
-) -> Result<Vec<FetchKey<Key, u16, M>>, AllocError> {
+) -> Result<Vec<FetchKey<Key, u16, M>>, Fault> {
     let mut items = Vec::with_capacity(alloc, fetches.len())?;
     for fetch in fetches {
-        items.push(FetchKey::from_fetch(alloc, fetch)?)?;
+        let Ok(item) = FetchKey::from_fetch(alloc, fetch) else {
+            return Err(Fault::Memory);
+        };
+        items.push(item)?;
     }
     Ok(items)
 }

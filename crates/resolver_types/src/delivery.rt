@@ -2,10 +2,10 @@
 
 ghost use Rattle.std.specs.Prelude.{◌≡◌, IfOk, map};
 ghost use Rattle.std.specs.Ordering.{on};
-ghost use Rattle.std.specs.Cmp.Lexicographic.{slice_cmp, pointwise, lists_ties};
-ghost use Rattle.std.specs.Cmp.{partial_order_from_own_ties, both_tied};
+ghost use Rattle.std.specs.Cmp.Lexicographic.{slice_cmp, slice_partial_cmp, pointwise, lists_agrees, lists_po, lists_ties};
+ghost use Rattle.std.specs.Cmp.{both_tied, on_po, then_agrees, then_po};
 ghost use Rattle.std.specs.Cmp.Rules.{comparing};
-ghost use Rattle.std.specs.Ordering.{then_cmp, as_partial_cmp, eq_of_both};
+ghost use Rattle.std.specs.Ordering.{then_cmp, partial_ordering_then, eq_of_both};
 ghost use Rattle.std.proofs.Common.{rules};
 
 use crate::non_empty_vec::NonEmptyVec;
@@ -58,7 +58,7 @@ impl<K: Ord, S: Ord> Ord for Delivery<K, S> {
 
     ghost total = { Prim.search (comparing, rules) depth 9 };
 
-    ghost matches_partial_cmp = { Prim.search (comparing, rules) depth 9 };
+    ghost matches_partial_cmp = { then_agrees (λ d e. K.matches_partial_cmp d.key e.key) (λ d e. lists_agrees S.matches_partial_cmp (map (λ s. s.0) d.subscribers) (map (λ s. s.0) e.subscribers)) };
 
     ghost matches_eq = { λ d e. both_tied _ _ _ (slice_cmp S.cmp (map (λ s. s.0) d.subscribers) (map (λ s. s.0) e.subscribers)) (K.matches_eq d.key e.key) (lists_ties S.cmp S.matches_eq (map (λ s. s.0) d.subscribers) (map (λ s. s.0) e.subscribers)) };
 
@@ -70,13 +70,18 @@ impl<K: Ord, S: Ord> Ord for Delivery<K, S> {
     }
 }
 
-impl<K: Ord, S: Ord> PartialOrd for Delivery<K, S> {
-    ghost partial_cmp = { as_partial_cmp (then_cmp (on (λ d. d.key) K.cmp) (on (λ d. map (λ s. s.0) d.subscribers) (slice_cmp S.cmp))) };
+impl<K: PartialOrd, S: PartialOrd> PartialOrd for Delivery<K, S> {
+    ghost partial_cmp = { λ d e. partial_ordering_then (K.partial_cmp d.key e.key) (slice_partial_cmp S.partial_cmp (map (λ s. s.0) d.subscribers) (map (λ s. s.0) e.subscribers)) };
 
-    ghost laws = { partial_order_from_own_ties (Prim.search (comparing, rules) depth 9) (λ d e. both_tied _ _ _ (slice_cmp S.cmp (map (λ s. s.0) d.subscribers) (map (λ s. s.0) e.subscribers)) (K.matches_eq d.key e.key) (lists_ties S.cmp S.matches_eq (map (λ s. s.0) d.subscribers) (map (λ s. s.0) e.subscribers))) };
+    ghost laws = { then_po (on_po (λ d. d.key) K.PartialOrd.laws) (on_po (λ d. map (λ s. s.0) d.subscribers) (lists_po S.PartialOrd.laws)) };
 
     fn partial_cmp(&self, other: &Self) -> Option<Ordering> {
-        Some(self.cmp(other))
+        match self.key.partial_cmp(&other.key) {
+            Some(Ordering::Equal) => {
+                partial_order_of(self.subscribers.as_slice(), other.subscribers.as_slice())
+            }
+            order => order,
+        }
     }
 }
 
@@ -113,5 +118,26 @@ fn order_of<S: Ord>(mine: &[(S, u64)], theirs: &[(S, u64)]) -> Ordering
         Ordering::Equal
     } else {
         Ordering::Less
+    }
+}
+
+/// The same where some subscribers may not compare: none, where the first that aren't equal don't.
+fn partial_order_of<S: PartialOrd>(mine: &[(S, u64)], theirs: &[(S, u64)]) -> Option<Ordering>
+    ensures { result ≡ slice_partial_cmp S.partial_cmp (map (λ s. s.0) mine.now)
+        (map (λ s. s.0) theirs.now) }
+{
+    for i in 0..mine.len() {
+        if i == theirs.len() {
+            return Some(Ordering::Greater);
+        }
+        match mine[i].0.partial_cmp(&theirs[i].0) {
+            Some(Ordering::Equal) => {}
+            order => return order,
+        }
+    }
+    if mine.len() == theirs.len() {
+        Some(Ordering::Equal)
+    } else {
+        Some(Ordering::Less)
     }
 }

@@ -1,8 +1,8 @@
 //! How fetches and deliveries compare, whatever their marks are.
 
 ghost use Rattle.std.specs.Prelude.{◌≡◌, ◌&&◌, map};
-ghost use Rattle.std.specs.Cmp.Lexicographic.{pointwise, slice_cmp};
-ghost use Rattle.std.specs.Ordering.{is_lt, ordering_then};
+ghost use Rattle.std.specs.Cmp.Lexicographic.{pointwise, slice_cmp, slice_partial_cmp};
+ghost use Rattle.std.specs.Ordering.{is_lt, ordering_then, partial_ordering_then};
 
 use crate::delivery::Delivery;
 use crate::fetch::Fetch;
@@ -55,4 +55,16 @@ pub fn order_of_deliveries<K: Ord, S: Ord>(
         (map (λ s. s.0) mine.now.subscribers) (map (λ s. s.0) theirs.now.subscribers)) }
 {
     mine.cmp(theirs)
+}
+
+/// How two deliveries are ordered where keys or subscribers may not compare.
+pub fn partial_order_of_deliveries<K: PartialOrd, S: PartialOrd>(
+    mine: &Delivery<K, S>,
+    theirs: &Delivery<K, S>,
+) -> Option<Ordering>
+    ensures { result ≡ partial_ordering_then (K.partial_cmp mine.now.key theirs.now.key)
+        (slice_partial_cmp S.partial_cmp (map (λ s. s.0) mine.now.subscribers)
+        (map (λ s. s.0) theirs.now.subscribers)) }
+{
+    mine.partial_cmp(theirs)
 }

@@ -15,3 +15,12 @@ pub use fetch::Fetch;
 pub use non_empty_vec::NonEmptyVec;
 pub use outcome::{Outcome, Resolution};
 pub use predicate::Predicate;
+
+/// A `NonEmptyVec` of these items in a row: `non_empty![in alloc; 1, 2, 3]?`. It takes what
+/// `NonEmptyVec::from_array` takes, and answers what that does.
+#[macro_export]
+macro_rules! non_empty {
+    (in $alloc:expr; $($item:expr),+ $(,)?) => {
+        $crate::NonEmptyVec::from_array($alloc, [$($item),+])
+    };
+}

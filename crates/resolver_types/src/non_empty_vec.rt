@@ -1,18 +1,23 @@
 //! A list that is never empty.
 
-ghost use Rattle.std.specs.Prelude.{◌≡◌, ◌<◌, ◌≤◌, ◌-◌, insert, [], ◌∷◌, ◌++◌, length, IfOk, IfErr, OnOk, OnErr, slice_get, Some, IsOk, MatchBool};
+ghost use Rattle.std.specs.Prelude.{◌≡◌, ◌<◌, ◌≤◌, ◌-◌, ◌^◌, insert, [], ◌∷◌, ◌++◌, length, IfOk, IfErr, OnOk, OnErr, slice_get, Some, IsOk, MatchBool};
+ghost use Rattle.std.specs.Cmp.Lexicographic.{lists_equiv, lists_per, pointwise};
 ghost use Rattle.std.specs.Iterator.Adapters.{IterYieldsInOrder};
 ghost use Rattle.std.specs.List.{list_any};
 ghost use Rattle.std.specs.Slice.Iter.{iter_rest};
+ghost use Rattle.std.specs.Vec.Iter.{into_iter_items, into_iter_len, into_iter_steps};
+ghost use Rattle.resolver_base.specs.declared.fault.Fault.TheVariants.{OutOfMemory};
 ghost use Rattle.resolver_types.specs.Joined.{joined};
-ghost use Rattle.resolver_types.specs.Mapped.{MapsInTurn};
+ghost use Rattle.resolver_types.specs.Mapped.{MapsInTurn, lending};
 ghost use Rattle.resolver_types.specs.Subscribers.{all_kept, joined_subscribers, keeps_any};
 
 use crate::joining;
 use crate::predicate::Predicate;
+use resolver_base::Fault;
 use std::alloc::{AllocError, AllocFailed, Global};
 use std::marker::Model;
 use std::slice::Iter;
+use std::vec::IntoIter;
 
 /// Up to so many items are each sought among those that are there; more of them by an index.
 const FEW: usize = 8;
@@ -41,6 +46,20 @@ impl<T: Drop> NonEmptyVec<T> {
     {
         let mut items = Vec::new(alloc);
         items.push(item)?;
+        Ok(NonEmptyVec { items })
+    }
+
+    /// The list of these items in a row, of which there is one at least. Where memory is refused,
+    /// they come back in the error. `non_empty!` writes it shorter.
+    pub fn from_array<const N: usize>(
+        alloc: Global,
+        items: [T; N],
+    ) -> Result<Self, AllocFailed<[T; N]>>
+        requires positive { 0 < N }
+        ensures ok { IfOk result (λ list. list ≡ items) }
+        ensures value_returned { IfErr result (λ failed. failed.value ≡ items) }
+    {
+        let items = Vec::from_array(alloc, items)?;
         Ok(NonEmptyVec { items })
     }
 
@@ -103,32 +122,34 @@ impl<T: Drop> NonEmptyVec<T> {
     /// Puts those of these items last, in their order, that aren't there yet. Where memory is
     /// refused, nothing changes. It takes time in proportion to both lengths, and where many are
     /// put, times their logarithm.
-    pub fn join(&mut self, alloc: Global, more: NonEmptyVec<T>) -> Result<(), AllocError>
+    pub fn join(&mut self, alloc: Global, more: NonEmptyVec<T>) -> Result<(), Fault>
     where
         T: Ord + Clone,
         requires items_clone { (x y : T) → T.is_clone x y → y ≡ x }
         ensures ok { OnOk result (self.new ≡ joined T.eq self.old more) }
         ensures err { OnErr result (self.new ≡ self.old) }
+        ensures only { IfErr result (λ fault. fault ≡ OutOfMemory) }
     {
         self.items.reserve(more.len())?;
         if more.len() <= FEW {
             joining::join_few(&mut self.items, more.items);
             return Ok(());
         }
-        joining::join_many(alloc, &mut self.items, more.items)
+        joining::join_many(alloc, &mut self.items, more.items)?;
+        Ok(())
     }
 
     /// What `f` gives for each item, in order. The new list's memory is made before the first
     /// call; where it is refused, `f` isn't called and this list comes back in the error.
     pub fn map_into<U, F: FnMut(T) -> U>(
         self,
-        alloc: Global,
         mut f: F,
     ) -> Result<NonEmptyVec<U>, AllocFailed<Self>>
         requires { F.IsAlwaysCallable f }
         ensures ok { IfOk result (λ list. MapsInTurn F.step f self list) }
         ensures value_returned { IfErr result (λ failed. failed.value ≡ self) }
     {
+        let alloc = *self.items.allocator();
         let Ok(mut mapped) = Vec::with_capacity(alloc, self.items.len()) else {
             return Err(AllocFailed { value: self });
         };
@@ -156,17 +177,19 @@ impl<S: Ord + Clone + Drop> NonEmptyVec<(S, u64)> {
         &mut self,
         alloc: Global,
         more: NonEmptyVec<(S, u64)>,
-    ) -> Result<(), AllocError>
+    ) -> Result<(), Fault>
         requires subscribers_clone { (x y : S) → S.is_clone x y → y ≡ x }
         ensures ok { OnOk result (self.new ≡ joined_subscribers S.cmp self.old more) }
         ensures err { OnErr result (self.new ≡ self.old) }
+        ensures only { IfErr result (λ fault. fault ≡ OutOfMemory) }
     {
         self.items.reserve(more.len())?;
         if more.len() <= FEW {
             joining::join_few_subscribers(&mut self.items, more.items);
             return Ok(());
         }
-        joining::join_many_subscribers(alloc, &mut self.items, more.items)
+        joining::join_many_subscribers(alloc, &mut self.items, more.items)?;
+        Ok(())
     }
 }
 
@@ -177,6 +200,20 @@ impl<T> NonEmptyVec<T> {
         ensures positive { 0 < length result.now }
     {
         self.items.as_slice()
+    }
+
+    /// What `f` gives for each item, which it is lent, in order. The new list's memory is made
+    /// before the first call; where it is refused, `f` isn't called.
+    pub fn map<U, F: FnMut(&T) -> U>(&self, mut f: F) -> Result<NonEmptyVec<U>, Fault>
+        requires { F.IsAlwaysCallable f }
+        ensures ok { IfOk result (λ list. MapsInTurn (lending F.step) f self.now list) }
+        ensures only { IfErr result (λ fault. fault ≡ OutOfMemory) }
+    {
+        let mut answers = Vec::with_capacity(*self.items.allocator(), self.items.len())?;
+        for item in &self.items {
+            answers.push_reserved(f(item));
+        }
+        Ok(NonEmptyVec { items: answers })
     }
 
     /// The items by reference, in their order.
@@ -218,5 +255,49 @@ impl<T: Clone> NonEmptyVec<T> {
     {
         let items = self.items.clone()?;
         Ok(NonEmptyVec { items })
+    }
+}
+
+/// Equal lists have equal items, one by one.
+impl<T: PartialEq> PartialEq for NonEmptyVec<T> {
+    ghost eq = { pointwise T.eq };
+
+    ghost laws = { lists_per T.laws };
+
+    fn eq(&self, other: &Self) -> bool {
+        self.items == other.items
+    }
+}
+
+impl<T: Eq> Eq for NonEmptyVec<T> {
+    ghost laws = { lists_equiv T.Eq.laws };
+}
+
+/// The items by value, in their order.
+impl<T: Drop> IntoIterator for NonEmptyVec<T> {
+    ghost use Rattle.std.specs.Iterator.Runs.{EveryRun, ItemsAre};
+    ghost use Rattle.std.specs.declared.alloc.Global.{Global};
+
+    type Item = T;
+
+    type IntoIter = IntoIter<T>;
+
+    ghost into_iter_gives = { λ list items. (into_iter_items items ≡ list) × (into_iter_len items ≡ length list) × (into_iter_len items < 2 ^ 64) × EveryRun (into_iter_steps {X = T} {Z = Global}) (λ p. ItemsAre p (into_iter_items p.from)) };
+
+    fn into_iter(self) -> IntoIter<T> {
+        self.into_vec().into_iter()
+    }
+}
+
+/// The items by reference, in their order.
+impl<'a, T> IntoIterator for &'a NonEmptyVec<T> {
+    type Item = &'a T;
+
+    type IntoIter = Iter<'a, T>;
+
+    ghost into_iter_gives = { λ list items. (iter_rest items ≡ list.now) × (length (iter_rest items) < 2 ^ 64) × IterYieldsInOrder T };
+
+    fn into_iter(self) -> Iter<'a, T> {
+        self.iter()
     }
 }

@@ -109,13 +109,14 @@ impl<Key: Clone> Payload<Key> {
 impl<Key: Span> Message<Key> {
     /// Appends the message, or nothing where memory is refused. It takes no memory where there is
     /// room for it.
-    pub fn write(&self, out: &mut BytesMut) -> Result<(), AllocError>
+    pub fn write(&self, out: &mut BytesMut) -> Result<(), Fault>
         requires short { IsShort self.now.payload }
         ensures ok { OnOk result
             (out.new.items ≡ out.old.items ++ spelling Key.bytes_of self.now) }
         ensures err { OnErr result (out.new.items ≡ out.old.items) }
         ensures spare { UsesSpare result out.old.spare out.new.spare
             (length (spelling Key.bytes_of self.now)) }
+        ensures only { IfErr result (λ fault. fault ≡ OutOfMemory) }
     {
         out.reserve(self.encode_size())?;
         self.put_inline(out)?;
@@ -125,11 +126,12 @@ impl<Key: Span> Message<Key> {
 
     /// The message in pieces. There is one, and for a response that isn't empty a second, which is
     /// the value itself and no copy of it.
-    pub fn write_bufs(&self, alloc: Global) -> Result<Vec<Bytes>, AllocError>
+    pub fn write_bufs(&self, alloc: Global) -> Result<Vec<Bytes>, Fault>
         requires short { IsShort self.now.payload }
         ensures pieces { IfOk result (λ list. list.items ≡ pieces Key.bytes_of self.now) }
         ensures joined { IfOk result
             (λ list. concat list.items ≡ spelling Key.bytes_of self.now) }
+        ensures only { IfErr result (λ fault. fault ≡ OutOfMemory) }
     {
         let mut list = Vec::with_capacity(alloc, 2)?;
         list.push(self.inline_piece(alloc)?)?;

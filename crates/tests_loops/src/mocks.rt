@@ -9,6 +9,7 @@ use resolver::mailbox::{Entry, Naming, Pages, Receiver, Sender, recorded};
 use resolver::p2p::mocks::Key;
 use std::alloc::Global;
 use std::marker::Brand;
+use std::num::NonZeroUsize;
 use std::panic::Expect;
 use std::process::Abort;
 use std::sync::Wait;
@@ -61,12 +62,11 @@ fn key_in(entry: Option<&Entry<Key, u16, (), Below>>) -> Option<Key> {
 /// The key of the first put in the book for a handle's share.
 fn key_of<N: Naming, R: Wait>(
     rt: &impl Abort,
-    alloc: Global,
     handle: &Sender<Key, u16, (), Below, N, R>,
     receiver: &Receiver<Key, u16, (), Below, N, R>,
 ) -> Option<Key> {
     let share = handle.share()?;
-    let book = receiver.book(alloc, &[share]).expect(rt, "a book");
+    let book = receiver.book(&[share]).expect(rt, "a book");
     let key = key_in(book.first());
     drop(book);
     key
@@ -81,10 +81,10 @@ where
     requires puts { pages.puts.name ≡ N.puts }
     requires takes { pages.takes.name ≡ N.takes }
 {
-    let ends = recorded::<Key, u16, (), Below, N, R>(rt, alloc, pages, 1);
+    let ends = recorded::<Key, u16, (), Below, N, R>(rt, alloc, pages, NonZeroUsize::MIN);
     let (mut handle, receiver) = ends.expect(&rt, "memory");
     put(&rt, alloc, &mut handle, key);
-    let read = key_of(&rt, alloc, &handle, &receiver);
+    let read = key_of(&rt, &handle, &receiver);
     drop(receiver);
     drop(handle);
     read

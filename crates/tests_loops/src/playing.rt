@@ -1,7 +1,8 @@
 //! What a test does to a loop that it polls by hand, and what is seen of that.
 
 use crate::fakes::acts::{Act, Asks};
-use crate::fakes::world::{Setting, World, make_loop};
+use crate::fakes::watching::Watching;
+use crate::fakes::world::{Setting, World, into_watched_loop, make_loop, make_world};
 use crate::support::assert_same;
 use futures::test::MockTask;
 use std::alloc::{AllocGlobal, Global};
@@ -84,6 +85,23 @@ where
 {
     let made = make_loop::<Below, _>(rt, rt.alloc(), setting);
     let (mut world, mut looped) = made.expect(&rt, "a loop");
+    let text = written(&rt, &mut looped, &mut world, acts);
+    drop(looped);
+    drop(world);
+    assert_same(&rt, text.as_str(), seen);
+    drop(text);
+}
+
+/// The same, where a watcher is told of what the loop takes and does, beside what the fakes are asked.
+pub fn is_told<R>(rt: R, setting: Setting, acts: &[Act<'_>], seen: &str)
+where
+    R: Abort + Wait + RandomSource + AllocGlobal + Copy + Drop + Send + 'static,
+{
+    let made = make_world::<Below, _>(rt, rt.alloc(), setting);
+    let (mut world, engine, lent) = made.expect(&rt, "an engine");
+    let told = lent.told.clone().expect(&rt, "memory");
+    let made = into_watched_loop(engine, lent, Watching { told });
+    let mut looped = made.expect(&rt, "a loop");
     let text = written(&rt, &mut looped, &mut world, acts);
     drop(looped);
     drop(world);

@@ -2,7 +2,7 @@ ghost use Rattle.std.specs.Prelude.{nat_le};
 ghost use Rattle.std.proofs.Common.{rules};
 
 use crate::support::{equal, equal_lists, holds};
-use resolver_types::{NonEmptyVec, Predicate};
+use resolver_types::{NonEmptyVec, Predicate, non_empty};
 use std::alloc::Global;
 use std::panic::Expect;
 use std::process::Abort;
@@ -47,9 +47,43 @@ fn is_cloned_and_mapped(rt: HostRuntime) {
     let rt = &rt;
     let list = list_of(rt, rt.alloc(), &[5u8, 6]);
     let same = list.clone().expect(rt, "memory");
-    let halves = list.map_into(rt.alloc(), half).expect(rt, "memory");
+    let halves = list.map_into(half).expect(rt, "memory");
+    equal_lists(rt, halves.as_slice(), &[2, 3]);
+    let halves = same.map(|item| half(*item)).expect(rt, "memory");
     equal_lists(rt, halves.as_slice(), &[2, 3]);
     equal_lists(rt, same.as_slice(), &[5, 6]);
+}
+
+#[test]
+fn is_made_of_items_in_a_row(rt: HostRuntime) {
+    let rt = &rt;
+    let list = NonEmptyVec::from_array(rt.alloc(), [5u8, 6]).expect(rt, "memory");
+    let same = non_empty![in rt.alloc(); 5u8, 6].expect(rt, "memory");
+    equal_lists(rt, list.as_slice(), &[5, 6]);
+    holds(rt, list == same);
+    let longer = non_empty![in rt.alloc(); 5u8, 6, 7].expect(rt, "memory");
+    holds(rt, list != longer);
+    let other = non_empty![in rt.alloc(); 6u8, 5].expect(rt, "memory");
+    holds(rt, list != other);
+}
+
+/// The digits of a list, as a number.
+fn number_of(list: &NonEmptyVec<u8>) -> u32 {
+    let mut number = 0u32;
+    for digit in list {
+        number = number.wrapping_mul(10).wrapping_add(u32::from(*digit));
+    }
+    number
+}
+
+#[test]
+fn is_gone_over(rt: HostRuntime) {
+    let rt = &rt;
+    let list = non_empty![in rt.alloc(); 5u8, 6, 7].expect(rt, "memory");
+    holds(rt, number_of(&list) == 567);
+    let mut items = list.into_iter();
+    let given = [items.next(), items.next(), items.next(), items.next()];
+    equal(rt, &given, &[Some(5), Some(6), Some(7), None]);
 }
 
 /// Keeps the subscribers up to a bound.

@@ -78,3 +78,10 @@ fn accepts_what_is_on_its_way(rt: HostRuntime) {
     holds(rt, !Unreliable::Outcome(Feedback::Closed).is_accepted());
     holds(rt, !Unreliable::Rejected.is_accepted());
 }
+
+#[test]
+fn was_taken_unless_closed(rt: HostRuntime) {
+    holds(&rt, Feedback::Ok.accepted());
+    holds(&rt, Feedback::Backoff.accepted());
+    holds(&rt, !Feedback::Closed.accepted());
+}

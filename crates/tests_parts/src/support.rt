@@ -10,6 +10,7 @@ use resolver_base::Fault;
 use resolver_types::{Delivery, NonEmptyVec, Outcome, Resolution};
 use std::alloc::Global;
 use std::fmt::{Debug, Write};
+use std::num::NonZeroUsize;
 use std::panic::Expect;
 use std::process::Abort;
 use std::str::FromStr;
@@ -166,4 +167,9 @@ pub fn next<S: Stream>(task: &MockTask, stream: &mut S) -> Poll<Option<S::Item>>
     requires { S.can_poll stream.old }
 {
     task.poll(&mut stream.next())
+}
+
+/// A size above 0.
+pub fn size(rt: &impl Abort, size: usize) -> NonZeroUsize {
+    NonZeroUsize::new(size).expect(rt, "a size above 0")
 }

@@ -1,5 +1,5 @@
 use crate::support::{copied, equal, holds, is_written};
-use resolver_types::{Delivery, Fetch, NonEmptyVec, Outcome, Resolution, laws};
+use resolver_types::{Delivery, Fetch, NonEmptyVec, Outcome, Resolution, laws, non_empty};
 use std::alloc::Global;
 use std::cmp::Ordering;
 use std::panic::Expect;
@@ -42,6 +42,46 @@ fn deliveries_compare_by_key_and_subscribers(rt: HostRuntime) {
         let other = delivery(rt, rt.alloc(), other_key, others);
         compares(rt, &one, &other, order);
     }
+}
+
+/// How two deliveries compare, of which the first has this key and this subscriber beside 10.
+fn compared(rt: &impl Abort, alloc: Global, key: f64, subscriber: f64) -> Option<Ordering> {
+    let one = Delivery {
+        key,
+        subscribers: non_empty![in alloc; (10.0, 7), (subscriber, 8)].expect(rt, "memory"),
+    };
+    let other = Delivery {
+        key: 1.0,
+        subscribers: non_empty![in alloc; (10.0, 9), (11.0, 0)].expect(rt, "memory"),
+    };
+    equal(
+        rt,
+        &laws::partial_order_of_deliveries(&one, &other),
+        &one.partial_cmp(&other),
+    );
+    one.partial_cmp(&other)
+}
+
+#[test]
+fn deliveries_may_not_compare(rt: HostRuntime) {
+    let rt = &rt;
+    equal(
+        rt,
+        &compared(rt, rt.alloc(), 1.0, 11.0),
+        &Some(Ordering::Equal),
+    );
+    equal(
+        rt,
+        &compared(rt, rt.alloc(), 1.0, 12.0),
+        &Some(Ordering::Greater),
+    );
+    equal(
+        rt,
+        &compared(rt, rt.alloc(), 0.5, f64::NAN),
+        &Some(Ordering::Less),
+    );
+    equal(rt, &compared(rt, rt.alloc(), 1.0, f64::NAN), &None);
+    equal(rt, &compared(rt, rt.alloc(), f64::NAN, 11.0), &None);
 }
 
 /// Compares to another so.

@@ -1,5 +1,6 @@
 //! What goes wrong around an engine, and what its fakes are asked, as lines.
 
+use crate::kinds::{EffectKind, InputKind};
 use crate::names::Peer;
 use bytes::Bytes;
 use futures::channel::mpsc;
@@ -89,6 +90,10 @@ pub enum Seen {
     Blocked(Peer),
     /// A look of an opaque source.
     Looked(Key),
+    /// A watcher was told of an input, with its moment where it is an event.
+    Took(InputKind, Option<u128>),
+    /// A watcher was told of an effect.
+    Wanted(EffectKind),
 }
 
 /// A line for each.
@@ -106,6 +111,9 @@ impl fmt::Display for Seen {
             Seen::Produced(key) => write!(f, "produce {}", key.0),
             Seen::Blocked(peer) => write!(f, "block {}", peer.0),
             Seen::Looked(key) => write!(f, "look {}", key.0),
+            Seen::Took(kind, Some(now)) => write!(f, "told {} at {now}", kind.word()),
+            Seen::Took(kind, None) => write!(f, "told {}", kind.word()),
+            Seen::Wanted(kind) => write!(f, "told of {}", kind.words()),
         }
     }
 }

@@ -37,7 +37,9 @@ use resolver_mailbox::mailbox::Unrecorded;
 use resolver_metrics::metrics::Metrics;
 use resolver_model_peer::effects::Effect;
 use resolver_model_peer::inputs::Input;
-use resolver_runtime::{Blocker, Clock, Consumer, Peers, Producer, Provider, Receiver};
+use resolver_runtime::{
+    Blocker, Clock, Consumer, Peers, Producer, Provider, Receiver, Unwatched, Watcher,
+};
 use resolver_types::Predicate;
 use std::alloc::Global;
 use std::hash::Hash;
@@ -133,7 +135,7 @@ impl<
         ensures share { IfOk result (λ made. made.1 ≡ None) }
         ensures only { IfErr result (λ fault. fault ≡ OutOfMemory) }
     {
-        let (sender, mail) = mailbox::new(rt, alloc, cfg.mailbox_size.get())?;
+        let (sender, mail) = mailbox::new(rt, alloc, cfg.mailbox_size)?;
         let configuration = fetcher::Config {
             me: cfg.me,
             fetch_timeout: cfg.fetch_timeout,
@@ -186,6 +188,26 @@ impl<
         C::Outcome: Drop,
         ensures only { IfErr result (λ fault. fault ≡ OutOfMemory) }
     {
+        self.into_watched_loop(network, clock, draws, Unwatched)
+    }
+
+    /// As `into_loop`, with a loop that tells this watcher what it takes and does.
+    pub fn into_watched_loop<X, Y, W, G, T>(
+        self,
+        network: (X, Y),
+        clock: W,
+        draws: G,
+        watcher: T,
+    ) -> Result<Loop<P, D, B, K, S, C, O, Q, R, X, Y, W, G, T>, Fault>
+    where
+        X: Sender<PublicKey = P> + Drop,
+        Y: Receiver<PublicKey = P> + Drop,
+        W: Clock + Drop,
+        G: Draws + Drop,
+        C::Outcome: Drop,
+        T: Watcher<Input<K, P, S, Q>, Effect<K, P, S>> + Drop,
+        ensures only { IfErr result (λ fault. fault ≡ OutOfMemory) }
+    {
         let Engine {
             rt: _,
             alloc,
@@ -208,9 +230,10 @@ impl<
                 hands,
                 receiver,
                 clock,
+                watcher,
             }),
             Err(fault) => {
-                drop((core, shown, mail, receiver, clock));
+                drop((core, shown, mail, receiver, clock, watcher));
                 Err(fault)
             }
         }

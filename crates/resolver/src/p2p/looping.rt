@@ -11,10 +11,11 @@ use bytes::Bytes;
 use futures::Future;
 use futures::task::{Context, Poll};
 use resolver_base::{Draws, Faithful, PublicKey, Sender, Span};
+use resolver_model_peer::effects::Effect;
 use resolver_model_peer::inputs::{Event, Happening, Input};
 use resolver_runtime::{
-    Blocker, Clock, Consumer, Ending, Producer, Provider, Receiver, TURNS, Turn, earlier,
-    poll_moment,
+    Blocker, Clock, Consumer, Ending, Producer, Provider, Receiver, TURNS, Turn, Unwatched,
+    Watcher, earlier, poll_moment,
 };
 use resolver_types::Predicate;
 use std::hash::Hash;
@@ -28,13 +29,13 @@ fn is_due(clock: &impl Clock, deadline: Option<u128>) -> bool {
     }
 }
 
-/// An engine's core with all that it is fed from and that its effects go to.
+/// An engine's core with all that it is fed from and that its effects go to, and with what is told of these.
 ///
 /// In each turn it looks for one input, in this order: the answer that a scan waits for; the end,
 /// where memory was refused outside the core; a set of peers; a blocked set; a request whose time is
 /// over; a verdict; a message of the mailbox; a key whose time has come; bytes of the producer;
 /// a message of a peer. A closed source of sets, mailbox or network is the end.
-pub struct Loop<P, D, B, K, S, C, O, Q, R, X, Y, W, G>
+pub struct Loop<P, D, B, K, S, C, O, Q, R, X, Y, W, G, T = Unwatched>
 where
     P: Ord + Faithful + Drop,
     K: Ord + Hash,
@@ -49,10 +50,25 @@ where
     pub(crate) hands: Hands<D, B, C, O, X, G>,
     pub(crate) receiver: Y,
     pub(crate) clock: W,
+    pub(crate) watcher: T,
 }
 
-impl<P, D: Drop, B: Drop, K, S, C, O: Drop, Q, R: Drop, X: Drop, Y: Drop, W: Drop, G: Drop> Drop
-    for Loop<P, D, B, K, S, C, O, Q, R, X, Y, W, G>
+impl<
+    P,
+    D: Drop,
+    B: Drop,
+    K,
+    S,
+    C,
+    O: Drop,
+    Q,
+    R: Drop,
+    X: Drop,
+    Y: Drop,
+    W: Drop,
+    G: Drop,
+    T: Drop,
+> Drop for Loop<P, D, B, K, S, C, O, Q, R, X, Y, W, G, T>
 where
     P: Ord + Faithful + Drop,
     K: Ord + Hash + Drop,
@@ -69,11 +85,12 @@ where
             hands: _,
             receiver: _,
             clock: _,
+            watcher: _,
         } = self;
     }
 }
 
-impl<P, D, B, K, S, C, O, Q, R, X, Y, W, G> Loop<P, D, B, K, S, C, O, Q, R, X, Y, W, G>
+impl<P, D, B, K, S, C, O, Q, R, X, Y, W, G, T> Loop<P, D, B, K, S, C, O, Q, R, X, Y, W, G, T>
 where
     P: PublicKey + Faithful + Drop,
     D: Provider<PublicKey = P> + Drop,
@@ -89,6 +106,7 @@ where
     Y: Receiver<PublicKey = P> + Drop,
     W: Clock + Drop,
     G: Draws + Drop,
+    T: Watcher<Input<K, P, S, Q>, Effect<K, P, S>> + Drop,
 {
     /// The first event that has come.
     fn poll_event(&mut self, cx: &mut Context<'_>) -> Poll<Event<K, P, S, Q>>
@@ -131,9 +149,11 @@ where
 
     /// Feeds an input to the core, and carries out what it answers.
     fn feed(&mut self, input: Input<K, P, S, Q>) -> Option<Ending> {
+        self.watcher.takes(&input);
         match self.core.step(input) {
             Ok(effects) => {
                 for effect in effects {
+                    self.watcher.wants(&effect);
                     self.hands.carry_out(effect);
                 }
                 None
@@ -216,7 +236,8 @@ where
     }
 }
 
-impl<P, D, B, K, S, C, O, Q, R, X, Y, W, G> Future for Loop<P, D, B, K, S, C, O, Q, R, X, Y, W, G>
+impl<P, D, B, K, S, C, O, Q, R, X, Y, W, G, T> Future
+    for Loop<P, D, B, K, S, C, O, Q, R, X, Y, W, G, T>
 where
     P: PublicKey + Faithful + Drop,
     D: Provider<PublicKey = P> + Drop,
@@ -232,6 +253,7 @@ where
     Y: Receiver<PublicKey = P> + Drop,
     W: Clock + Drop,
     G: Draws + Drop,
+    T: Watcher<Input<K, P, S, Q>, Effect<K, P, S>> + Drop,
 {
     type Output = Ending;
 

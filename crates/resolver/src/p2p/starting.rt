@@ -7,8 +7,10 @@ use crate::p2p::engine::Engine;
 use bytes::Bytes;
 use futures::Future;
 use resolver_base::{Draws, Faithful, Fault, PublicKey, Sender, Span};
+use resolver_model_peer::effects::Effect;
+use resolver_model_peer::inputs::Input;
 use resolver_runtime::{
-    Blocker, Clock, Consumer, Ending, Handle, Producer, Provider, Receiver, start,
+    Blocker, Clock, Consumer, Ending, Handle, Producer, Provider, Receiver, Watcher, start,
 };
 use resolver_types::Predicate;
 use std::alloc::AllocGlobal;
@@ -44,6 +46,28 @@ impl<
     {
         let rt = self.rt;
         start_made(rt, self.into_loop(network, clock, draws))
+    }
+
+    /// As `start`, where the loop tells this watcher, in its thread, what it takes and does. The watcher is dropped
+    /// with the loop.
+    pub fn start_watched<X, Y, W, G, T>(
+        self,
+        network: (X, Y),
+        clock: W,
+        draws: G,
+        watcher: T,
+    ) -> Result<Handle, Fault>
+    where
+        X: Sender<PublicKey = P> + Drop + Send + 'static,
+        Y: Receiver<PublicKey = P> + Drop + Send + 'static,
+        W: Clock + Drop + Send + 'static,
+        G: Draws + Drop + Send + 'static,
+        C::Outcome: Drop + Send + 'static,
+        T: Watcher<Input<K, P, S, Q>, Effect<K, P, S>> + Drop + Send + 'static,
+        ensures only { IfErr result (λ fault. fault ≡ OutOfMemory) }
+    {
+        let rt = self.rt;
+        start_made(rt, self.into_watched_loop(network, clock, draws, watcher))
     }
 }
 

@@ -13,6 +13,7 @@ use resolver_mailbox::mailbox;
 use resolver_mailbox::mailbox::{Entry, Naming, Pages, Share};
 use resolver_messages::Message;
 use std::alloc::{AllocGlobal, Global};
+use std::num::NonZeroUsize;
 use std::random::RandomSource;
 use std::sync::Wait;
 
@@ -127,7 +128,10 @@ where
         return Ending::Outside;
     };
     let opened: Result<(Putter<N, R>, Taker<N, R>), Fault> = mailbox::recorded(
-        *rt, alloc, pages, 1,
+        *rt,
+        alloc,
+        pages,
+        NonZeroUsize::MIN,
     );
     match opened {
         Ok((mut first, mut taker)) => {
@@ -213,7 +217,7 @@ where
                 self.first.close();
                 Ok(())
             }
-            Call::Book => done(book(self.first, self.second, self.taker, alloc)),
+            Call::Book => done(book(self.first, self.second, self.taker)),
         }
     }
 
@@ -221,7 +225,7 @@ where
         show_share(notes, self.first.share());
         show_share(notes, self.second.share());
         notes.add(self.taker.taken());
-        show_book(notes, book(self.first, self.second, self.taker, alloc));
+        show_book(notes, book(self.first, self.second, self.taker));
     }
 }
 
@@ -230,12 +234,11 @@ fn book<N: Naming, R: Wait>(
     first: &Putter<N, R>,
     second: &Putter<N, R>,
     taker: &Taker<N, R>,
-    alloc: Global,
 ) -> Result<Vec<Entry<u64, u16, (), All>>, Fault> {
     match (first.share(), second.share()) {
-        (Some(first), Some(second)) => taker.book(alloc, &[first, second]),
-        (Some(first), None) => taker.book(alloc, &[first]),
-        _ => taker.book(alloc, &[]),
+        (Some(first), Some(second)) => taker.book(&[first, second]),
+        (Some(first), None) => taker.book(&[first]),
+        _ => taker.book(&[]),
     }
 }
 

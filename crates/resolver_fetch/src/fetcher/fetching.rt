@@ -12,7 +12,7 @@ use crate::fetcher::{Answer, Ask, Fetcher, ID};
 use bytes::{Bytes, BytesMut};
 use resolver_base::{Draws, Fault, PublicKey, Sender, Span};
 use resolver_wire::wire::{Message, Payload};
-use std::alloc::{AllocError, Global};
+use std::alloc::Global;
 
 impl<K: Span + Drop, P: PublicKey + Drop> Fetcher<K, P> {
     /// Begins a scan at this moment, where none is open, and answers what it asks from `draws` and `sender`, until it
@@ -131,7 +131,7 @@ pub fn answer_to<K: Span + Drop, S: Sender, D: Draws>(
     sender: &mut S,
     draws: &mut D,
     ask: Ask<K, S::PublicKey>,
-) -> Result<Answer, AllocError>
+) -> Result<Answer, Fault>
 where
     S::PublicKey: Drop,
     requires answerable { IsAnswerable ask }
@@ -141,6 +141,7 @@ where
         sender.old draws.old sender.new draws.new) }
     ensures sender { OnErr result (sender.new ≡ sender.old) }
     ensures draws { OnErr result (draws.new ≡ draws.old) }
+    ensures only { IfErr result (λ fault. fault ≡ OutOfMemory) }
 {
     match ask {
         Ask::Draw(bound) => Ok(Answer::Drawn(draws.below(bound))),
@@ -159,8 +160,9 @@ where
 }
 
 /// A request for a key under an id, as bytes.
-fn request_bytes<K: Span + Drop>(alloc: Global, id: ID, key: K) -> Result<Bytes, AllocError>
-    ensures { IfOk result (λ bytes. bytes ≡ spelling K.bytes_of (request_of id key)) }
+fn request_bytes<K: Span + Drop>(alloc: Global, id: ID, key: K) -> Result<Bytes, Fault>
+    ensures bytes { IfOk result (λ bytes. bytes ≡ spelling K.bytes_of (request_of id key)) }
+    ensures only { IfErr result (λ fault. fault ≡ OutOfMemory) }
 {
     let request = Message {
         id,

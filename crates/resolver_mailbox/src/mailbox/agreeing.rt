@@ -3,7 +3,7 @@
 ghost use Rattle.std.specs.Prelude.{◌≡◌, ◌<◌, ◌↔◌, map, IfOk, IfErr, IsTrue, OnErr};
 ghost use Rattle.resolver_messages.specs.Waiting.{item_of, told_of};
 ghost use Rattle.resolver_desk.specs.Book.{call_of, closes, puts_of, takes};
-ghost use Rattle.resolver_base.specs.declared.fault.Fault.TheVariants.{Uneven};
+ghost use Rattle.resolver_base.specs.declared.fault.Fault.TheVariants.{OutOfMemory, Uneven};
 ghost use Rattle.resolver_mailbox.specs.Shares.{Agrees, AgreesWith, Differs};
 
 use crate::mailbox::exact::Exact;
@@ -12,7 +12,7 @@ use crate::mailbox::share::Share;
 use resolver_base::{Faithful, Fault};
 use resolver_desk::entry::{Entry, Posted};
 use resolver_messages::{FetchKey, Message, Metadata};
-use std::alloc::{AllocError, Global};
+use std::alloc::Global;
 
 /// Whether both fetches are the same.
 fn is_same_item<K: Exact, S: Exact, M: Exact>(
@@ -181,8 +181,9 @@ pub(super) fn copied<
     S: Faithful + Drop,
     M: Metadata + Drop,
     Q: Faithful + Drop,
->(alloc: Global, book: &[Entry<K, S, M, Q>]) -> Result<Vec<Entry<K, S, M, Q>>, AllocError>
-    ensures { IfOk result (λ copy. map call_of copy.items ≡ map call_of book.now) }
+>(alloc: Global, book: &[Entry<K, S, M, Q>]) -> Result<Vec<Entry<K, S, M, Q>>, Fault>
+    ensures only { IfErr result (λ fault. fault ≡ OutOfMemory) }
+    ensures same { IfOk result (λ copy. map call_of copy.items ≡ map call_of book.now) }
 {
     let mut copy = Vec::with_capacity(alloc, book.len())?;
     for entry in book {
@@ -195,8 +196,9 @@ pub(super) fn copied<
 fn copied_entry<K: Faithful + Drop, S: Faithful + Drop, M: Metadata + Drop, Q: Faithful + Drop>(
     alloc: Global,
     entry: &Entry<K, S, M, Q>,
-) -> Result<Entry<K, S, M, Q>, AllocError>
-    ensures { IfOk result (λ copy. call_of copy ≡ call_of entry.now) }
+) -> Result<Entry<K, S, M, Q>, Fault>
+    ensures only { IfErr result (λ fault. fault ≡ OutOfMemory) }
+    ensures same { IfOk result (λ copy. call_of copy ≡ call_of entry.now) }
 {
     Ok(match entry {
         Entry::Put(posted) => Entry::Put(Posted {

@@ -1,6 +1,7 @@
 //! What lies under a mailbox's lock.
 
 ghost use Rattle.std.specs.Prelude.{◌≡◌, ◌≢◌, ◌<◌, ◌↔◌, ◌++◌, [], false, true, is_some, map, None, Some, Ok, Err, IsTrue, IfOk, IfErr, OnOk, OnErr};
+ghost use Rattle.std.specs.NonZero.{non_zero_usize_get};
 ghost use Rattle.std.specs.Option.{ForSome, option_copied, option_map, option_to_list};
 ghost use Rattle.resolver_base.specs.declared.fault.Fault.TheVariants.{Exhausted, OutOfMemory};
 ghost use Rattle.resolver_base.specs.declared.feedback.Feedback.TheVariants.{Closed};
@@ -20,9 +21,10 @@ use resolver_desk::desk::Desk;
 use resolver_desk::entry::Entry;
 use resolver_messages::{Message, Metadata};
 use resolver_types::Predicate;
-use std::alloc::{AllocError, Global};
+use std::alloc::Global;
 use std::hash::Hash;
 use std::marker::{Model, PhantomData};
+use std::num::NonZeroUsize;
 use std::sync::ledger;
 
 /// Where a handle keeps its share, if it has one. A put needs one.
@@ -129,10 +131,11 @@ impl<
     R,
 > Counted<K, S, M, Q, N, R> {
     /// With a new desk, which isn't recorded and has room for this many ready messages.
-    pub(super) fn unrecorded(alloc: Global, capacity: usize) -> Result<Self, AllocError>
-        requires some { 0 < capacity }
-        requires kind { N.is_recorded ≡ false }
-        ensures { IfOk result (λ state. state.desk ≡ empty_desk capacity None) }
+    pub(super) fn unrecorded(alloc: Global, capacity: NonZeroUsize) -> Result<Self, Fault>
+        requires { N.is_recorded ≡ false }
+        ensures desk { IfOk result
+            (λ state. state.desk ≡ empty_desk (non_zero_usize_get capacity) None) }
+        ensures only { IfErr result (λ fault. fault ≡ OutOfMemory) }
     {
         Ok(Counted {
             desk: Desk::new(alloc, capacity)?,
@@ -146,16 +149,16 @@ impl<
     /// of its takes. Its puts and takes are counted in these two ledgers.
     pub(super) fn recorded(
         alloc: Global,
-        capacity: usize,
+        capacity: NonZeroUsize,
         pages: Pages,
-    ) -> Result<(Self, ledger::Share<Takes<N>>), AllocError>
-        requires some { 0 < capacity }
+    ) -> Result<(Self, ledger::Share<Takes<N>>), Fault>
         requires kind { N.is_recorded ≡ true }
         requires puts { pages.puts.name ≡ N.puts }
         requires takes { pages.takes.name ≡ N.takes }
         ensures desk { IfOk result
-            (λ made. made.0.desk ≡ empty_desk capacity (Some empty_book)) }
+            (λ made. made.0.desk ≡ empty_desk (non_zero_usize_get capacity) (Some empty_book)) }
         ensures whole { IfOk result (λ made. (made.1.parts ≡ 1) × (made.1.amount ≡ 0)) }
+        ensures only { IfErr result (λ fault. fault ≡ OutOfMemory) }
     {
         let desk = Desk::recorded(alloc, capacity)?;
         let Pages { puts, takes } = pages;
@@ -243,7 +246,8 @@ impl<
     }
 
     /// The calls on the desk so far, in their order. There are none where it isn't recorded.
-    pub(super) fn calls(&self, alloc: Global) -> Result<Vec<Entry<K, S, M, Q>>, AllocError>
+    pub(super) fn calls(&self, alloc: Global) -> Result<Vec<Entry<K, S, M, Q>>, Fault>
+        ensures only { IfErr result (λ fault. fault ≡ OutOfMemory) }
         ensures same { IfOk result
             (λ calls. map call_of calls.items ≡ calls_of self.now.desk) }
         ensures legal { N.is_recorded ≡ true → IfOk result

@@ -1,6 +1,6 @@
 //! Mailboxes that are opened.
 
-ghost use Rattle.std.specs.Prelude.{◌≡◌, ◌<◌, [], false, true, None, IfOk, IfErr};
+ghost use Rattle.std.specs.Prelude.{◌≡◌, [], false, true, None, IfOk, IfErr};
 ghost use Rattle.resolver_base.specs.declared.fault.Fault.TheVariants.{OutOfMemory};
 
 use crate::mailbox::counted::{Counted, Seat};
@@ -14,6 +14,7 @@ use resolver_messages::Metadata;
 use resolver_types::Predicate;
 use std::alloc::Global;
 use std::hash::Hash;
+use std::num::NonZeroUsize;
 use std::sync::{Arc, Mutex};
 
 /// A mailbox with room for this many ready messages. Takes the memory for them.
@@ -26,7 +27,7 @@ pub fn new<
 >(
     rt: R,
     alloc: Global,
-    capacity: usize,
+    capacity: NonZeroUsize,
 ) -> Result<
     (
         Sender<K, S, M, Q, Unrecorded, R>,
@@ -34,7 +35,6 @@ pub fn new<
     ),
     Fault,
 >
-    requires { 0 < capacity }
     ensures share { IfOk result (λ ends. ends.0 ≡ None) }
     ensures taken { IfOk result (λ ends. ends.1.taken ≡ []) }
     ensures only { IfErr result (λ fault. fault ≡ OutOfMemory) }
@@ -56,9 +56,8 @@ pub fn recorded<
     rt: R,
     alloc: Global,
     pages: Pages,
-    capacity: usize,
+    capacity: NonZeroUsize,
 ) -> Result<(Sender<K, S, M, Q, N, R>, Receiver<K, S, M, Q, N, R>), Fault>
-    requires some { 0 < capacity }
     requires recorded { N.is_recorded ≡ true }
     requires puts { pages.puts.name ≡ N.puts }
     requires takes { pages.takes.name ≡ N.takes }

@@ -105,11 +105,7 @@ impl<
     /// Where memory is refused (`OutOfMemory`), nothing changes. It waits for the mailbox's lock.
     ///
     /// It takes time in proportion to the book for each share, and to copy the messages.
-    pub fn book(
-        &self,
-        alloc: Global,
-        shares: &[&Share<K, S, M, Q, N>],
-    ) -> Result<Vec<Entry<K, S, M, Q>>, Fault>
+    pub fn book(&self, shares: &[&Share<K, S, M, Q, N>]) -> Result<Vec<Entry<K, S, M, Q>>, Fault>
     where
         K: Exact,
         S: Exact,
@@ -126,7 +122,7 @@ impl<
         ensures only { IfErr result (λ fault. fault ≢ OutOfMemory → fault ≡ Uneven) }
     {
         let guard = self.shared.state.lock(&self.rt);
-        let book = guard.calls(alloc)?;
+        let book = guard.calls(self.alloc)?;
         drop(guard);
         agreed(book, self.taken.as_slice(), shares)
     }

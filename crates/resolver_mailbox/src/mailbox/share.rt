@@ -13,7 +13,7 @@ use resolver_base::{Faithful, Fault, Feedback};
 use resolver_desk::desk::Desk;
 use resolver_messages::{Message, Metadata};
 use resolver_types::Predicate;
-use std::alloc::{AllocError, Global};
+use std::alloc::Global;
 use std::hash::Hash;
 use std::marker::Model;
 use std::sync::ledger;
@@ -120,7 +120,7 @@ impl<
             Ok(copy) => copy,
             Err(failed) => {
                 drop(message);
-                return Err(Fault::from(failed));
+                return Err(failed);
             }
         };
         match desk.put(Some(self.handle), message) {
@@ -166,7 +166,7 @@ impl<
             Ok(puts) => puts,
             Err(failed) => {
                 drop(message);
-                return Err(Fault::from(failed));
+                return Err(failed);
             }
         };
         match desk.put(None, message) {
@@ -200,7 +200,8 @@ pub(super) fn ready_copy<
     alloc: Global,
     puts: &mut Vec<Message<K, S, M, Q>>,
     message: &Message<K, S, M, Q>,
-) -> Result<Message<K, S, M, Q>, AllocError>
+) -> Result<Message<K, S, M, Q>, Fault>
+    ensures only { IfErr result (λ fault. fault ≡ OutOfMemory) }
     ensures same { puts.new.items ≡ puts.old.items }
     ensures room { OnOk result (vec_len puts.new < vec_capacity puts.new) }
     ensures copy { IfOk result (λ copy. told_of copy ≡ told_of message.now) }
@@ -213,8 +214,9 @@ pub(super) fn ready_copy<
 fn first_copied<K: Faithful + Drop, S: Faithful + Drop, M: Metadata + Drop, Q: Faithful + Drop>(
     alloc: Global,
     message: &Message<K, S, M, Q>,
-) -> Result<Vec<Message<K, S, M, Q>>, AllocError>
-    ensures { IfOk result (λ puts. map told_of puts.items ≡ told_of message.now ∷ []) }
+) -> Result<Vec<Message<K, S, M, Q>>, Fault>
+    ensures only { IfErr result (λ fault. fault ≡ OutOfMemory) }
+    ensures list { IfOk result (λ puts. map told_of puts.items ≡ told_of message.now ∷ []) }
 {
     let mut puts = Vec::with_capacity(alloc, 1)?;
     match message.copy(alloc) {

@@ -25,7 +25,7 @@ pub trait Resolver: Clone + Send + 'static {
     type Key: Span;
 
     /// Who wants it.
-    type Subscriber: Eq;
+    type Subscriber: Clone + Ord;
 
     /// Which subscribers stay.
     type Predicate: Predicate<Self::Key, Self::Subscriber>;

@@ -176,7 +176,7 @@ impl Node {
 }
 
 /// A message that asks for a key.
-fn request(alloc: Global, id: u64, key: Height) -> Result<Bytes, AllocError> {
+fn request(alloc: Global, id: u64, key: Height) -> Result<Bytes, Fault> {
     let payload = Payload::Request(key);
     let mut out = BytesMut::new(alloc);
     Message { id, payload }.write(&mut out)?;

@@ -4,11 +4,13 @@ use bytes::Bytes;
 use futures::channel::{mpsc, oneshot};
 use futures::task::Poll;
 use futures::test::MockTask;
+use resolver::p2p::effects::Effect;
+use resolver::p2p::inputs::Input;
 use resolver::p2p::{Config, Engine, Loop, Mailbox};
 use resolver_base::{Faithful, Fault, Seeded};
 use resolver_mailbox::mailbox::Unrecorded;
 use resolver_mailbox::mocks::Key;
-use resolver_runtime::{Ending, Handle};
+use resolver_runtime::{Ending, Handle, Unwatched, Watcher};
 use resolver_types::{Outcome, Predicate};
 use std::alloc::{AllocGlobal, Global};
 use std::num::{NonZeroU32, NonZeroUsize};
@@ -75,8 +77,8 @@ pub type Made<Q, R> = Engine<
     R,
 >;
 
-/// Its loop.
-pub type Looping<Q, R> = Loop<
+/// Its loop, which a watcher is told of.
+pub type Looping<Q, R, T = Unwatched> = Loop<
     Peer,
     Given<(u64, Vec<Peer>)>,
     Given<Vec<Peer>>,
@@ -90,6 +92,7 @@ pub type Looping<Q, R> = Loop<
     Given<(Peer, Bytes)>,
     Standing,
     Dice,
+    T,
 >;
 
 /// A handle of its mailbox.
@@ -101,10 +104,11 @@ pub struct Looped<L> {
     looped: L,
 }
 
-impl<Q, R> Polled for Looped<Looping<Q, R>>
+impl<Q, R, T> Polled for Looped<Looping<Q, R, T>>
 where
     Q: Predicate<Key, u16> + Faithful + Drop,
     R: Wait + Copy + Drop,
+    T: Watcher<Input<Key, Peer, u16, Q>, Effect<Key, Peer, u16>> + Drop,
 {
     fn poll_once(&mut self, task: &MockTask) -> Poll<Ending> {
         task.poll(&mut self.looped)
@@ -414,6 +418,22 @@ pub fn into_loop<Q: Predicate<Key, u16> + Faithful + Drop, R: Copy>(
             Err(fault)
         }
     }
+}
+
+/// The loop of a world's engine, which tells a watcher.
+pub fn into_watched_loop<Q, R, T>(
+    engine: Made<Q, R>,
+    lent: Lent,
+    watcher: T,
+) -> Result<Looped<Looping<Q, R, T>>, Fault>
+where
+    Q: Predicate<Key, u16> + Faithful + Drop,
+    R: Copy,
+    T: Watcher<Input<Key, Peer, u16, Q>, Effect<Key, Peer, u16>> + Drop,
+{
+    let (network, clock, draws) = parts_of(lent)?;
+    let looped = engine.into_watched_loop(network, clock, draws, watcher)?;
+    Ok(Looped { looped })
 }
 
 /// A world's engine in a thread.

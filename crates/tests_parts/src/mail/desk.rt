@@ -8,8 +8,10 @@
 
 use crate::mail::messages::fetch;
 use crate::support::{Part, plays, print, unreadable, value};
+use resolver_base::Fault;
 use resolver_mailbox::mailbox::Desk;
-use std::alloc::{AllocError, Global};
+use std::alloc::Global;
+use std::num::NonZeroUsize;
 use std::panic::Expect;
 use std::process::Abort;
 use tests_support::names::{All, Letter};
@@ -45,7 +47,7 @@ impl<R: Abort> Said<R> for Part<'_, Counter> {
 }
 
 /// Plays a case of a desk that was made.
-fn play_on(rt: &impl Abort, alloc: Global, made: Result<Counter, AllocError>, case: &str) {
+fn play_on(rt: &impl Abort, alloc: Global, made: Result<Counter, Fault>, case: &str) {
     let mut desk = made.expect(rt, "memory");
     plays(rt, alloc, &mut Part(&mut desk), case);
     drop(desk);
@@ -73,7 +75,12 @@ put 3 30 5
 > (Closed, Some(0))
 calls
 > [Put(Posted { handle: 0, place: 0, message: Fetch([FetchKey { key: Letter(1), subscribers: NonEmptyVec { items: [(10, 7)] }, metadata: () }]), is_ok: true }), Put(Posted { handle: 0, place: 1, message: Fetch([FetchKey { key: Letter(2), subscribers: NonEmptyVec { items: [(20, 8)] }, metadata: () }]), is_ok: false }), Put(Posted { handle: 1, place: 0, message: Fetch([FetchKey { key: Letter(2), subscribers: NonEmptyVec { items: [(21, 9)] }, metadata: () }]), is_ok: false }), Take(Fetch([FetchKey { key: Letter(1), subscribers: NonEmptyVec { items: [(10, 7)] }, metadata: () }])), Take(Fetch([FetchKey { key: Letter(2), subscribers: NonEmptyVec { items: [(20, 8), (21, 9)] }, metadata: () }])), Close]";
-    play_on(&rt, rt.alloc(), Desk::recorded(rt.alloc(), 1), CASE);
+    play_on(
+        &rt,
+        rt.alloc(),
+        Desk::recorded(rt.alloc(), NonZeroUsize::MIN),
+        CASE,
+    );
 }
 
 #[test]
@@ -97,5 +104,10 @@ put-first 3 30 5
 > (Closed, None)
 calls
 > []";
-    play_on(&rt, rt.alloc(), Desk::new(rt.alloc(), 1), CASE);
+    play_on(
+        &rt,
+        rt.alloc(),
+        Desk::new(rt.alloc(), NonZeroUsize::MIN),
+        CASE,
+    );
 }

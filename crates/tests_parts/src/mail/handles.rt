@@ -9,7 +9,7 @@
 ghost use Rattle.std.specs.Prelude.{◌≡◌, true};
 
 use crate::mail::messages::{equal_pieces, shown};
-use crate::support::{list, next, plays, print, unreadable, value};
+use crate::support::{list, next, plays, print, size, unreadable, value};
 use futures::task::Poll;
 use futures::test::MockTask;
 use resolver_base::Fault;
@@ -352,7 +352,7 @@ where
     requires takes { pages.takes.name ≡ N.takes }
 {
     let alloc = *text.allocator();
-    let made = recorded::<Letter, u16, (), All, N, R>(rt, alloc, pages, 10);
+    let made = recorded::<Letter, u16, (), All, N, R>(rt, alloc, pages, size(&rt, 10));
     use_source(&rt, text, task, made);
 }
 
@@ -365,7 +365,7 @@ where
     requires takes { pages.takes.name ≡ N.takes }
 {
     let alloc = *text.allocator();
-    let made = recorded::<Letter, u16, Targets, All, N, R>(rt, alloc, pages, 10);
+    let made = recorded::<Letter, u16, Targets, All, N, R>(rt, alloc, pages, size(&rt, 10));
     use_engine(&rt, text, task, made);
 }
 
@@ -414,9 +414,9 @@ fn what_an_engine_is_asked_stands_in_the_share(rt: HostRuntime) {
 fn what_is_asked_is_taken(rt: HostRuntime) {
     let (alloc, task) = (rt.alloc(), MockTask::new(&rt).expect(&rt, "a task"));
     let mut text = String::new(alloc);
-    use_source(&rt, &mut text, &task, new(rt, alloc, 10));
+    use_source(&rt, &mut text, &task, new(rt, alloc, size(&rt, 10)));
     is_sight(&rt, &text, PUT);
     text.clear();
-    use_engine(&rt, &mut text, &task, new(rt, alloc, 10));
+    use_engine(&rt, &mut text, &task, new(rt, alloc, size(&rt, 10)));
     is_sight(&rt, &text, PUT_TARGETED);
 }

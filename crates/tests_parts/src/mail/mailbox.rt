@@ -10,12 +10,13 @@
 ghost use Rattle.std.specs.Prelude.{◌≡◌, ◌<◌, true};
 
 use crate::mail::messages::{fetch, shown};
-use crate::support::{next, plays_parts, print, unreadable, value};
+use crate::support::{next, plays_parts, print, size, unreadable, value};
 use futures::test::MockTask;
 use resolver_base::Fault;
 use resolver_mailbox::mailbox::{Naming, Pages, Receiver, Sender, Share, new, recorded};
 use std::alloc::{AllocGlobal, Global};
 use std::marker::Brand;
+use std::num::NonZeroUsize;
 use std::panic::Expect;
 use std::process::Abort;
 use std::random::RandomSource;
@@ -66,7 +67,7 @@ fn print_book<N: Naming, R: Wait>(
 ) {
     let alloc = *printed.allocator();
     let shares = shares_of(rt, alloc, handles);
-    let book = receiver.book(alloc, shares.as_slice()).expect(rt, "a book");
+    let book = receiver.book(shares.as_slice()).expect(rt, "a book");
     print(rt, printed, book);
 }
 
@@ -165,13 +166,12 @@ fn recorded_play<N, R>(
     alloc: Global,
     pages: Pages,
     task: &MockTask,
-    capacity: usize,
+    capacity: NonZeroUsize,
     parts: &[&str],
 )
 where
     N: Naming,
     R: Abort + Wait + Copy + Drop,
-    requires some { 0 < capacity }
     requires recorded { N.is_recorded ≡ true }
     requires puts { pages.puts.name ≡ N.puts }
     requires takes { pages.takes.name ≡ N.takes }
@@ -275,20 +275,18 @@ poll
 > Ready(None)";
 
 /// Ends the test where a recorded mailbox of this capacity answers something else.
-fn recorded_answers<R>(rt: R, alloc: Global, capacity: usize, parts: &[&str])
+fn recorded_answers<R>(rt: R, alloc: Global, capacity: NonZeroUsize, parts: &[&str])
 where
     R: Abort + Wait + RandomSource + AllocGlobal + Copy + Drop,
-    requires some { 0 < capacity }
 {
     let task = MockTask::new(&rt).expect(&rt, "a task");
     recorded_play::<Brand, _>(rt, alloc, Pages::new(), &task, capacity, parts);
 }
 
 /// The same of a mailbox that isn't recorded.
-fn answers<R>(rt: R, alloc: Global, capacity: usize, parts: &[&str])
+fn answers<R>(rt: R, alloc: Global, capacity: NonZeroUsize, parts: &[&str])
 where
     R: Abort + Wait + RandomSource + AllocGlobal + Copy + Drop,
-    requires some { 0 < capacity }
 {
     let task = MockTask::new(&rt).expect(&rt, "a task");
     play_in(&rt, alloc, &task, new(rt, alloc, capacity), parts);
@@ -296,25 +294,25 @@ where
 
 #[test]
 fn mailbox_book(rt: HostRuntime) {
-    recorded_answers(rt, rt.alloc(), 1, &[ROW, SHARES, BOOKS]);
+    recorded_answers(rt, rt.alloc(), NonZeroUsize::MIN, &[ROW, SHARES, BOOKS]);
 }
 
 #[test]
 fn mailbox_book_not_recorded(rt: HostRuntime) {
-    answers(rt, rt.alloc(), 1, &[ROW, BARE]);
+    answers(rt, rt.alloc(), NonZeroUsize::MIN, &[ROW, BARE]);
 }
 
 #[test]
 fn what_waits_is_given_after_the_close(rt: HostRuntime) {
-    recorded_answers(rt, rt.alloc(), 2, &[SHUT]);
+    recorded_answers(rt, rt.alloc(), size(&rt, 2), &[SHUT]);
 }
 
 #[test]
 fn what_waits_is_given_after_the_close_not_recorded(rt: HostRuntime) {
-    answers(rt, rt.alloc(), 2, &[SHUT]);
+    answers(rt, rt.alloc(), size(&rt, 2), &[SHUT]);
 }
 
 #[test]
 fn a_put_and_a_close_wake_the_receiver(rt: HostRuntime) {
-    answers(rt, rt.alloc(), 1, &[WOKEN]);
+    answers(rt, rt.alloc(), NonZeroUsize::MIN, &[WOKEN]);
 }

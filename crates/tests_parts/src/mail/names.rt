@@ -12,6 +12,7 @@ use resolver_types::NonEmptyVec;
 use std::alloc::Global;
 use std::hash::Hash;
 use std::marker::Brand;
+use std::num::NonZeroUsize;
 use std::panic::Expect;
 use std::process::Abort;
 use std::sync::Wait;
@@ -102,7 +103,6 @@ where
 /// The book for the handle's share.
 fn book_of<K, S, N, R>(
     rt: &impl Abort,
-    alloc: Global,
     handle: &Handle<K, S, N, R>,
     receiver: &Mail<K, S, N, R>,
 ) -> Book<K, S>
@@ -113,7 +113,7 @@ where
     R: Wait,
 {
     let share = handle.share().expect(rt, "a share");
-    receiver.book(alloc, &[share]).expect(rt, "a book")
+    receiver.book(&[share]).expect(rt, "a book")
 }
 
 /// The book of a recorded mailbox of capacity 1 that this message and the test are put in.
@@ -127,10 +127,10 @@ where
     requires puts { pages.puts.name ≡ N.puts }
     requires takes { pages.takes.name ≡ N.takes }
 {
-    let made = recorded::<K, S, (), Kept<Everyone>, N, R>(rt, alloc, pages, 1);
+    let made = recorded::<K, S, (), Kept<Everyone>, N, R>(rt, alloc, pages, NonZeroUsize::MIN);
     let (mut handle, receiver) = made.expect(&rt, "a mailbox");
     put_both(&rt, &mut handle, message);
-    let book = book_of(&rt, alloc, &handle, &receiver);
+    let book = book_of(&rt, &handle, &receiver);
     drop(handle);
     drop(receiver);
     book

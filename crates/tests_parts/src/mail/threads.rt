@@ -4,7 +4,7 @@ ghost use Rattle.std.specs.Prelude.{◌≡◌, ◌<◌, true};
 
 use crate::mail::mailbox::{Handle, shares_of};
 use crate::mail::messages::{Told, fetch};
-use crate::support::{equal, equal_texts, holds, next, print};
+use crate::support::{equal, equal_texts, holds, next, print, size};
 use futures::task::Poll;
 use futures::test::MockTask;
 use resolver_base::{Fault, Feedback};
@@ -12,6 +12,7 @@ use resolver_mailbox::mailbox::{Entry, Naming, Pages, Receiver, recorded};
 use resolver_messages::Message;
 use std::alloc::{AllocGlobal, Global};
 use std::marker::Brand;
+use std::num::NonZeroUsize;
 use std::panic::Expect;
 use std::process::Abort;
 use std::random::RandomSource;
@@ -258,7 +259,7 @@ fn find<N: Naming, R: Wait>(
     tally: Tally,
 ) -> Found {
     let shares = shares_of(rt, alloc, handles);
-    let book = receiver.book(alloc, shares.as_slice()).expect(rt, "a book");
+    let book = receiver.book(shares.as_slice()).expect(rt, "a book");
     let (booked, after, closes) = counts_of(book.as_slice());
     drop(book);
     Found {
@@ -273,8 +274,7 @@ fn find<N: Naming, R: Wait>(
 /// How a mailbox is used.
 #[derive(Clone, Copy)]
 struct Use {
-    capacity: usize,
-    ghost some: { 0 < capacity },
+    capacity: NonZeroUsize,
     /// How often it is polled while the threads run.
     polls: u64,
     /// Whether it is closed once they are over.
@@ -386,7 +386,7 @@ fn the_book_holds_what_four_threads_put(rt: HostRuntime) {
     let mut text = String::new(rt.alloc());
     let jobs = [keys(250, 1), keys(250, 2), keys(250, 3), keys(250, 4)];
     let how = Use {
-        capacity: 8,
+        capacity: size(&rt, 8),
         polls: 500,
         closes: false,
     };
@@ -407,7 +407,7 @@ fn closing_after(place: usize) -> [Job; 4] {
 #[test]
 fn closing(rt: HostRuntime) {
     let how = Use {
-        capacity: 1,
+        capacity: NonZeroUsize::MIN,
         polls: 0,
         closes: false,
     };
@@ -435,7 +435,7 @@ fn full_desk(rt: HostRuntime) {
     let mut text = String::new(rt.alloc());
     let jobs = [five_hundred(0), five_hundred(500)];
     let how = Use {
-        capacity: 1,
+        capacity: NonZeroUsize::MIN,
         polls: 0,
         closes: true,
     };

@@ -8,13 +8,16 @@ use futures::test::MockTask;
 use resolver_base::Feedback;
 use resolver_mailbox::mailbox::Unrecorded;
 use resolver_mailbox::mocks::Key;
+use resolver_opaque_actor::{Effect, Event, Input};
 use resolver_opaque_loop::{Fetcher, Loop};
-use resolver_runtime::{Ending, Resolver};
+use resolver_runtime::{Ending, Resolver, Watcher};
 use resolver_types::{Outcome, Resolution};
 use std::alloc::Global;
+use std::marker::PhantomData;
 use std::panic::Expect;
 use std::process::Abort;
 use std::sync::{Arc, Mutex, Wait};
+use tests_support::kinds::{EffectKind, InputKind};
 use tests_support::lent::{Judge, make_judge};
 use tests_support::names::{Below, Peer, wanted};
 use tests_support::polling::Polled;
@@ -50,7 +53,7 @@ impl Future for Look {
 /// A source that hands each look to its test.
 pub struct Source {
     alloc: Global,
-    told: Told,
+    pub told: Told,
     looks: mpsc::UnboundedSender<Looked>,
 }
 
@@ -146,10 +149,58 @@ pub trait Pollable: Future<Output = Ending> {
 }
 
 /// The loop of an actor over a source.
-type Lending<R> = Loop<Key, Bytes, u16, Below, R, Telling, Source, Judge>;
+type Lending<R, T> = Loop<Key, Bytes, u16, Below, R, Telling, Source, Judge, T>;
 
-impl<R: Wait + Copy + Drop> Pollable for Lending<R> {
+impl<R: Wait + Copy + Drop, T: Watcher<Taken, Done> + Drop> Pollable for Lending<R, T> {
     ghost pollable = { λ state. tt };
+}
+
+/// What the actor takes.
+type Taken = Input<Key, Bytes, u16, Below>;
+
+/// What it wants done.
+type Done = Effect<Key, Bytes, u16>;
+
+/// Tells of each call, in the same words as the fakes do. It names what it is told of, since the borrow checker
+/// knows the types that values have.
+#[derive(Drop)]
+pub struct Watching {
+    told: Told,
+    of: PhantomData<(Taken, Done)>,
+}
+
+impl Watching {
+    /// Tells whom the fakes tell.
+    pub fn new(told: Told) -> Watching {
+        Watching {
+            told,
+            of: PhantomData,
+        }
+    }
+}
+
+impl Watcher<Taken, Done> for Watching {
+    fn takes(&mut self, input: &Taken) {
+        let kind = match &input.event {
+            Event::Fetch(_) => InputKind::Fetch,
+            Event::Retain(_) => InputKind::Retain,
+            Event::Fetched { .. } => InputKind::Fetched,
+            Event::Verdict { .. } => InputKind::Verdict,
+            Event::RetriesDue => InputKind::Wake,
+            Event::End => InputKind::End,
+        };
+        tell(&self.told, Seen::Took(kind, Some(input.now)));
+    }
+
+    fn wants(&mut self, effect: &Done) {
+        let kind = match effect {
+            Effect::Start { .. } => EffectKind::Start,
+            Effect::Abort { .. } => EffectKind::Abort,
+            Effect::Deliver { .. } => EffectKind::Deliver,
+            Effect::Cancel { .. } => EffectKind::Cancel,
+        };
+        tell(&self.told, Seen::Wanted(kind));
+    }
 }
 
 /// A loop, as a test knows it, which polls it by hand.

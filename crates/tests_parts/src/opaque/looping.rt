@@ -1,17 +1,20 @@
 //! An actor's loop that is polled by hand.
 
-use crate::opaque::lent::{Asking, Ends, Held, Lent, Looped, Pollable, lend};
+ghost use Rattle.std.specs.Prelude.{◌≡◌};
+
+use crate::opaque::lent::{Asking, Ends, Held, Lent, Looped, Pollable, Source, Watching, lend};
 use crate::support::equal_texts;
 use futures::channel::oneshot;
 use futures::test::MockTask;
 use resolver_base::Fault;
-use resolver_opaque_loop::open;
+use resolver_opaque_loop::{Config, open, open_watched};
 use std::alloc::AllocGlobal;
 use std::num::NonZeroUsize;
 use std::panic::Expect;
 use std::process::Abort;
 use std::random::RandomSource;
 use std::sync::Wait;
+use tests_support::lent::Judge;
 use tests_support::polling::{Polled, turn};
 use tests_support::seen::{Wrong, spell_feedback, spell_said};
 
@@ -30,8 +33,8 @@ enum Act {
     Complete,
     /// The subscribers from this one on are let go.
     LetGoFrom(u16),
-    /// The same, and the loop is polled, and then it is told whether the look that had begun is given up.
-    LetGoOfLook(u16),
+    /// It is told whether the first look that has no answer is given up.
+    IsGivenUp,
     /// It is told whether the verdict on what was delivered last is called off.
     IsCanceled,
     Close,
@@ -56,7 +59,9 @@ const EVERY: &[Act] = &[
     Act::Turn,
     Act::Want(1, 11),
     Act::Turn,
-    Act::LetGoOfLook(11),
+    Act::LetGoFrom(11),
+    Act::Turn,
+    Act::IsGivenUp,
     Act::Want(1, 12),
     Act::Turn,
     Act::Answer(Some(b"ok")),
@@ -100,21 +105,6 @@ fn is_given_up<T: Drop>(answer: Option<oneshot::Sender<T>>) -> bool {
     }
 }
 
-/// The subscribers from this one on are let go while a look has begun. Writes whether that is given up.
-fn let_go_of_look<A: Asking, L: Polled>(
-    rt: &impl Abort,
-    text: &mut String,
-    task: &MockTask,
-    looped: &mut L,
-    ends: &mut Ends<A>,
-    subscriber: u16,
-) {
-    let look = ends.held.looks.try_recv().ok();
-    ends.resolver.let_go_from(rt, subscriber);
-    turn(text, task, looped, &mut ends.held.told).expect(rt, "memory");
-    spell_said(text, "given up", is_given_up(look)).expect(rt, "memory");
-}
-
 fn step<A: Asking, L: Polled>(
     rt: &impl Abort,
     text: &mut String,
@@ -133,7 +123,10 @@ fn step<A: Asking, L: Polled>(
         Act::At(now) => ends.held.watch.put(now),
         Act::Complete => ends.held.complete(),
         Act::LetGoFrom(subscriber) => ends.resolver.let_go_from(rt, subscriber),
-        Act::LetGoOfLook(subscriber) => let_go_of_look(rt, text, task, looped, ends, subscriber),
+        Act::IsGivenUp => {
+            let look = ends.held.looks.try_recv().ok();
+            spell_said(text, "given up", is_given_up(look)).expect(rt, "memory");
+        }
         Act::IsCanceled => {
             let verdict = ends.held.verdicts.try_recv().ok();
             spell_said(text, "canceled", is_given_up(verdict)).expect(rt, "memory");
@@ -174,6 +167,18 @@ where
     sees_in(rt, wrong, NonZeroUsize::MIN, acts, seen);
 }
 
+/// An actor over this source, with a delay of 100.
+fn made_of(source: Source, consumer: Judge, size: NonZeroUsize) -> Config<Source, Judge>
+    ensures { result.fetch_retry_delay ≡ 100 }
+{
+    Config {
+        fetcher: source,
+        consumer,
+        mailbox_size: size,
+        fetch_retry_delay: 100,
+    }
+}
+
 /// The same with a mailbox of this size.
 fn sees_in<R>(rt: R, wrong: Wrong, size: NonZeroUsize, acts: &[Act], seen: &str)
 where
@@ -186,7 +191,7 @@ where
         source,
         consumer,
     } = lent;
-    let opened = open(rt, alloc, clock, source, consumer, size, 100);
+    let opened = open(rt, alloc, clock, made_of(source, consumer, size));
     let text = written(&rt, opened, held, acts);
     equal_texts(&rt, text.as_str(), seen);
 }
@@ -194,6 +199,113 @@ where
 #[test]
 fn every_input_every_effect_of_the_actor(rt: HostRuntime) {
     sees(rt, Wrong::Nothing, EVERY, SEEN);
+}
+
+/// The same, with what a watcher is told: each input before what source and consumer are asked for it, and each effect
+/// right before it is carried out. What is given up or called off is still answered, by nothing.
+const TOLD: &str = "told fetch at 0
+told of a start
+look 1
+-
+told fetched at 0
+-
+-
+told wake at 100
+told of a start
+look 1
+-
+told fetched at 100
+told of a delivery
+deliver 1 to 10:110 x6869
+-
+told verdict at 100
+-
+told fetch at 100
+told of a start
+look 1
+-
+told retain at 100
+told of an abort
+told fetched at 100
+-
+given up true
+told fetch at 100
+told of a start
+look 1
+-
+told fetched at 100
+told of a delivery
+deliver 1 to 12:112 x6f6b
+-
+told retain at 100
+told of a cancel
+told verdict at 100
+-
+canceled true
+told stop at 100
+complete
+";
+
+/// That this is what is seen where these are done to an actor that tells a watcher.
+fn is_told<R>(rt: R, acts: &[Act], seen: &str)
+where
+    R: Abort + Wait + RandomSource + AllocGlobal + Copy + Drop + Send + 'static,
+{
+    let alloc = rt.alloc();
+    let (held, lent) = lend(&rt, alloc, Wrong::Nothing);
+    let Lent {
+        clock,
+        source,
+        consumer,
+    } = lent;
+    let told = source.told.clone().expect(&rt, "memory");
+    let cfg = made_of(source, consumer, NonZeroUsize::MIN);
+    let opened = open_watched(rt, alloc, clock, cfg, Watching::new(told));
+    let text = written(&rt, opened, held, acts);
+    equal_texts(&rt, text.as_str(), seen);
+}
+
+#[test]
+fn a_watcher_of_the_actor_is_told_every_input_and_every_effect(rt: HostRuntime) {
+    is_told(rt, EVERY, TOLD);
+}
+
+/// Two keys are asked for again by the same step.
+#[test]
+fn a_watcher_of_the_actor_is_told_of_each_effect_right_before_it_is_carried_out(rt: HostRuntime) {
+    const ACTS: &[Act] = &[
+        Act::Want(1, 10),
+        Act::Turn,
+        Act::Want(2, 10),
+        Act::Turn,
+        Act::Answer(None),
+        Act::Answer(None),
+        Act::Turn,
+        Act::At(100),
+        Act::Turn,
+    ];
+    is_told(
+        rt,
+        ACTS,
+        "told fetch at 0
+told of a start
+look 1
+-
+told fetch at 0
+told of a start
+look 2
+-
+told fetched at 0
+told fetched at 0
+-
+told wake at 100
+told of a start
+look 1
+told of a start
+look 2
+-
+",
+    );
 }
 
 /// What was put before the close is still taken, and looked for.
@@ -214,6 +326,24 @@ fn the_mailbox_of_an_actor_is_closed_and_nothing_waits(rt: HostRuntime) {
 fn the_end_of_the_actor_calls_a_delivery_off(rt: HostRuntime) {
     const ACTS: &[Act] = &[Act::Close, Act::Turn, Act::IsCanceled];
     sees_judged(rt, ACTS, "complete\ncanceled true\n");
+}
+
+/// Nobody polls a loop that is over, so a look that has no answer by then is dropped with the last poll.
+#[test]
+fn the_end_of_the_actor_drops_a_look(rt: HostRuntime) {
+    const ACTS: &[Act] = &[
+        Act::Want(1, 10),
+        Act::Turn,
+        Act::Close,
+        Act::Turn,
+        Act::IsGivenUp,
+    ];
+    sees(
+        rt,
+        Wrong::Nothing,
+        ACTS,
+        "look 1\n-\ncomplete\ngiven up true\n",
+    );
 }
 
 #[test]

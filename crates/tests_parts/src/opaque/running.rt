@@ -4,7 +4,7 @@ use crate::opaque::lent::{Asking, Gated, Held, Lent, Looked, answer_look, lend};
 use crate::support::{equal, equal_texts};
 use futures::channel::mpsc;
 use resolver_base::Fault;
-use resolver_opaque_loop::init;
+use resolver_opaque_loop::{Config, init};
 use std::alloc::AllocGlobal;
 use std::fmt::Write;
 use std::num::NonZeroUsize;
@@ -68,7 +68,13 @@ where
         source,
         consumer,
     } = lent;
-    let begun = init(rt, alloc, clock, source, consumer, NonZeroUsize::MIN, 100);
+    let cfg = Config {
+        fetcher: source,
+        consumer,
+        mailbox_size: NonZeroUsize::MIN,
+        fetch_retry_delay: 100,
+    };
+    let begun = init(rt, alloc, clock, cfg);
     let (mut resolver, handle) = begun.expect(&rt, "an actor");
     drop(resolver.want(&rt, 1, 10));
     let text = retry(&rt, &mut held);
@@ -140,7 +146,13 @@ where
     } = lent;
     let source = Gated::new(rt, source, other);
     let locked = gate.lock(&rt);
-    let begun = init(rt, alloc, clock, source, consumer, size, 100);
+    let cfg = Config {
+        fetcher: source,
+        consumer,
+        mailbox_size: size,
+        fetch_retry_delay: 100,
+    };
+    let begun = init(rt, alloc, clock, cfg);
     let (mut resolver, handle) = begun.expect(&rt, "an actor");
     drop(resolver.want(&rt, 1, 10));
     let text = fetch_three(&rt, &mut held, &mut resolver);

@@ -54,7 +54,7 @@ returns-clause-ok g c =
     let stands : position (is_at (g.K.Ord.cmp c.args.item.key)) (keys_of_items c.args.batch.now.items) ≡ Some c.in-Some.place =
     found-key g.K.Ord.cmp c.args.places.now (keys_of_items c.args.batch.now.items) c.args.item.key c.in-Some.place c.requires.placed found in
     let put : c.replace-was.new.dest ≡ c.in_ok-both.both = search rules in
-    rw put (queued-present (names g.K.Ord.cmp g.S.Ord.cmp) g.M.Metadata.merged c.args.batch.now.items (item_of c.args.item) c.in-Some.place c.index.result.now c.in_ok-both.both stands c.index.ensures c.in_ok-both.ensures)
+    rw put (queued-present (names g.K.Ord.cmp g.S.Ord.cmp) g.M.Metadata.merged c.args.batch.now.items (item_of c.args.item) c.in-Some.place c.index.result.now c.in_ok-both.both stands c.index.ensures c.in_ok-both.ensures.both)
 
 pub returns-clause-undone : goal.returns-clause-undone
 returns-clause-undone g c =
@@ -64,10 +64,10 @@ returns-clause-undone g c =
 pub returns-clause-placed : goal.returns-clause-placed
 returns-clause-placed g c =
     let put : c.replace-was.new.dest ≡ c.in_ok-both.both = search rules in
-    rw (put, keys-present c.args.batch.now.items c.in-Some.place c.index.result.now c.in_ok-both.both c.index.ensures (ap (λ item. item.key) c.in_ok-both.ensures)) c.requires.placed
+    rw (put, keys-present c.args.batch.now.items c.in-Some.place c.index.result.now c.in_ok-both.both c.index.ensures (ap (λ item. item.key) c.in_ok-both.ensures.both)) c.requires.placed
 
 pub returns-clause-grows : goal.returns-clause-grows
 returns-clause-grows g c =
     let put : c.replace-was.new.dest ≡ c.in_ok-both.both = search rules in
     rw put (grows-none g.K.Ord.cmp (keys_of_items c.args.batch.now.items) _ c.args.places.now
-    (keys-present c.args.batch.now.items c.in-Some.place c.index.result.now c.in_ok-both.both c.index.ensures (ap (λ item. item.key) c.in_ok-both.ensures)))
+    (keys-present c.args.batch.now.items c.in-Some.place c.index.result.now c.in_ok-both.both c.index.ensures (ap (λ item. item.key) c.in_ok-both.ensures.both)))

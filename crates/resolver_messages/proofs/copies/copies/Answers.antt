@@ -17,4 +17,4 @@ one-more items before after i item copy less is same put so-far =
 
 pub loop-item-preserved : goal.loop-item-preserved
 loop-item-preserved g c = one-more c.args.items.now c.loop-item.copies.items c.push.new.self.items c.loop-item.item-index c.item-item.result c.in_ok-copy.field-0
-    c.loop-item-test.true c.item-item.is c.in_ok-copy.ensures c.in_ok-push.ensures.items c.loop-item.invariant
+    c.loop-item-test.true c.item-item.is c.in_ok-copy.ensures.same c.in_ok-push.ensures.items c.loop-item.invariant

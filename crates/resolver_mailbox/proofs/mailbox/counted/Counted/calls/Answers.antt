@@ -9,5 +9,5 @@ pub returns-clause-legal : goal.returns-clause-legal
 returns-clause-legal g c recorded =
     let n = names g.K.Ord.cmp g.S.Ord.cmp in
     let was = c.args.self.now in
-    copied-book n g.Q.Predicate.keeps (λ calls. map call_of calls.items) c.copied.result (map call_of c.calls.result.now) (calls_of was.desk) c.copied.ensures c.calls.ensures
+    copied-book n g.Q.Predicate.keeps (λ calls. map call_of calls.items) c.copied.result (map call_of c.calls.result.now) (calls_of was.desk) c.copied.ensures.same c.calls.ensures
     (kept-book n g.Q.Predicate.keeps was.desk (was.recorded ∙ recorded) c.law.ensures)

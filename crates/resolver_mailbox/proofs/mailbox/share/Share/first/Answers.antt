@@ -37,7 +37,7 @@ returns-in-Ok-default-Some-clause-share g c =
     let number = first-number c.args.desk.now c.in-Ok-default-Some.field-0-1 c.requires.unclosed c.requires.recorded (ap (λ answer. answer.1) c.in-Ok-default-Some.ensures.answer) in
     let is = c.in-Ok-default-Some.field-0-1-is in
     let handle : c.in-Ok-default-Some.handle ≡ numbered c.args.desk.now = cc in
-    λ i. record { handle = handle i; puts = c.in-Ok.ensures i; is_closed = false }
+    λ i. record { handle = handle i; puts = c.in-Ok.ensures.list i; is_closed = false }
 
 pub returns-in-Ok-default-Some-clause-desk : goal.returns-in-Ok-default-Some-clause-desk
 returns-in-Ok-default-Some-clause-desk g c = c.in-Ok-default-Some.ensures.ok
@@ -47,7 +47,7 @@ put-requires g c = record { keys_clone = g.met.K.Faithful.clones; subscribers_cl
 
 pub invariant_of-share : goal.invariant_of-share
 invariant_of-share g c =
-    let one : length (map told_of c.in-Ok.puts.items) ≡ 1 = ap length c.in-Ok.ensures in
+    let one : length (map told_of c.in-Ok.puts.items) ≡ 1 = ap length c.in-Ok.ensures.list in
     let kept : length c.in-Ok.puts.items ≡ vec_len c.in-Ok.puts = search rules in
     let parts : c.add.new.share.parts ≡ 1 = c.add.ensures.parts ∙ c.split_off-part.ensures.parts in
     let amount : c.add.new.share.amount ≡ 1 = c.add.ensures.amount ∙ ap (λ (n : ℕ). n + 1) c.split_off-part.ensures.amount in
@@ -68,4 +68,4 @@ returns-in-Err-put g c =
 
 pub returns-in-Err : goal.returns-in-Err
 returns-in-Err g c =
-    record { feedback = tt; share = tt; desk = tt; total = tt; spare = tt; unused = c.requires.unused; err_desk = refl; err_total = refl; err_spare = refl; only = λ other. absurd (other c.from.ensures) }
+    record { feedback = tt; share = tt; desk = tt; total = tt; spare = tt; unused = c.requires.unused; err_desk = refl; err_total = refl; err_spare = refl; only = λ other. absurd (other c.in-Err.ensures.only) }
