@@ -28,6 +28,7 @@ use Rattle.resolver_fetch_scan.specs.Orders.{Orders, same_key, same_peer}
 use Rattle.resolver_fetch.specs.Progress.{ExpectsLeft, Fits, IsAnswerable, IsSound, IsSoundWith, IsTrying, Keeps, answers_left, answers_with, is_left, pairs_left, stage}
 use Rattle.resolver_sampling.specs.Scores.{weight_of}
 use Rattle.resolver_fetch_scan.specs.Snapshot.{Snapshot}
+use Rattle.resolver_fetch_scan.specs.Scan as scans
 use Rattle.resolver_fetch_scan.specs.Scan.{Scan, Turn, answered, asks_for, by_place, by_weight, can_be_tried, clears, draws, fails, goes_on, goes_on_with, is_due, left, next, question_for, question_of, takes_for, weights}
 use Rattle.resolver_fetch_scan.specs.Waiting.{Waiting}
 use Rattle.resolver_fetch_scan.proofs.ChoosesBelow.{chooses_below}
@@ -215,6 +216,34 @@ module _ {K P : Type 0} (o : Orders K P) (by_key : IsTotalOrder o.key) (by_peer 
         let scan : Scan K P = record { moment = now; trail = []; expects = None } in
         (good-goes scan (pairs scan + 6) (omega arith)).0
 
+module _ {K P : Type 0} (o : Orders K P) (s : Snapshot K P) where
+  least-weight : (averages : Averages) → 0 < weight_of averages
+  least-weight Unobserved = lit< tt
+  least-weight (Observed bytes elapsed) = omega arith
+
+  weights-positive : (ps : List (P × Averages)) → 0 < length ps → 0 < sum (weights ps)
+  weights-positive [] some = absurd (omega (arith, some))
+  weights-positive (p ∷ ps) some = omega (arith, least-weight p.1, sum_by-cons (λ x. x) (weight_of p.1) (weights ps))
+
+  answerable-for : (scan : Scan K P) (w : K × Waiting P) (e : Expected P) → 0 < length (left o s scan.trail w) → IsAnswerable (question_for o s scan w e)
+  answerable-for scan w Mode some = omega arith
+  answerable-for scan w ByWeight some = weights-positive (left o s scan.trail w) some
+  answerable-for scan w ByPlace some = some
+  answerable-for scan w (Checking peer) some = tt
+  answerable-for scan w (FirstId peer) some = lit< tt
+  answerable-for scan w (Sending peer id) some = tt
+
+  -- what a scan asks can be answered
+  pub question-answerable : (scan : Scan K P) (ask : Ask K P) → scans.question o s scan ≡ Some ask → IsAnswerable ask
+  question-answerable scan ask asked = found (next o s scan) scan.expects refl asked where
+    found : (at : Option (K × Waiting P)) (e : Option (Expected P)) → next o s scan ≡ at → question_of o s scan at e ≡ Some ask → IsAnswerable ask
+    found None e is asked = cc
+    found (Some w) None is asked = cc
+    found (Some w) (Some e) is asked =
+        let passes : can_be_tried o s scan w ≡ true = found-passes (can_be_tried o s scan) s.waiting w is in
+        let some : 0 < length (left o s scan.trail w) = ltb-true 0 _ (and-second (is_due scan.moment w) _ passes) in
+        subst IsAnswerable (some-same _ ask asked) (answerable-for scan w e some)
+
 module _ {K P : Type 0} (o : Orders K P) (f : Fetcher K P) where
   -- a scan that asks nothing is over
   pub asks-nothing : IsSound o f → question o f ≡ None → f.scan ≡ None
@@ -228,37 +257,12 @@ module _ {K P : Type 0} (o : Orders K P) (f : Fetcher K P) where
     with None sound none = refl
     with (Some scan) sound none = for scan (next o (snapshot o f) scan) scan.expects sound none
 
-  -- what is asked can be answered
   module _ (ask : Ask K P) (asked : question o f ≡ Some ask) where
-    least-weight : (averages : Averages) → 0 < weight_of averages
-    least-weight Unobserved = lit< tt
-    least-weight (Observed bytes elapsed) = omega arith
-
-    weights-positive : (ps : List (P × Averages)) → 0 < length ps → 0 < sum (weights ps)
-    weights-positive [] some = absurd (omega (arith, some))
-    weights-positive (p ∷ ps) some = omega (arith, least-weight p.1, sum_by-cons (λ x. x) (weight_of p.1) (weights ps))
-
     pub is-answerable : IsAnswerable ask
     is-answerable = with f.scan asked where
-      for : (scan : Scan K P) (w : K × Waiting P) (e : Expected P) → 0 < length (left o (snapshot o f) scan.trail w) → IsAnswerable (question_for o (snapshot o f) scan w e)
-      for scan w Mode some = omega arith
-      for scan w ByWeight some = weights-positive (left o (snapshot o f) scan.trail w) some
-      for scan w ByPlace some = some
-      for scan w (Checking peer) some = tt
-      for scan w (FirstId peer) some = lit< tt
-      for scan w (Sending peer id) some = tt
-
-      found : (scan : Scan K P) (at : Option (K × Waiting P)) (e : Option (Expected P)) → next o (snapshot o f) scan ≡ at → question_of o (snapshot o f) scan at e ≡ Some ask → IsAnswerable ask
-      found scan None e is asked = cc
-      found scan (Some w) None is asked = cc
-      found scan (Some w) (Some e) is asked =
-          let passes : can_be_tried o (snapshot o f) scan w ≡ true = found-passes (can_be_tried o (snapshot o f) scan) (snapshot o f).waiting w is in
-          let some : 0 < length (left o (snapshot o f) scan.trail w) = ltb-true 0 _ (and-second (is_due scan.moment w) _ passes) in
-          subst IsAnswerable (some-same _ ask asked) (for scan w e some)
-
       with : (scan : Option (Scan K P)) → asked_by o f scan ≡ Some ask → IsAnswerable ask
       with None asked = cc
-      with (Some scan) asked = found scan (next o (snapshot o f) scan) scan.expects refl asked
+      with (Some scan) asked = question-answerable o (snapshot o f) scan ask asked
 
     abbrev IsTaken : Result (Turn K P) Fault → Type 0
     IsTaken (Ok t) = Unit {0}

@@ -30,22 +30,19 @@ where
     X::PublicKey: PublicKey + Drop,
 {
     /// Answers a question: what the draws or the sender say to it is the answer. Where memory for a request's bytes
-    /// is refused, nothing was sent. Scans ask for no number below 0, and none is drawn there.
+    /// is refused, nothing was sent.
     pub(crate) fn answer<K: Span + Drop>(
         &mut self,
         alloc: Global,
         ask: Ask<K, X::PublicKey>,
     ) -> Result<Answer, Fault>
-        ensures says { IsAnswerable ask → IfOk result (λ answer. Says
+        requires answerable { IsAnswerable ask }
+        ensures says { IfOk result (λ answer. Says
             (outside K.bytes_of X.check_gives X.send_gives G.below_gives) ask answer
             self.old.sender self.old.draws self.new.sender self.new.draws) }
         ensures only { IfErr result (λ fault. fault ≡ OutOfMemory) }
     {
-        if let Ask::Draw(0) = &ask {
-            drop(ask);
-            return Ok(Answer::Drawn(0));
-        }
-        Ok(answer_to(alloc, &mut self.sender, &mut self.draws, ask)?)
+        answer_to(alloc, &mut self.sender, &mut self.draws, ask)
     }
 
     /// Sends a message, and says whether it is on its way.

@@ -6,9 +6,11 @@ ghost use Rattle.std.specs.List.Sorted.{IsStrictlySortedBy};
 ghost use Rattle.std.specs.Ordering.{is_eq};
 ghost use Rattle.resolver_base.specs.declared.fault.Fault.TheVariants.{OutOfMemory};
 ghost use Rattle.resolver_fetch_scan.specs.Fetcher.{IsTimely};
+ghost use Rattle.resolver_fetch_scan.specs.FetcherLaws.{AllAre};
 ghost use Rattle.resolver_model.specs.declared.status.Status.TheVariants.{Failed};
 ghost use Rattle.resolver_model_peer.specs.Parties.{parties};
 ghost use Rattle.resolver_model_peer.specs.Peer.{Machine, active_deadline, opening, wake_up};
+ghost use Rattle.resolver.specs.Asking.{CanBeAnswered};
 ghost use Rattle.resolver.specs.EngineLaws.{RunsWell};
 ghost use Rattle.resolver.specs.Taking.{Took};
 ghost use Rattle.resolver_peer_step.specs.EngineSteps.{Takes, all_fed};
@@ -256,12 +258,14 @@ impl<
     /// `OutOfMemory` and `Exhausted` fail the engine for good: each later step answers `Failed` and
     /// changes nothing, as after `End` each answers `Ended`. While a scan expects an answer, an
     /// event is `Busy`; an answer that no scan expects is `Unasked`, and a number past what was
-    /// asked for `OutOfRange`: then nothing changes. What is passed over takes no memory.
+    /// asked for `OutOfRange`: then nothing changes. What is passed over takes no memory. A number is
+    /// asked for below a bound above 0.
     pub fn step(&mut self, input: Input<K, P, S, Q>) -> Result<Vec<Effect<K, P, S>>, Fault>
         requires keys_clone { (x y : K) → K.is_clone x y → y ≡ x }
         requires peers_clone { (x y : P) → P.is_clone x y → y ≡ x }
         requires subscribers_clone { (x y : S) → S.is_clone x y → y ≡ x }
-        ensures { (m : Machine K S P) (moment : ℕ) → Matches (parties K.cmp S.cmp P.cmp) self.old m
+        ensures answerable { IfOk result (λ effects. AllAre CanBeAnswered effects.items) }
+        ensures takes { (m : Machine K S P) (moment : ℕ) → Matches (parties K.cmp S.cmp P.cmp) self.old m
             → (n : Machine K S P) × Takes (parties K.cmp S.cmp P.cmp)
             (codec K.SIZE K.bytes_of K.read_from) m
             (fed_of (codec K.SIZE K.bytes_of K.read_from) Q.keeps moment input)

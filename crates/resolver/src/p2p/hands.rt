@@ -3,6 +3,7 @@
 ghost use Rattle.std.specs.Prelude.{◌≡◌, IfErr};
 ghost use Rattle.futures.specs.Task.{Keeps};
 ghost use Rattle.resolver_base.specs.declared.fault.Fault.TheVariants.{OutOfMemory};
+ghost use Rattle.resolver.specs.Asking.{CanBeAnswered};
 
 use crate::p2p::answers::Asking;
 use bytes::Bytes;
@@ -113,7 +114,9 @@ where
     }
 
     /// Carries an effect out. A request that there is no memory for is refused.
-    pub(crate) fn carry_out(&mut self, effect: Effect<K, P, S>) {
+    pub(crate) fn carry_out(&mut self, effect: Effect<K, P, S>)
+        requires answerable { CanBeAnswered effect }
+    {
         match effect {
             Effect::Ask(ask) => {
                 let answer = self.asking.answer(self.alloc, ask);

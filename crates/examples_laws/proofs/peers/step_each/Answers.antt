@@ -35,7 +35,7 @@ returns-then-ends-clause-took g c = λ m moment matches.
     (subst (λ all. Took a words keeps m moment all (answers ++ c.step-answer.result ∷ []) c.step-answer.new.self) split
     (laws.ends m moment (on.taken ++ c.in-Some.input ∷ []) (into_iter_items c.next.new.self) (answers ++ c.step-answer.result ∷ []) c.step-answer.new.self
     (laws.both m moment on.taken (c.in-Some.input ∷ []) answers (c.step-answer.result ∷ []) c.loop-input.core c.step-answer.new.self took on.goes
-    (laws.one took.machine at c.in-Some.input c.step-answer.result c.step-answer.new.self (c.step-answer.ensures took.machine at took.matches)))
+    (laws.one took.machine at c.in-Some.input c.step-answer.result c.step-answer.new.self (c.step-answer.ensures.takes took.machine at took.matches)))
     (last-decides stops answers c.step-answer.result true on.goes (sym c.if-ends.ensures))))
 
 pub loop-input-preserved : goal.loop-input-preserved
@@ -54,7 +54,7 @@ loop-input-preserved g c =
           let at = latest words keeps moment on.taken in
           subst (λ told. Took a words keeps m moment (on.taken ++ c.in-Some.input ∷ []) told c.step-answer.new.self) (sym c.in_ok-push.ensures.items)
           (laws.both m moment on.taken (c.in-Some.input ∷ []) answers (c.step-answer.result ∷ []) c.loop-input.core c.step-answer.new.self took on.goes
-          (laws.one took.machine at c.in-Some.input c.step-answer.result c.step-answer.new.self (c.step-answer.ensures took.machine at took.matches)));
+          (laws.one took.machine at c.in-Some.input c.step-answer.result c.step-answer.new.self (c.step-answer.ensures.takes took.machine at took.matches)));
       goes = ap (list_any stops) c.in_ok-push.ensures.items ∙ last-decides stops answers c.step-answer.result false on.goes (sym c.if-ends.ensures);
     }
 

@@ -42,7 +42,7 @@ loop-input-preserved g c =
           let on = c.loop-input.invariant.took m moment matched in
           subst (λ answers. TookOn a words g.Q.Predicate.keeps m moment c.args.inputs.items (into_iter_items c.next.new.self) answers c.step-answer.new.self) (sym c.push_reserved.ensures.items)
           (runs-next a words g.Q.Predicate.keeps m moment c.args.inputs.items (into_iter_items c.loop-input.input-iterator) (into_iter_items c.next.new.self) c.in-Some.input c.loop-input.answers.items
-          c.step-answer.result c.loop-input.self c.step-answer.new.self c.in-Some.ensures.steps.0 on (c.step-answer.ensures on.took.machine (latest words g.Q.Predicate.keeps moment on.taken) on.took.matches) (sym c.if-stops.ensures));
+          c.step-answer.result c.loop-input.self c.step-answer.new.self c.in-Some.ensures.steps.0 on (c.step-answer.ensures.takes on.took.machine (latest words g.Q.Predicate.keeps moment on.taken) on.took.matches) (sym c.if-stops.ensures));
       room = search rules;
     }
 
@@ -53,7 +53,7 @@ returns-then-stops-clause-took g c = λ m moment matched.
     let on = c.loop-input.invariant.took m moment matched in
     subst (λ answers. Took a words g.Q.Predicate.keeps m moment c.args.inputs.items answers c.step-answer.new.self) (sym c.push_reserved.ensures.items)
     (runs-last a words g.Q.Predicate.keeps m moment c.args.inputs.items (into_iter_items c.loop-input.input-iterator) (into_iter_items c.next.new.self) c.in-Some.input c.loop-input.answers.items
-    c.step-answer.result c.loop-input.self c.step-answer.new.self c.in-Some.ensures.steps.0 on (c.step-answer.ensures on.took.machine (latest words g.Q.Predicate.keeps moment on.taken) on.took.matches) (sym c.if-stops.ensures))
+    c.step-answer.result c.loop-input.self c.step-answer.new.self c.in-Some.ensures.steps.0 on (c.step-answer.ensures.takes on.took.machine (latest words g.Q.Predicate.keeps moment on.taken) on.took.matches) (sym c.if-stops.ensures))
 
 pub returns-clause-took : goal.returns-clause-took
 returns-clause-took g c = λ m moment matched.

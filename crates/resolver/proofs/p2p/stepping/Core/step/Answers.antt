@@ -1,6 +1,7 @@
 use Rattle.std.proofs.Common.{sym, ◌∙◌, true, false}
 use Rattle.resolver_model_peer.specs.Parties.{parties}
 use Rattle.resolver_peer_step.specs.Said.{codec, fed_of}
+use Rattle.resolver.proofs.Asked.{stepped-answerable}
 use Rattle.resolver.proofs.Stepped.{final-becomes, refused-becomes, refused-same, still-tied, taken-becomes, was-running, was-tied}
 use Rattle.resolver.proofs.p2p.stepping.Core.step.Goals as goal
 use Rattle.resolver.proofs.p2p.stepping.Core.step.Goals.{else-ends, else-is_final, then-ends, then-is_final}
@@ -28,8 +29,8 @@ invariant_of-self-else-is_final g c =
     (sym c.is_final.ensures ∙ c.if-is_final.false) (c.in-Err.ensures tied.0 0 tied.1) in
     still-tied a c.take.new.self c.self.inside.status c.in-Running.is (tied.0, same.1)
 
-pub returns-after-ends : goal.returns-after-ends
-returns-after-ends g c = λ m moment matched.
+pub returns-after-ends-clause-takes : goal.returns-after-ends-clause-takes
+returns-after-ends-clause-takes g c = λ m moment matched.
     let a = parties g.K.Ord.cmp g.S.Ord.cmp g.P.Ord.cmp in
     let words = codec g.K.Span.SIZE g.K.Span.bytes_of g.K.Span.read_from in
     let was = was-running a c.self.inside.parts c.self.inside.status c.args.self.now m c.self.view_is c.in-Running.is matched in
@@ -39,8 +40,8 @@ returns-after-ends g c = λ m moment matched.
       | else-ends w ↦ let at = becomes false (sym w.if-ends.false ∙ c.is_end-ends.ensures) in rw (w.self-is, c.in-Running.is) at
     ]
 
-pub returns-after-is_final : goal.returns-after-is_final
-returns-after-is_final g c = λ m moment matched.
+pub returns-after-is_final-clause-takes : goal.returns-after-is_final-clause-takes
+returns-after-is_final-clause-takes g c = λ m moment matched.
     let a = parties g.K.Ord.cmp g.S.Ord.cmp g.P.Ord.cmp in
     let words = codec g.K.Span.SIZE g.K.Span.bytes_of g.K.Span.read_from in
     let was = was-running a c.self.inside.parts c.self.inside.status c.args.self.now m c.self.view_is c.in-Running.is matched in
@@ -51,3 +52,11 @@ returns-after-is_final g c = λ m moment matched.
       | else-is_final w ↦
           rw (w.self-is, c.in-Running.is) (refused-becomes a words m fed c.new-effects.result.items c.take.new.effects.items c.take.new.self was.1 c.in-Err.fault (sym c.is_final.ensures ∙ w.if-is_final.false) taken)
     ]
+
+pub returns-after-ends-clause-answerable : goal.returns-after-ends-clause-answerable
+returns-after-ends-clause-answerable g c =
+    let a = parties g.K.Ord.cmp g.S.Ord.cmp g.P.Ord.cmp in
+    let words = codec g.K.Span.SIZE g.K.Span.bytes_of g.K.Span.read_from in
+    let tied = was-tied a c.self.inside.parts c.self.inside.status c.in-Running.is c.self.invariant in
+    stepped-answerable a words tied.0 (fed_of words g.Q.Predicate.keeps 0 c.args.input) c.new-effects.result.items c.take.new.effects.items c.take.new.self c.new-effects.ensures.items
+    (c.in-Ok.ensures tied.0 0 tied.1)
