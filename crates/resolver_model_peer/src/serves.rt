@@ -65,7 +65,7 @@ pub fn reply<K: Span + Drop>(alloc: Global, id: u64, value: Option<Bytes>) -> Re
         id,
         payload: payload_of(value),
     };
-    let mut out = BytesMut::with_capacity(alloc, message.encode_size())?;
+    let mut out = BytesMut::with_capacity(alloc, message.encode_size() as usize)?;
     message.write(&mut out)?;
     Ok(out.freeze()?)
 }

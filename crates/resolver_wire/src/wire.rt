@@ -23,10 +23,10 @@ mod reading;
 mod writing;
 
 /// How many bytes a request has besides its key, and all the bytes of an error.
-pub const REQUEST_OVERHEAD: usize = 9;
+pub const REQUEST_OVERHEAD: u64 = 9;
 
 /// How many bytes a response has at most besides its value.
-pub const MAX_RESPONSE_OVERHEAD: usize = 14;
+pub const MAX_RESPONSE_OVERHEAD: u64 = 14;
 
 /// The tag of a request.
 const REQUEST: u8 = 0;
@@ -70,12 +70,12 @@ pub enum Payload<Key> {
 }
 
 /// How long a message can be at most, where a response's value has at most so many bytes.
-pub fn max_message_size<Key: Span>(value: usize) -> usize
+pub fn max_message_size<Key: Span>(value: u64) -> u64
     requires { value < 2 ^ 32 }
     ensures size { result ≡ max (Key.SIZE + 9) (value + 14) }
     ensures covers { Covers Key.bytes_of value result }
 {
-    (Key::SIZE + REQUEST_OVERHEAD).max(value + MAX_RESPONSE_OVERHEAD)
+    (Key::SIZE as u64 + REQUEST_OVERHEAD).max(value + MAX_RESPONSE_OVERHEAD)
 }
 
 impl<Key: Clone> Message<Key> {
@@ -118,7 +118,7 @@ impl<Key: Span> Message<Key> {
             (length (spelling Key.bytes_of self.now)) }
         ensures only { IfErr result (λ fault. fault ≡ OutOfMemory) }
     {
-        out.reserve(self.encode_size())?;
+        out.reserve(self.encode_size() as usize)?;
         self.put_inline(out)?;
         out.extend_reserved(self.value());
         Ok(())
@@ -140,22 +140,22 @@ impl<Key: Span> Message<Key> {
     }
 
     /// How many bytes the message has.
-    pub fn encode_size(&self) -> usize
+    pub fn encode_size(&self) -> u64
         requires short { IsShort self.now.payload }
         ensures size { result ≡ length (spelling Key.bytes_of self.now) }
         ensures overhead { HasLength Key.SIZE self.now.payload result }
     {
-        self.encode_inline_size() + self.value().len()
+        self.encode_inline_size() + self.value().len() as u64
     }
 
     /// How many bytes the first piece has.
-    pub fn encode_inline_size(&self) -> usize
+    pub fn encode_inline_size(&self) -> u64
         requires short { IsShort self.now.payload }
         ensures size { result ≡ length (inline Key.bytes_of self.now) }
         ensures overhead { HasInlineLength Key.SIZE self.now.payload result }
     {
         match &self.payload {
-            Payload::Request(_) => REQUEST_OVERHEAD + Key::SIZE,
+            Payload::Request(_) => REQUEST_OVERHEAD + Key::SIZE as u64,
             Payload::Response(value) => REQUEST_OVERHEAD + length_size(value.len() as u32),
             Payload::Error => REQUEST_OVERHEAD,
         }

@@ -73,7 +73,7 @@ fn bytes_refused(rt: HostRuntime) {
 fn spelled(rt: &impl Abort, alloc: Global, message: Message<Letter>, bytes: &[u8])
     requires { IsShort message.payload }
 {
-    equal(rt, &message.encode_size(), &bytes.len());
+    equal(rt, &message.encode_size(), &(bytes.len() as u64));
     is_spelled(rt, alloc, &message, bytes);
     let mut buffer = followed(rt, alloc, bytes, 7);
     gives(rt, Message::read(&mut buffer), &message);
@@ -188,7 +188,7 @@ fn zeros(rt: &impl Abort, alloc: Global, count: u16) -> Bytes
 #[test]
 fn responses_of_zeros(rt: HostRuntime) {
     let rt = &rt;
-    const CASES: &[(u16, (usize, usize, usize), &[u8])] = &[
+    const CASES: &[(u16, (u64, u64, usize), &[u8])] = &[
         (0, (10, 10, 1), b"\0\0\0\0\0\0\0\0\x01\0"),
         (127, (137, 10, 2), b"\0\0\0\0\0\0\0\0\x01\x7f"),
         (128, (139, 11, 2), b"\0\0\0\0\0\0\0\0\x01\x80\x01"),
@@ -205,7 +205,7 @@ fn responses_of_zeros(rt: HostRuntime) {
 }
 
 /// How many bytes the message is written as, how many of them aren't its value's, and in how many pieces.
-fn sizes(rt: &impl Abort, alloc: Global, message: &Message<Letter>) -> (usize, usize, usize)
+fn sizes(rt: &impl Abort, alloc: Global, message: &Message<Letter>) -> (u64, u64, usize)
     requires { IsShort message.now.payload }
 {
     let pieces = message.write_bufs(alloc).expect(rt, "memory");
@@ -218,9 +218,11 @@ fn begins_with(rt: &impl Abort, alloc: Global, message: &Message<Letter>, head: 
     requires { IsShort message.now.payload }
 {
     let written = written(rt, alloc, message);
-    let found = written.as_slice().get(..message.encode_inline_size());
+    let found = written
+        .as_slice()
+        .get(..message.encode_inline_size() as usize);
     let wanted = (message.encode_size(), Some(head));
-    equal(rt, &(written.len(), found), &wanted);
+    equal(rt, &(written.len() as u64, found), &wanted);
     gives(rt, Message::decode(written), message);
 }
 

@@ -24,7 +24,7 @@ impl<Key: Span> Message<Key> {
         requires short { IsShort self.now.payload }
         ensures { IfOk result (λ piece. piece ≡ inline Key.bytes_of self.now) }
     {
-        let mut piece = BytesMut::with_capacity(alloc, self.encode_inline_size())?;
+        let mut piece = BytesMut::with_capacity(alloc, self.encode_inline_size() as usize)?;
         self.put_inline(&mut piece)?;
         Ok(piece.freeze()?)
     }
@@ -70,7 +70,7 @@ impl<Key: Span> Message<Key> {
 
 /// How many bytes the spelling of a length has.
 #[tactic(auto, unfolding(crate::specs::Spelling::varint_in))]
-pub(super) fn length_size(count: u32) -> usize
+pub(super) fn length_size(count: u32) -> u64
     ensures size { result ≡ length (varint count) }
     ensures small { result ≤ 5 }
 {
