@@ -22,8 +22,8 @@ fn main() {
     println!("cargo:rerun-if-changed={}", folder.join(ARCHIVE).display());
     if !folder.join(ARCHIVE).is_file() {
         eprintln!(
-            "There is no {ARCHIVE} in {}. Run `rt lib` in crates/resolver_c to prove and build it, \
-             or `tools/rust`, or name a folder that has it: RESOLVER_LIB=FOLDER cargo build.",
+            "There is no {ARCHIVE} in {}. Run `tools/archive` at the top of the repository to prove and build it, \
+             or name a folder that has it: RESOLVER_LIB=FOLDER cargo build.",
             folder.display()
         );
         exit(1);
