@@ -2,4 +2,5 @@
 
 pub mod complaint;
 pub mod judge;
+pub mod requests;
 pub mod said;

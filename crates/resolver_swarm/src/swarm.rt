@@ -67,9 +67,9 @@ impl Swarm {
 
     /// Tells all nodes who is there.
     fn announce(&mut self) -> Result<(), Fault> {
+        let present = self.present()?;
         for node in 0..self.world.settings.nodes {
-            let peers = self.present()?;
-            let index = self.index;
+            let (index, peers) = (self.index, present.clone()?);
             self.world.soon(node, Event::PeerSet { index, peers })?;
         }
         self.index = self.index.saturating_add(1);
@@ -151,8 +151,7 @@ impl Swarm {
     /// wrong, or nothing more comes before its end.
     fn turn(&mut self) -> Result<(), Fault> {
         if self.broken.is_some() || self.synced == self.fellows {
-            self.is_over = true;
-            return Ok(());
+            return self.end();
         }
         let end = nanos(self.world.settings.until);
         match self.world.agenda.take() {
@@ -160,16 +159,23 @@ impl Swarm {
                 self.world.now = self.world.now.max(at);
                 self.happen(coming)
             }
-            Some(_) => {
-                self.is_over = true;
-                Ok(())
-            }
+            Some(_) => self.end(),
             None => {
-                self.is_over = true;
                 self.judge_end();
-                Ok(())
+                self.end()
             }
         }
+    }
+
+    /// The run is over. Whole rows are compared once more.
+    fn end(&mut self) -> Result<(), Fault> {
+        self.is_over = true;
+        for node in self.nodes.iter_mut() {
+            node.compare_rows()?;
+            let complaint = node.judge.complaint.map(|complaint| (node.name, complaint));
+            self.broken = self.broken.or(complaint);
+        }
+        Ok(())
     }
 
     /// Nothing more happens: whoever lacks a key that an honest peer has is wrong.

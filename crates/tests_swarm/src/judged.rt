@@ -2,11 +2,11 @@
 
 use bytes::Bytes;
 use resolver::base::{Check, NonEmptyVec};
-use resolver::p2p::FetchKey;
 use resolver::p2p::effects::Effect;
 use resolver::p2p::inputs::Event;
 use resolver::p2p::named::Source;
 use resolver::p2p::rows::{Phase, Row};
+use resolver::p2p::{FetchKey, Phases};
 use resolver::{Delivery, Fetch, Outcome};
 use resolver_swarm::height::Height;
 use resolver_swarm::judging::complaint::Complaint;
@@ -54,7 +54,7 @@ fn wanting(rt: &impl Abort, alloc: Global) -> Judge {
 fn asking(rt: &impl Abort, alloc: Global) -> Judge {
     let mut judge = wanting(rt, alloc);
     judge.note_check(2, Check::Clear);
-    judge.note_request((KEY, 2, ID), true).expect(rt, "memory");
+    judge.note_request(KEY, 2, ID, true).expect(rt, "memory");
     judge
 }
 
@@ -109,6 +109,15 @@ fn row(rt: &impl Abort, alloc: Global, phase: Phase<u16>) -> Row<Height, u16, u1
     }
 }
 
+/// What a core counts that has so many keys in each phase.
+fn phases(waiting: u64, asked: u64, judged: u64) -> Phases {
+    Phases {
+        waiting,
+        asked,
+        judged,
+    }
+}
+
 fn assert_found(rt: &impl Abort, judge: &Judge, complaint: Option<Complaint>) {
     assert_eq!(rt; judge.complaint, complaint);
 }
@@ -119,6 +128,7 @@ fn a_right_node_is_not_complained_of(rt: HostRuntime) {
     let outcome = Some(Outcome::from(true));
     take(&rt, &mut judge, 10, Event::Verdict { number: 0, outcome });
     judge.note_effect(&credit(0, 2)).expect(&rt, "memory");
+    judge.note_phases(phases(0, 0, 0));
     judge.note_rows(&[]);
     judge.note_waits(None, None);
     assert_found(&rt, &judge, None);
@@ -154,6 +164,36 @@ fn a_request_that_stays_is_found(rt: HostRuntime) {
 }
 
 #[test]
+fn keys_that_are_miscounted_are_found(rt: HostRuntime) {
+    let mut lost = wanting(&rt, rt.alloc());
+    lost.note_phases(phases(0, 0, 0));
+    assert_found(&rt, &lost, Some(Complaint::Demand));
+    let mut waiting = asking(&rt, rt.alloc());
+    waiting.note_phases(phases(1, 0, 0));
+    assert_found(&rt, &waiting, Some(Complaint::Requests));
+    let mut asked = judging(&rt, rt.alloc());
+    asked.note_phases(phases(0, 1, 0));
+    assert_found(&rt, &asked, Some(Complaint::Requests));
+}
+
+#[test]
+fn a_row_is_compared_each_four_events(rt: HostRuntime) {
+    let mut judge = wanting(&rt, rt.alloc());
+    for _ in 0..4 {
+        assert!(rt; !judge.wants_rows(), "fewer than four events were counted");
+        judge.note_phases(phases(1, 0, 0));
+    }
+    assert!(rt; judge.wants_rows(), "four events were counted");
+    let phase = Phase::Waiting {
+        is_retry: false,
+        due: 0,
+    };
+    judge.note_rows(&[row(&rt, rt.alloc(), phase)]);
+    assert!(rt; !judge.wants_rows(), "the row was just compared");
+    assert_found(&rt, &judge, None);
+}
+
+#[test]
 fn a_peer_that_is_asked_in_vain_is_found(rt: HostRuntime) {
     let mut itself = wanting(&rt, rt.alloc());
     itself.note_check(1, Check::Clear);
@@ -164,6 +204,17 @@ fn a_peer_that_is_asked_in_vain_is_found(rt: HostRuntime) {
     let mut full = asking(&rt, rt.alloc());
     full.note_check(2, Check::Clear);
     assert_found(&rt, &full, Some(Complaint::Ineligible));
+}
+
+#[test]
+fn a_peer_whose_request_ended_may_be_asked(rt: HostRuntime) {
+    let mut answered = judging(&rt, rt.alloc());
+    answered.note_check(2, Check::Clear);
+    assert_found(&rt, &answered, None);
+    let mut late = asking(&rt, rt.alloc());
+    take(&rt, &mut late, 1_000_000, Event::ActiveDue);
+    late.note_check(2, Check::Clear);
+    assert_found(&rt, &late, None);
 }
 
 #[test]
@@ -179,7 +230,7 @@ fn a_blocked_peer_that_is_asked_is_found(rt: HostRuntime) {
 fn a_limited_peer_that_is_asked_is_found(rt: HostRuntime) {
     let mut judge = wanting(&rt, rt.alloc());
     judge.note_check(2, Check::Until(50));
-    judge.note_request((KEY, 2, ID), true).expect(&rt, "memory");
+    judge.note_request(KEY, 2, ID, true).expect(&rt, "memory");
     assert_found(&rt, &judge, Some(Complaint::Ineligible));
 }
 
@@ -188,7 +239,7 @@ fn a_key_that_nobody_wants_is_found(rt: HostRuntime) {
     let mut judge = wanting(&rt, rt.alloc());
     judge.note_check(2, Check::Clear);
     judge
-        .note_request((Height::of(6), 2, ID), true)
+        .note_request(Height::of(6), 2, ID, true)
         .expect(&rt, "memory");
     assert_found(&rt, &judge, Some(Complaint::Request));
 }
@@ -207,7 +258,7 @@ fn an_answer_that_is_not_delivered_is_found(rt: HostRuntime) {
     let mut judge = asking(&rt, rt.alloc());
     let bytes = response(&rt, rt.alloc());
     take(&rt, &mut judge, 10, Event::Net { peer: 2, bytes });
-    judge.note_rows(&[row(&rt, rt.alloc(), Phase::Judged { number: 0 })]);
+    judge.note_phases(phases(1, 0, 0));
     assert_found(&rt, &judge, Some(Complaint::Delivery));
 }
 

@@ -1,6 +1,6 @@
 //! A model of a node's core.
 
-ghost use Rattle.std.specs.Prelude.{◌≡◌, ◌≢◌, ◌↔◌, IsTrue, IsSome, false, None, Some};
+ghost use Rattle.std.specs.Prelude.{◌≡◌, ◌≢◌, ◌↔◌, ◌+◌, IsTrue, IsSome, IfSome, false, length, None, Some};
 ghost use Rattle.std.specs.Ordering.{nat_cmp};
 ghost use Rattle.std.specs.BTreeMap.{get};
 ghost use Rattle.std.specs.BTreeSet.{contains};
@@ -8,25 +8,18 @@ ghost use Rattle.resolver_swarm.specs.Judging.{IsLater, first_found};
 
 use crate::height::Height;
 use crate::judging::complaint::Complaint;
+use crate::judging::requests::{Asked, Requests};
 use crate::judging::said::{Said, read};
 use crate::settings::{Settings, nanos};
 use crate::world::Happens;
 use resolver::base::Check;
+use resolver::p2p::Phases;
 use resolver::p2p::effects::Effect;
 use resolver::p2p::inputs::Event;
 use resolver::p2p::rows::{Phase, Row};
 use resolver::{Outcome, Resolution};
 use std::alloc::{AllocError, Global};
 use std::collections::{BTreeMap, BTreeSet};
-
-/// A request without an answer.
-#[derive(Clone, Copy, Debug, PartialEq, Eq)]
-pub struct Asked {
-    pub key: Height,
-    pub peer: u16,
-    /// When its time is over, in nanoseconds.
-    pub deadline: u128,
-}
 
 /// What a core is to have and to do, and what it did wrong first. Nothing is given up in a run, so no retain is told.
 #[derive(Drop)]
@@ -40,16 +33,18 @@ pub struct Judge {
     pub blocked: BTreeSet<u16>,
     /// The keys that were fetched and not retired.
     pub demand: BTreeSet<Height>,
-    /// The requests without an answer, by their ids.
-    pub asked: BTreeMap<u64, Asked>,
-    /// The keys of the deliveries without a verdict, by their numbers.
-    pub open: BTreeMap<u64, Height>,
+    /// The requests without an answer.
+    pub asked: Requests,
+    /// The keys of the deliveries without a verdict, by their numbers. A node gives a verdict at once, so they are few.
+    pub judged: BTreeMap<u64, Height>,
     /// The senders of the responses that have earned nothing, by their numbers.
     pub senders: BTreeMap<u64, u16>,
     /// The request that was answered by the last event with a value.
     pub answered: Option<Asked>,
     /// The peer that may be sent to, as the last check said.
     pub clear: Option<u16>,
+    /// How many events were taken since whole rows were compared.
+    pub unseen: usize,
     /// What is wrong, if something is: what was found first.
     pub complaint: Option<Complaint>,
 }
@@ -66,11 +61,12 @@ impl Judge {
             peers: BTreeSet::new(alloc),
             blocked: BTreeSet::new(alloc),
             demand: BTreeSet::new(alloc),
-            asked: BTreeMap::new(alloc),
-            open: BTreeMap::new(alloc),
+            asked: Requests::new(alloc),
+            judged: BTreeMap::new(alloc),
             senders: BTreeMap::new(alloc),
             answered: None,
             clear: None,
+            unseen: 0,
             complaint: None,
         }
     }
@@ -133,26 +129,18 @@ impl Judge {
         replace(&mut self.peers, peers)
     }
 
-    /// The first request whose time is over, by its deadline and then by its id.
-    fn overdue(&self) -> Option<u64> {
-        let over = self
-            .asked
-            .iter()
-            .filter(|(_, asked)| asked.deadline <= self.now);
-        let first = over.map(|(id, asked)| (asked.deadline, *id)).min();
-        first.map(|(_, id)| id)
-    }
-
-    /// The time of a request is over.
+    /// The time of a request is over: of the first one, by its deadline and then by its id.
     fn time_out(&mut self) {
-        if let Some(id) = self.overdue() {
-            self.asked.remove(&id);
+        if let Some((deadline, id)) = self.asked.first() {
+            if deadline <= self.now {
+                self.asked.remove(id);
+            }
         }
     }
 
     /// A verdict: a key that is complete, or that is let go, is retired.
     fn rule(&mut self, number: u64, outcome: Option<Outcome>) {
-        let Some(key) = self.open.remove(&number) else {
+        let Some(key) = self.judged.remove(&number) else {
             return;
         };
         if is_retiring(outcome) {
@@ -172,20 +160,16 @@ impl Judge {
     }
 
     /// Ends the request of this id, if this peer was asked.
-    fn end_request(&mut self, id: u64, peer: u16) -> Option<Asked> {
-        let asked = self.asked.get(&id).copied()?;
+    fn end_request(&mut self, id: u64, peer: u16) -> Option<Asked>
+        ensures asked { IfSome result (λ asked. get nat_cmp self.old.asked.by_id id ≡ Some asked) }
+        ensures peer { IfSome result (λ asked. asked.peer ≡ peer) }
+        ensures ended { IfSome result (λ _. get nat_cmp self.new.asked.by_id id ≡ None) }
+    {
+        let asked = self.asked.get(id)?;
         if asked.peer != peer {
             return None;
         }
-        self.asked.remove(&id)
-    }
-
-    /// How many requests a peer has.
-    fn load(&self, peer: u16) -> usize {
-        self.asked
-            .values()
-            .filter(|asked| asked.peer == peer)
-            .count()
+        self.asked.remove(id)
     }
 
     /// Whether a peer may be asked: it is of the last set, neither the node itself nor blocked, and has fewer requests
@@ -198,7 +182,7 @@ impl Judge {
         self.peers.contains(&peer)
             && peer != self.me
             && !self.blocked.contains(&peer)
-            && (self.limit == 0 || self.load(peer) < self.limit as usize)
+            && (self.limit == 0 || self.asked.load(peer) < u64::from(self.limit))
     }
 
     /// A peer is looked at, which says this.
@@ -217,25 +201,31 @@ impl Judge {
         self.expect(is_eligible, Complaint::Ineligible);
     }
 
-    /// Whether a key is asked for.
-    fn is_asked(&self, key: Height) -> bool {
-        self.asked.values().any(|asked| asked.key == key)
-    }
-
     /// Whether a key may be asked for under this id: it is wanted, neither asked for nor judged, and the id is free.
-    fn may_request(&self, key: Height, id: u64) -> bool {
+    fn may_request(&self, key: Height, id: u64) -> bool
+        ensures { IsTrue result → get nat_cmp self.now.asked.by_id id ≡ None }
+    {
         self.demand.contains(&key)
-            && !self.is_asked(key)
-            && !self.open.values().any(|judged| *judged == key)
-            && !self.asked.contains_key(&id)
+            && !self.asked.has_key(key)
+            && !self.judged.values().any(|other| *other == key)
+            && self.asked.get(id).is_none()
     }
 
     /// A request is sent, and accepted or not.
     pub fn note_request(
         &mut self,
-        (key, peer, id): (Height, u16, u64),
+        key: Height,
+        peer: u16,
+        id: u64,
         is_accepted: bool,
-    ) -> Result<(), AllocError> {
+    ) -> Result<(), AllocError>
+        ensures listed { self.new.complaint ≡ None
+            → IsTrue (contains nat_cmp self.old.peers peer) }
+        ensures other { self.new.complaint ≡ None → peer ≢ self.old.me }
+        ensures unblocked { self.new.complaint ≡ None
+            → contains nat_cmp self.old.blocked peer ≡ false }
+        ensures free { self.new.complaint ≡ None → get nat_cmp self.old.asked.by_id id ≡ None }
+    {
         let is_eligible = self.is_eligible(peer) && self.clear == Some(peer);
         self.expect(is_eligible, Complaint::Ineligible);
         let is_right = self.may_request(key, id);
@@ -247,7 +237,7 @@ impl Judge {
                 peer,
                 deadline,
             };
-            self.asked.insert(id, asked)?;
+            self.asked.put(id, asked)?;
         }
         Ok(())
     }
@@ -282,7 +272,7 @@ impl Judge {
         self.expect(is_answer, Complaint::Delivery);
         if let Some(asked) = answered {
             self.senders.insert(number, asked.peer)?;
-            self.open.insert(number, key)?;
+            self.judged.insert(number, key)?;
         }
         Ok(())
     }
@@ -297,14 +287,38 @@ impl Judge {
         self.expect(is_right, Complaint::Earned);
     }
 
+    /// What the core counts once an event is over: how many keys are demanded, asked for and judged.
+    pub fn note_phases(&mut self, phases: Phases)
+        ensures counted { self.new.complaint ≡ None
+            → phases.waiting + phases.asked + phases.judged ≡ length self.old.demand.keys }
+        ensures asked { self.new.complaint ≡ None
+            → phases.asked ≡ length self.old.asked.by_id.entries }
+        ensures judged { self.new.complaint ≡ None → phases.judged ≡ length self.old.judged.entries }
+    {
+        self.unseen = self.unseen.saturating_add(1);
+        let is_demand = count_of(phases) == self.demand.len() as u128;
+        self.expect(is_demand, Complaint::Demand);
+        let are_asked = phases.asked == self.asked.len() as u64;
+        self.expect(are_asked, Complaint::Requests);
+        let are_judged = phases.judged == self.judged.len() as u64;
+        self.expect(are_judged, Complaint::Requests);
+        let is_unanswered = self.answered.is_none();
+        self.expect(is_unanswered, Complaint::Delivery);
+    }
+
+    /// Whether whole rows are to be compared: four times as many events were taken since they were as there are rows, so
+    /// that an event costs a quarter of a row.
+    pub fn wants_rows(&self) -> bool {
+        self.unseen / 4 >= self.demand.len()
+    }
+
     /// What the core lists once an event is over: the demand, and the open requests.
     pub fn note_rows(&mut self, rows: &[Row<Height, u16, u16>]) {
+        self.unseen = 0;
         let is_demand = self.has_demand(rows);
         self.expect(is_demand, Complaint::Demand);
         let are_asked = self.has_requests(rows);
         self.expect(are_asked, Complaint::Requests);
-        let is_unanswered = self.answered.is_none();
-        self.expect(is_unanswered, Complaint::Delivery);
     }
 
     /// Whether the rows are the demanded keys, in their order.
@@ -334,17 +348,18 @@ impl Judge {
             peer: *peer,
             deadline: *deadline,
         };
-        self.asked.get(id).copied() == Some(asked)
+        self.asked.get(*id) == Some(asked)
     }
 
     /// When the time of the first request is over.
     fn next_deadline(&self) -> Option<u128> {
-        self.asked.values().map(|asked| asked.deadline).min()
+        self.asked.first().map(|(deadline, _)| deadline)
     }
 
-    /// Whether there is a key that waits and a peer that may be asked.
+    /// Whether there is a key that waits and a peer that may be asked. It goes through the peers, and only where nothing
+    /// will wake the node.
     fn has_work(&self) -> bool {
-        let busy = self.asked.len().saturating_add(self.open.len());
+        let busy = self.asked.len().saturating_add(self.judged.len());
         self.demand.len() > busy && self.peers.iter().any(|peer| self.is_eligible(*peer))
     }
 
@@ -360,6 +375,13 @@ impl Judge {
         let is_awake = pending.is_some_and(|wake| wake < u128::MAX) || !self.has_work();
         self.expect(is_awake, Complaint::Asleep);
     }
+}
+
+/// How many keys there are, in whatever phase.
+fn count_of(phases: Phases) -> u128
+    ensures { result ≡ phases.waiting + phases.asked + phases.judged }
+{
+    u128::from(phases.waiting) + u128::from(phases.asked) + u128::from(phases.judged)
 }
 
 /// Whether a node is woken later than now, if it is woken.

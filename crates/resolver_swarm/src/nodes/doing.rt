@@ -145,7 +145,7 @@ impl Node {
             }
             Ask::Request { peer, id, key, .. } => {
                 let is_accepted = world.network.is_present(self.name);
-                self.judge.note_request((key, peer, id), is_accepted)?;
+                self.judge.note_request(key, peer, id, is_accepted)?;
                 if is_accepted {
                     self.request(world, peer, id, key)?;
                 }

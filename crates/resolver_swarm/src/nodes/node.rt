@@ -11,7 +11,7 @@ use resolver::p2p::inputs::{Event, Happening, Input};
 use resolver::p2p::{Core, FetchKey};
 use resolver_base::{Fault, Moment, Seeded};
 use std::alloc::{AllocError, Global};
-use std::collections::BTreeMap;
+use std::collections::{BTreeMap, BTreeSet};
 use std::num::NonZeroU32;
 
 /// A node's core takes this.
@@ -35,8 +35,10 @@ pub struct Node {
     pub(crate) blocked: Vec<u16>,
     /// From when on each peer may be sent a request again, in nanoseconds.
     pub(crate) limits: BTreeMap<u16, u128>,
-    /// When it will be woken next, if it will.
+    /// The moment for which it had itself woken last, unless it was woken since.
     wake: Option<Moment>,
+    /// When it will be woken: at each of these moments once.
+    wakes: BTreeSet<Moment>,
     pub judge: Judge,
     pub script: Option<Script>,
 }
@@ -74,6 +76,7 @@ impl Node {
             blocked: Vec::new(alloc),
             limits: BTreeMap::new(alloc),
             wake: None,
+            wakes: BTreeSet::new(alloc),
             judge: Judge::new(alloc, name, settings),
             script,
         })
@@ -98,6 +101,7 @@ impl Node {
     /// It was to be woken at this moment.
     pub fn wake(&mut self, world: &mut World) -> Result<(), Fault> {
         self.wake = None;
+        self.wakes.remove(&world.now);
         self.feed_due(world)?;
         self.wait(world)
     }
@@ -114,6 +118,15 @@ impl Node {
                 None => break,
             }
         }
+        self.judge.note_phases(self.core.phases());
+        if self.script.is_some() || self.judge.wants_rows() {
+            self.compare_rows()?;
+        }
+        Ok(())
+    }
+
+    /// Has whole rows compared.
+    pub fn compare_rows(&mut self) -> Result<(), Fault> {
         let rows = self.core.rows()?;
         self.judge.note_rows(rows.as_slice());
         Ok(())
@@ -193,19 +206,15 @@ impl Node {
             }
             self.feed(world, event)?;
         }
-        let active = self.core.get_active_deadline();
-        let pending = self.core.get_pending_deadline();
-        self.judge.note_waits(active, pending);
         Ok(())
     }
 
     /// Has itself woken when something is due next, unless it will be woken before.
     fn wait(&mut self, world: &mut World) -> Result<(), Fault> {
-        let deadlines = [
-            self.core.get_active_deadline(),
-            self.core.get_pending_deadline(),
-        ];
-        let next = deadlines.into_iter().flatten().min();
+        let active = self.core.get_active_deadline();
+        let pending = self.core.get_pending_deadline();
+        self.judge.note_waits(active, pending);
+        let next = [active, pending].into_iter().flatten().min();
         let Some(next) = next.and_then(Moment::from_nanos) else {
             return Ok(());
         };
@@ -213,7 +222,9 @@ impl Node {
             return Ok(());
         }
         self.wake = Some(next);
-        world.agenda.put(next, Coming::Wake { node: self.name })?;
+        if self.wakes.insert(next)? {
+            world.agenda.put(next, Coming::Wake { node: self.name })?;
+        }
         Ok(())
     }
 }

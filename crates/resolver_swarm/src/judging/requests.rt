@@ -1,0 +1,112 @@
+//! The requests of a node that have no answer.
+
+ghost use Rattle.std.specs.Prelude.{◌≡◌, length, None, Some, OnOk};
+ghost use Rattle.std.specs.Ordering.{nat_cmp};
+ghost use Rattle.std.specs.BTreeMap.{get};
+
+use crate::height::Height;
+use std::alloc::{AllocError, Global};
+use std::collections::{BTreeMap, BTreeSet};
+
+/// A request without an answer.
+#[derive(Clone, Copy, Debug, PartialEq, Eq)]
+pub struct Asked {
+    pub key: Height,
+    pub peer: u16,
+    /// When its time is over, in nanoseconds.
+    pub deadline: u128,
+}
+
+/// The requests without an answer. A call takes time logarithmic in how many there are.
+#[derive(Drop)]
+pub struct Requests {
+    by_id: BTreeMap<u64, Asked>,
+    /// Their deadlines, each with the id of its request.
+    deadlines: BTreeSet<(u128, u64)>,
+    keys: BTreeSet<Height>,
+    /// How many each peer has that was asked.
+    loads: BTreeMap<u16, u64>,
+}
+
+impl Requests {
+    /// Nobody was asked.
+    pub fn new(alloc: Global) -> Requests {
+        Requests {
+            by_id: BTreeMap::new(alloc),
+            deadlines: BTreeSet::new(alloc),
+            keys: BTreeSet::new(alloc),
+            loads: BTreeMap::new(alloc),
+        }
+    }
+
+    /// How many there are.
+    pub fn len(&self) -> usize
+        ensures { result ≡ length self.now.by_id.entries }
+    {
+        self.by_id.len()
+    }
+
+    /// Whether there is none.
+    pub fn is_empty(&self) -> bool {
+        self.by_id.is_empty()
+    }
+
+    /// The request of this id.
+    pub fn get(&self, id: u64) -> Option<Asked>
+        ensures { result ≡ get nat_cmp self.now.by_id id }
+    {
+        self.by_id.get(&id).copied()
+    }
+
+    /// Whether a key is asked for.
+    pub fn has_key(&self, key: Height) -> bool {
+        self.keys.contains(&key)
+    }
+
+    /// How many a peer has.
+    pub fn load(&self, peer: u16) -> u64 {
+        self.loads.get(&peer).copied().unwrap_or(0)
+    }
+
+    /// When the time of the first one is over, and its id. Of equal moments the smaller id is first.
+    pub fn first(&self) -> Option<(u128, u64)> {
+        self.deadlines.first().copied()
+    }
+
+    /// A request is sent under this id.
+    pub fn put(&mut self, id: u64, asked: Asked) -> Result<(), AllocError>
+        ensures { OnOk result (get nat_cmp self.new.by_id id ≡ Some asked) }
+    {
+        self.by_id.insert(id, asked)?;
+        self.deadlines.insert((asked.deadline, id))?;
+        self.keys.insert(asked.key)?;
+        let load = self.load(asked.peer).saturating_add(1);
+        self.loads.insert(asked.peer, load)?;
+        Ok(())
+    }
+
+    /// The request of this id ends, if there is one.
+    pub fn remove(&mut self, id: u64) -> Option<Asked>
+        ensures removed { result ≡ get nat_cmp self.old.by_id id }
+        ensures ended { get nat_cmp self.new.by_id id ≡ None }
+    {
+        let asked = self.by_id.remove(&id)?;
+        self.deadlines.remove(&(asked.deadline, id));
+        self.keys.remove(&asked.key);
+        self.unload(asked.peer);
+        Some(asked)
+    }
+
+    /// A peer has one less.
+    fn unload(&mut self, peer: u16)
+        ensures { self.new.by_id ≡ self.old.by_id }
+    {
+        let left = self.load(peer).saturating_sub(1);
+        match self.loads.get_mut(&peer) {
+            Some(load) if left > 0 => *load = left,
+            _ => {
+                self.loads.remove(&peer);
+            }
+        }
+    }
+}
