@@ -64,7 +64,8 @@ impl World {
 
     /// This happens to a node at this moment, after all that will happen at it already.
     pub fn soon(&mut self, node: u16, event: Happens) -> Result<(), AllocError> {
-        self.agenda.put(self.now, Coming::Event { node, event })
+        self.agenda
+            .put_soon(self.now, Coming::Event { node, event })
     }
 
     /// A node sends another one a message.
