@@ -4,13 +4,14 @@
 
 pub mod endings;
 pub mod kept;
-mod machine;
-mod opaque;
+pub mod machine;
+pub mod opaque;
 pub mod peer;
-mod peers;
+pub mod peers;
 mod planning;
 mod print;
 pub mod replay;
-mod script;
+pub mod script;
+pub mod session;
 
 pub use script::{Why, Wrong};

@@ -2,21 +2,24 @@
 
 use crate::endings::Fault;
 use crate::kept::Kept;
-use crate::machine::Fed;
+use crate::machine::Turn;
 use crate::planning::items_of;
 use crate::print;
-use crate::script::{Said, Wish};
+use crate::script::{Said, Why, Wish};
 use bytes::Bytes;
 use resolver_base::Moment;
 use resolver_mailbox::mocks::Key;
 use resolver_messages::FetchKey;
-use resolver_opaque_actor::{Actor, Event, Input};
+use resolver_opaque_actor::{Actor, Event, Input, Row};
 use resolver_types::NonEmptyVec;
 use std::alloc::Global;
 use std::io::Write;
 
 /// What the actor is told.
 type Told = Event<Key, Bytes, u16, Kept>;
+
+/// What the actor takes.
+type Taken = Input<Key, Bytes, u16, Kept>;
 
 /// The actor that a script opened.
 pub struct Opaque {
@@ -39,21 +42,28 @@ impl Opaque {
         }
     }
 
-    /// Feeds what happened, and prints the effects or the refusal.
-    pub fn happens<W: Write>(
-        &mut self,
-        now: Moment,
-        said: Said,
-        output: &mut W,
-    ) -> Result<Fed, Fault> {
+    /// Feeds what happened.
+    pub fn happens(&mut self, now: Moment, said: Said) -> Result<Turn, Fault> {
         match event_of(self.alloc, said) {
             Ok(Some(event)) => {
                 let now = now.nanoseconds;
-                print::answer(output, self.actor.step(Input { now, event }))
+                Ok(self.step(Input { now, event }))
             }
-            Ok(None) => Ok(Fed::Elsewhere),
+            Ok(None) => Ok(Turn::Wrong(Why::OtherMachine)),
             Err(fault) => Err(fault),
         }
+    }
+
+    fn step(&mut self, input: Taken) -> Turn {
+        match self.actor.step(input) {
+            Ok(effects) => Turn::Opaque(effects),
+            Err(fault) => Turn::Refused(fault),
+        }
+    }
+
+    /// The demanded keys, in their order.
+    pub fn rows(&self) -> Result<Vec<Row<Key, u16>>, resolver_base::Fault> {
+        self.actor.rows()
     }
 
     /// Prints the rows and the wake-up.

@@ -2,12 +2,13 @@
 
 use crate::endings::Fault;
 use crate::kept::Kept;
-use crate::machine::Fed;
+use crate::machine::Turn;
 use crate::peer::Peer;
 use crate::planning::items_of;
 use crate::print;
-use crate::script::{Said, Timing, Wish};
+use crate::script::{Said, Timing, Why, Wish};
 use resolver::p2p::Core;
+use resolver::p2p::rows::Row;
 use resolver_base::Moment;
 use resolver_fetch::fetcher::{Answer, Config};
 use resolver_mailbox::mocks::Key;
@@ -54,30 +55,38 @@ impl Peers {
         }
     }
 
-    /// Feeds what happened, and prints the effects or the refusal.
-    pub fn happens<W: Write>(
-        &mut self,
-        now: Moment,
-        said: Said,
-        output: &mut W,
-    ) -> Result<Fed, Fault> {
+    /// Feeds what happened.
+    pub fn happens(&mut self, now: Moment, said: Said) -> Result<Turn, Fault> {
         match event_of(self.alloc, said) {
             Ok(Some(event)) => {
                 let now = now.nanoseconds;
-                self.step(Input::Happens(Happening { now, event }), output)
+                Ok(self.step(Input::Happens(Happening { now, event })))
             }
-            Ok(None) => Ok(Fed::Elsewhere),
+            Ok(None) => Ok(Turn::Wrong(Why::OtherMachine)),
             Err(fault) => Err(fault),
         }
     }
 
-    /// Feeds what the open scan is answered, and prints the effects or the refusal.
-    pub fn answers<W: Write>(&mut self, answer: Answer, output: &mut W) -> Result<Fed, Fault> {
-        self.step(Input::Answers(answer), output)
+    /// Feeds what the open scan is answered.
+    pub fn answers(&mut self, answer: Answer) -> Turn {
+        self.step(Input::Answers(answer))
     }
 
-    fn step<W: Write>(&mut self, input: Taken, output: &mut W) -> Result<Fed, Fault> {
-        print::answer(output, self.core.step(input))
+    fn step(&mut self, input: Taken) -> Turn {
+        match self.core.step(input) {
+            Ok(effects) => Turn::Peers(effects),
+            Err(fault) => Turn::Refused(fault),
+        }
+    }
+
+    /// The demanded keys, in their order.
+    pub fn rows(&self) -> Result<Vec<Row<Key, u16, Peer>>, resolver_base::Fault> {
+        self.core.rows()
+    }
+
+    /// When a scan may do something, if a key waits.
+    pub fn wake_up(&self) -> Option<u128> {
+        self.core.get_pending_deadline()
     }
 
     /// Prints the rows and the wake-up. Of an engine that has failed there is nothing to show.

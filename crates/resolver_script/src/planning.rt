@@ -2,7 +2,7 @@
 
 use crate::endings::Fault;
 use crate::kept::Kept;
-use crate::machine::{Fed, Machine};
+use crate::machine::{Machine, Turn};
 use crate::script::{Said, Why};
 use resolver_backfill::Plan;
 use resolver_base::Moment;
@@ -10,7 +10,6 @@ use resolver_mailbox::mocks::Key;
 use resolver_messages::FetchKey;
 use resolver_types::Fetch;
 use std::alloc::{AllocError, Global};
-use std::io::Write;
 
 /// What a line says of the plan.
 #[derive(Drop)]
@@ -43,70 +42,58 @@ impl Planning {
 
     /// Does what a line says of the plan, or says why it may not stand here. Where the machine refuses
     /// what it is fed, the plan stays as it was.
-    pub fn take<W: Write>(
+    pub fn take(
         &mut self,
         machine: &mut Machine,
         now: Moment,
         planned: Planned,
-        output: &mut W,
-    ) -> Result<Option<Why>, Fault> {
+    ) -> Result<Turn, Fault> {
         match planned {
             Planned::Open { subscriber, mark } => {
                 self.plan = Some(Plan::new(self.alloc, subscriber, mark));
-                Ok(None)
+                Ok(Turn::Quiet)
             }
-            Planned::Want(keys) => self.want(machine, now, &named(self.alloc, &keys)?, output),
-            Planned::Done(keys) => self.done(machine, now, &named(self.alloc, &keys)?, output),
+            Planned::Want(keys) => self.want(machine, now, &named(self.alloc, &keys)?),
+            Planned::Done(keys) => self.done(machine, now, &named(self.alloc, &keys)?),
         }
     }
 
     /// Feeds the machine one fetch of those of these keys that the plan didn't want, if there are some.
-    fn want<W: Write>(
-        &mut self,
-        machine: &mut Machine,
-        now: Moment,
-        keys: &[Key],
-        output: &mut W,
-    ) -> Result<Option<Why>, Fault> {
+    fn want(&mut self, machine: &mut Machine, now: Moment, keys: &[Key]) -> Result<Turn, Fault> {
         let Some(plan) = &mut self.plan else {
-            return Ok(Some(Why::Unplanned));
+            return Ok(Turn::Wrong(Why::Unplanned));
         };
         let Ok(fetches) = plan.want(keys) else {
             return Err(Fault::Memory);
         };
         if fetches.is_empty() {
-            return Ok(None);
+            return Ok(Turn::Quiet);
         }
         let new = keys_of(self.alloc, &fetches)?;
-        if machine.happens(now, Said::FetchAll(fetches), output)? != Fed::Taken {
+        let turn = machine.happens(now, Said::FetchAll(fetches))?;
+        if !turn.is_taken() {
             plan.forget(&new);
         }
-        Ok(None)
+        Ok(turn)
     }
 
     /// Feeds the machine one retain that drops the plan's subscriber from those of these keys that the
     /// plan wanted, if there are some.
-    fn done<W: Write>(
-        &mut self,
-        machine: &mut Machine,
-        now: Moment,
-        keys: &[Key],
-        output: &mut W,
-    ) -> Result<Option<Why>, Fault> {
+    fn done(&mut self, machine: &mut Machine, now: Moment, keys: &[Key]) -> Result<Turn, Fault> {
         let Some(plan) = &mut self.plan else {
-            return Ok(Some(Why::Unplanned));
+            return Ok(Turn::Wrong(Why::Unplanned));
         };
         let Ok(without) = plan.without(keys) else {
             return Err(Fault::Memory);
         };
         let Some(without) = without else {
-            return Ok(None);
+            return Ok(Turn::Quiet);
         };
-        let said = Said::Retain(Kept::Without(without));
-        if machine.happens(now, said, output)? == Fed::Taken {
+        let turn = machine.happens(now, Said::Retain(Kept::Without(without)))?;
+        if turn.is_taken() {
             plan.forget(keys);
         }
-        Ok(None)
+        Ok(turn)
     }
 }
 

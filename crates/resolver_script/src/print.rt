@@ -4,7 +4,7 @@ pub mod opaque;
 pub mod peers;
 
 use crate::endings::{Fault, written};
-use crate::machine::Fed;
+use crate::machine::Turn;
 use bytes::Bytes;
 use itoa::Buffer;
 use resolver_mailbox::mocks::Key;
@@ -32,19 +32,13 @@ fn each<T: Lined, W: Write>(output: &mut W, lines: &[T]) -> Result<(), Fault> {
     Ok(())
 }
 
-/// Prints the effects of a step, or its refusal.
-pub fn answer<T: Lined + Drop, W: Write>(
-    output: &mut W,
-    answered: Result<Vec<T>, resolver_base::Fault>,
-) -> Result<Fed, Fault> {
-    let (fed, printed) = match &answered {
-        Ok(effects) => (Fed::Taken, each(output, effects.as_slice())),
-        Err(fault) => (Fed::Refused, refusal(output, *fault)),
-    };
-    drop(answered);
-    match printed {
-        Ok(()) => Ok(fed),
-        Err(fault) => Err(fault),
+/// Prints the effects or the refusal that came of a command, if the machine was fed.
+pub fn turn<W: Write>(output: &mut W, turn: &Turn) -> Result<(), Fault> {
+    match turn {
+        Turn::Opaque(effects) => each(output, effects.as_slice()),
+        Turn::Peers(effects) => each(output, effects.as_slice()),
+        Turn::Refused(fault) => refusal(output, *fault),
+        Turn::Quiet | Turn::Show | Turn::Wrong(_) => Ok(()),
     }
 }
 

@@ -1,34 +1,12 @@
 //! A script from its first line to its last.
 
 use crate::endings::{Ending, Fault, Place, written};
-use crate::machine::{Fed, Machine};
-use crate::opaque::Opaque;
-use crate::peers::Peers;
-use crate::planning::Planning;
 use crate::script::{Command, Rejected, Why, Wrong, is_skipped, parse};
+use crate::session::Session;
 use log::{Log, trace};
 use memchr::memchr;
-use resolver_base::Moment;
 use std::alloc::Global;
 use std::io::{BufRead, BufReader, ErrorKind, Read, Write};
-use std::mem;
-
-/// The machine that a script opened, the moment of its next input, and the plan.
-struct Session {
-    machine: Machine,
-    now: Moment,
-    planning: Planning,
-}
-
-impl Drop for Session {
-    fn drop(self) {
-        let Self {
-            machine: _,
-            now: _,
-            planning: _,
-        } = self;
-    }
-}
 
 /// Reads the script, feeds its inputs one after another, and prints what comes of each before more
 /// input is waited for. What was printed before a fault is written, too. The number of each line that is
@@ -39,14 +17,23 @@ pub fn run<L: Log, R: Read, W: Write>(
     input: &mut BufReader<R>,
     output: &mut W,
 ) -> Result<Ending, Fault> {
-    let mut script = Script {
-        alloc,
-        session: None,
-    };
-    let mut line = Vec::new(alloc);
-    let ended = take_lines(log, alloc, &mut script, input, &mut line, output);
-    drop(line);
+    let mut script = Session::new(alloc);
+    let ended = feed(log, alloc, &mut script, input, output);
     drop(script);
+    ended
+}
+
+/// Has each command of a script done, one after another, as `run` does.
+pub fn feed<S: Commanded, L: Log, R: Read, W: Write>(
+    log: &L,
+    alloc: Global,
+    script: &mut S,
+    input: &mut BufReader<R>,
+    output: &mut W,
+) -> Result<Ending, Fault> {
+    let mut line = Vec::new(alloc);
+    let ended = take_lines(log, alloc, script, input, &mut line, output);
+    drop(line);
     let flushed = written(output.flush());
     let ending = ended?;
     flushed?;
@@ -54,36 +41,24 @@ pub fn run<L: Log, R: Read, W: Write>(
 }
 
 /// What commands are done to.
-trait Commanded {
+pub trait Commanded {
     /// Does what a command says, or says why it may not stand here.
     fn command<W: Write>(&mut self, command: Command, output: &mut W) -> Result<Option<Why>, Fault>;
 }
 
-/// A script, from before its machine is opened on.
-struct Script {
-    alloc: Global,
-    session: Option<Session>,
-}
-
-impl Drop for Script {
-    fn drop(self) {
-        let Self {
-            alloc: _,
-            session: _,
-        } = self;
-    }
-}
-
-impl Commanded for Script {
+impl Commanded for Session {
     fn command<W: Write>(
         &mut self,
         command: Command,
         output: &mut W,
     ) -> Result<Option<Why>, Fault> {
-        let session = &mut self.session;
-        match session {
-            None => Ok(start(self.alloc, session, command)),
-            Some(session) => session.take(command, output),
+        let turn = self.take(command)?;
+        let printed = self.print(&turn, output);
+        let why = turn.why();
+        drop(turn);
+        match printed {
+            Ok(()) => Ok(why),
+            Err(fault) => Err(fault),
         }
     }
 }
@@ -176,50 +151,5 @@ fn take_line<S: Commanded, L: Log, W: Write>(
         },
         Err(Rejected::Unreadable(wrong)) => Ok(Some(wrong)),
         Err(Rejected::OutOfMemory) => Err(Fault::Memory),
-    }
-}
-
-/// Opens the machine, or says why the line is another command.
-fn start(alloc: Global, session: &mut Option<Session>, command: Command) -> Option<Why> {
-    let machine = match command {
-        Command::Opaque { delay } => Machine::Opaque(Opaque::new(alloc, delay)),
-        Command::Peers(timing) => Machine::Peers(Peers::new(alloc, timing)),
-        _ => return Some(Why::Unopened),
-    };
-    let opened = Session {
-        machine,
-        now: Moment { nanoseconds: 0 },
-        planning: Planning::new(alloc),
-    };
-    drop(mem::replace(session, Some(opened)));
-    None
-}
-
-impl Session {
-    /// Does what a command says, or says why it may not stand here.
-    fn take<W: Write>(&mut self, command: Command, output: &mut W) -> Result<Option<Why>, Fault> {
-        let fed = match command {
-            Command::Opaque { .. } | Command::Peers(_) => return Ok(Some(Why::Opened)),
-            Command::At(moment) => {
-                self.now = moment;
-                return Ok(None);
-            }
-            Command::Show => return self.machine.show(output),
-            Command::Plans(planned) => {
-                let Self {
-                    machine,
-                    now,
-                    planning,
-                } = self;
-                return planning.take(machine, *now, planned, output);
-            }
-            Command::Happens(said) => self.machine.happens(self.now, said, output),
-            Command::Answers(answer) => self.machine.answers(answer, output),
-        };
-        match fed {
-            Ok(Fed::Taken | Fed::Refused) => Ok(None),
-            Ok(Fed::Elsewhere) => Ok(Some(Why::OtherMachine)),
-            Err(fault) => Err(fault),
-        }
     }
 }
