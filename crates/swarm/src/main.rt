@@ -29,7 +29,7 @@ fn run(rt: &(impl AllocGlobal + Env + Eprint + Files + Print)) -> anyhow::Result
     let words: Vec<String> = env::args(rt)?.collect(rt.alloc())?;
     let usual = usual_numbers(rt.alloc())?;
     match read(rt.alloc(), words.as_slice(), usual.as_slice())? {
-        Wanted::Run(settings) => show(rt, settings),
+        Wanted::Run(settings, timeline) => show(rt, settings, timeline),
         Wanted::Sweep(sweeping, settings, file) => show_sweep(rt, &sweeping, settings, file),
         Wanted::Nothing(refusal) => {
             refusal.print(rt)?;

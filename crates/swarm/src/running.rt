@@ -1,17 +1,33 @@
 //! Runs, and what is printed of them.
 
+use crate::words::Timeline;
 use anyhow::Result;
+use resolver_script::endings::Ending;
 use resolver_swarm::plot::{Point, picture};
 use resolver_swarm::report::Report;
 use resolver_swarm::settings::Settings;
 use resolver_swarm::swarm::Swarm;
 use resolver_swarm::sweep::{Head, Line, Sweep};
+use resolver_timeline::svg;
+use resolver_timeline_script::reading::read;
 use std::fs;
+use std::io::BufReader;
 use std::rt::Files;
 
-/// Runs a swarm, and prints how far it is, now and then, and how it went.
-pub fn show(rt: &(impl AllocGlobal + Print), settings: Settings) -> Result<u8> {
-    let mut swarm = Swarm::new(rt.alloc(), settings)?;
+/// Runs a swarm, prints how far it is, now and then, and how it went, and draws a node's run where that is wanted.
+pub fn show(
+    rt: &(impl AllocGlobal + Eprint + Files + Print),
+    settings: Settings,
+    timeline: Option<Timeline<'_>>,
+) -> Result<u8> {
+    let recorded = timeline.map(|timeline| timeline.node);
+    let mut swarm = Swarm::new(
+        rt.alloc(),
+        Settings {
+            recorded,
+            ..settings
+        },
+    )?;
     for _ in 0..u64::MAX {
         let Some(progress) = swarm.advance()? else {
             break;
@@ -19,7 +35,31 @@ pub fn show(rt: &(impl AllocGlobal + Print), settings: Settings) -> Result<u8> {
         rt.println(progress)?;
     }
     rt.print(swarm.report()?)?;
+    if let Some(timeline) = timeline {
+        draw(rt, swarm.script().unwrap_or(""), timeline)?;
+    }
     accuse(rt, &swarm, settings)
+}
+
+/// Draws a node's run in a file. Where its script has a number past those of scripts, it says so, and draws nothing.
+fn draw(
+    rt: &(impl AllocGlobal + Eprint + Files),
+    script: &str,
+    timeline: Timeline<'_>,
+) -> Result<()> {
+    let mut input = BufReader::new(rt.alloc(), script.as_bytes())?;
+    let (run, ending) = read(rt.alloc(), &mut input)?;
+    match ending {
+        Ending::End => {
+            let drawn = svg::picture(rt.alloc(), &run, false)?;
+            fs::write(rt, timeline.file, drawn.as_str())?;
+        }
+        Ending::Unreadable(place) => {
+            let node = timeline.node;
+            eprintln!(rt; "node {node} can't be drawn, {place}")?;
+        }
+    }
+    Ok(())
 }
 
 /// Prints what is wrong with a node and its script, if one is wrong. The status of the program.

@@ -6,11 +6,18 @@ use resolver_swarm::sweep::Sweep;
 use resolver_swarm::words::{Misread, WORDS, Word};
 use std::alloc::{AllocError, Global};
 
+/// A node whose run is drawn in a file.
+#[derive(Clone, Copy)]
+pub struct Timeline<'a> {
+    pub node: u16,
+    pub file: &'a str,
+}
+
 /// What the words want.
 #[derive(Drop)]
 pub enum Wanted<'a> {
-    /// One run.
-    Run(Settings),
+    /// One run, and a picture of a node's run, if one is named.
+    Run(Settings, Option<Timeline<'a>>),
     /// A run for each number of a sweep, and a picture in a file, if one is named.
     Sweep(Sweep, Settings, Option<&'a str>),
     /// Help, or to be told what can't be read.
@@ -62,6 +69,16 @@ fn with_sweep<'a>(alloc: Global, command: Command<'a>) -> Result<Command<'a>, Al
     command.arg(sweep)?.arg(plot)
 }
 
+/// The command with the word for a picture of a node's run.
+fn with_timeline<'a>(alloc: Global, command: Command<'a>) -> Result<Command<'a>, AllocError> {
+    let timeline = Arg::new(alloc, "timeline")
+        .long("timeline")
+        .value_names(&["NODE", "FILE"])
+        .num_args(2)
+        .help("a picture of what this node did, as SVG; of a run with up to 256 nodes and keys");
+    command.arg(timeline)
+}
+
 /// The command, with all words.
 fn command<'a>(alloc: Global, usual: &'a [String]) -> Result<Command<'a>, AllocError> {
     let about = "Runs many nodes that fetch from one another, and says how long they take.";
@@ -69,7 +86,7 @@ fn command<'a>(alloc: Global, usual: &'a [String]) -> Result<Command<'a>, AllocE
     for (word, usual) in WORDS.iter().zip(usual) {
         command = with_number(alloc, command, word, usual.as_str())?;
     }
-    with_sweep(alloc, command)
+    with_timeline(alloc, with_sweep(alloc, command)?)
 }
 
 /// The settings that the words say.
@@ -87,6 +104,24 @@ fn settings_of(matches: &ArgMatches<'_>) -> Result<Settings, Misread> {
     Ok(settings)
 }
 
+/// The node that is to be drawn, if one is.
+fn timeline_of<'a>(
+    matches: &ArgMatches<'a>,
+    settings: &Settings,
+) -> Result<Option<Timeline<'a>>, Misread> {
+    let Some([node, file]) = matches.get_strs("timeline") else {
+        return Ok(None);
+    };
+    match node.parse::<u16>() {
+        Ok(node) if node < settings.nodes => Ok(Some(Timeline { node, file: *file })),
+        _ => Err(Misread::Bounds {
+            name: "timeline",
+            least: 0,
+            most: u64::from(settings.nodes).saturating_sub(1),
+        }),
+    }
+}
+
 /// What the words want, but for what `clap` can't read.
 fn meant<'a>(alloc: Global, matches: &ArgMatches<'a>) -> Result<Wanted<'a>, Misread> {
     let settings = settings_of(matches)?;
@@ -95,7 +130,7 @@ fn meant<'a>(alloc: Global, matches: &ArgMatches<'a>) -> Result<Wanted<'a>, Misr
             let sweep = Sweep::read(alloc, text)?;
             Ok(Wanted::Sweep(sweep, settings, matches.get_str("plot")))
         }
-        None => Ok(Wanted::Run(settings)),
+        None => Ok(Wanted::Run(settings, timeline_of(matches, &settings)?)),
     }
 }
 
