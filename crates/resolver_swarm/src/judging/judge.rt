@@ -203,7 +203,7 @@ impl Judge {
 
     /// Whether a key may be asked for under this id: it is wanted, neither asked for nor judged, and the id is free.
     fn may_request(&self, key: Height, id: u64) -> bool
-        ensures { IsTrue result → get nat_cmp self.now.asked.by_id id ≡ None }
+        ensures { IsTrue result → get nat_cmp self.entry.now.asked.by_id id ≡ None }
     {
         self.demand.contains(&key)
             && !self.asked.has_key(key)
