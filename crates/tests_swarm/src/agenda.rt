@@ -5,7 +5,7 @@ use resolver_swarm::agenda::Agenda;
 use std::panic::Expect;
 
 /// What happens, in order, with the nanosecond of each.
-const HAPPENS: &[(u128, &str)] = &[
+const HAPPENS: &[(u8, &str)] = &[
     (4, "first"),
     (5, "second"),
     (5, "third"),
@@ -13,8 +13,10 @@ const HAPPENS: &[(u128, &str)] = &[
     (6, "last"),
 ];
 
-fn moment(nanoseconds: u128) -> Moment {
-    Moment { nanoseconds }
+fn moment(nanoseconds: u8) -> Moment {
+    Moment {
+        nanoseconds: u128::from(nanoseconds),
+    }
 }
 
 #[test]
