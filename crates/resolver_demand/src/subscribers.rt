@@ -148,7 +148,7 @@ impl<K: Ord + Drop, S: Ord + Drop> Tracker<K, S> {
         ensures only { IfErr result (λ fault. fault ≡ OutOfMemory) }
     {
         let fresh = Subscribers::fresh(self.alloc, subscribers.into_vec())?;
-        drop(self.demand.insert(key, fresh)?);
+        self.demand.insert(key, fresh)?;
         Ok(())
     }
 
@@ -336,26 +336,20 @@ fn serve<K: Ord + Drop, S: Ord + Clone + Drop>(
     match demand.entry(key)? {
         Entry::Occupied(place) => {
             let named = Named::new(alloc, delivered)?;
-            match others(alloc, place.get(), &named) {
-                Ok(Some(rest)) => {
+            match others(alloc, place.get(), &named)? {
+                Some(rest) => {
                     place.into_mut().detach_all(&named);
-                    drop(named);
                     Ok(Some(rest))
                 }
-                Ok(None) => {
-                    drop(named);
-                    drop(place.remove());
+                None => {
+                    place.remove();
                     Ok(None)
-                }
-                Err(error) => {
-                    drop(named);
-                    Err(Fault::from(error))
                 }
             }
         }
         // Of a vacant entry that is dropped nothing says that its map is as it was.
         Entry::Vacant(place) => {
-            drop(place.insert_entry(Subscribers::new(alloc)).remove());
+            place.insert_entry(Subscribers::new(alloc)).remove();
             Ok(None)
         }
     }
@@ -372,13 +366,7 @@ fn others<S: Ord + Clone + Drop>(
         (without S.cmp named.now.list.now subscribers.now ≡ [])
         (λ list. (list ≡ without S.cmp named.now.list.now subscribers.now) × (0 < length list))) }
 {
-    match NonEmptyVec::try_from(subscribers.without(alloc, named)?) {
-        Ok(rest) => Ok(Some(rest)),
-        Err(none) => {
-            drop(none);
-            Ok(None)
-        }
-    }
+    Ok(NonEmptyVec::try_from(subscribers.without(alloc, named)?).ok())
 }
 
 /// The keys that have no subscriber that is kept.

@@ -136,7 +136,6 @@ impl<
             → ForSome self.old.book (λ book. book.next_handle + 1 < 2 ^ 64)) }
     {
         if self.is_closed {
-            drop(message);
             return Ok((Feedback::Closed, handle));
         }
         let (is_ok, number) = post(
@@ -269,20 +268,8 @@ fn post<
         let is_ok = place(ready, pending, capacity, message)?;
         return Ok((is_ok, None));
     };
-    let (number, next, copy) = match prepare(book, handle, &message, alloc) {
-        Ok(prepared) => prepared,
-        Err(fault) => {
-            drop(message);
-            return Err(fault);
-        }
-    };
-    let is_ok = match place(ready, pending, capacity, message) {
-        Ok(is_ok) => is_ok,
-        Err(fault) => {
-            drop(copy);
-            return Err(fault);
-        }
-    };
+    let (number, next, copy) = prepare(book, handle, &message, alloc)?;
+    let is_ok = place(ready, pending, capacity, message)?;
     book.put(number, next, copy, is_ok);
     Ok((is_ok, Some(number)))
 }

@@ -71,44 +71,21 @@ impl<K: Ord + Drop, P: Ord + Drop> Cursor<K, P> {
     pub fn into_trying(self) -> Trying<K, P>
         ensures { result ≡ self.trying }
     {
-        let Cursor {
-            trail,
-            trying,
-            expects,
-            ..
-        } = self;
-        drop(trail);
-        drop(expects);
-        trying
+        self.trying
     }
 
     /// What it tried in vain. The rest is dropped.
     pub fn into_trail(self) -> Trail<K, P>
         ensures { result ≡ self.trail }
     {
-        let Cursor {
-            trail,
-            trying,
-            expects,
-            ..
-        } = self;
-        drop(trying);
-        drop(expects);
-        trail
+        self.trail
     }
 
     /// What it tried in vain, and what it tries.
     pub fn into_tries(self) -> (Trail<K, P>, Trying<K, P>)
         ensures { result ≡ (self.trail, self.trying) }
     {
-        let Cursor {
-            trail,
-            trying,
-            expects,
-            ..
-        } = self;
-        drop(expects);
-        (trail, trying)
+        (self.trail, self.trying)
     }
 }
 

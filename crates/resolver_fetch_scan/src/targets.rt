@@ -111,13 +111,8 @@ impl<P: Ord + Drop> Targets<P> {
         ensures { IfOk result (λ targets. targets ≡ with_targets P.cmp [] peers.items) }
     {
         let mut targets = Targets::new(alloc);
-        match targets.join(peers) {
-            Ok(()) => Ok(targets),
-            Err(failed) => {
-                drop(targets);
-                Err(failed)
-            }
-        }
+        targets.join(peers)?;
+        Ok(targets)
     }
 
     /// Puts this peer last if it isn't there yet.

@@ -204,7 +204,7 @@ fn note<K: Ord + Drop, P: Drop>(
     }
     let mut first = Vec::new(alloc);
     first.push(peer)?;
-    drop(peers.insert(key, first)?);
+    peers.insert(key, first)?;
     Ok(())
 }
 

@@ -306,7 +306,6 @@ pub fn whole<T: Drop>(one: T, rest: &[u8]) -> Result<T, Misread>
     if rest.is_empty() {
         Ok(one)
     } else {
-        drop(one);
         Err(Misread::Misspelled)
     }
 }

@@ -67,10 +67,7 @@ pub(super) fn put<K: Ord + Clone + Drop, S: Ord + Clone + Drop, M: Metadata + Dr
     ensures only { IfErr result (λ fault. fault ≡ OutOfMemory) }
 {
     let Some(place) = places.get(&item.key) else {
-        if let Err(error) = make_place(batch, places, &item.key) {
-            drop(item);
-            return Err(error.into());
-        }
+        make_place(batch, places, &item.key)?;
         batch.push_reserved(item);
         return Ok(None);
     };

@@ -48,10 +48,7 @@ pub fn listed<K: Ord + Clone + Drop, V: Drop, S: Ord + Clone + Drop>(
         let Some((_, entry)) = rest.next() else {
             return Ok(list);
         };
-        if let Err(failed) = add_row(&mut list, alloc, key, subscribers, entry) {
-            drop(list);
-            return Err(Fault::from(failed));
-        }
+        add_row(&mut list, alloc, key, subscribers, entry)?;
     }
     Ok(list)
 }
@@ -73,10 +70,7 @@ fn add_row<K: Clone + Drop, V, S: Ord + Clone + Drop>(
     let Ok(subscribers) = NonEmptyVec::try_from(subscribers.copied(alloc)?) else {
         unreachable!()
     };
-    let Ok(key) = key.clone() else {
-        drop(subscribers);
-        return Err(AllocError);
-    };
+    let key = key.clone()?;
     Ok(list.push(Row {
         key,
         subscribers,

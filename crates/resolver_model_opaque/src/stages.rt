@@ -126,13 +126,7 @@ impl<K: Ord + Drop, S: Drop, V: Drop> Stages<K, S, V> {
         ensures err { OnErr result (self.new ≡ self.old) }
         ensures only { IfErr result (λ fault. fault ≡ refusal_at self.old.next_attempt) }
     {
-        let attempt = match lead(&mut self.asked, &self.attempts, &key) {
-            Ok(attempt) => attempt,
-            Err(fault) => {
-                drop(key);
-                return Err(fault);
-            }
-        };
+        let attempt = lead(&mut self.asked, &self.attempts, &key)?;
         let asked = self.entries.insert_new(key, Stage::Asked { attempt });
         if let Err(fault) = asked {
             self.asked.remove(attempt);

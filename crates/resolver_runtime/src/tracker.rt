@@ -210,16 +210,13 @@ where
         let Some(number) = self.numbers.peek() else {
             return self.entries.deliver(delivery, context, value);
         };
-        if let Err(fault) = hand_over(
+        hand_over(
             &mut self.consumer,
             &mut self.verdicts,
             number,
             &delivery,
             &value,
-        ) {
-            drop((delivery, context, value));
-            return Err(fault);
-        }
+        )?;
         let begun = self.entries.deliver(delivery, context, value);
         self.settle(number, begun.is_ok());
         begun
@@ -246,16 +243,13 @@ where
         let Some(response) = self.entries.response(&delivery.key) else {
             unreachable!()
         };
-        if let Err(fault) = hand_over(
+        hand_over(
             &mut self.consumer,
             &mut self.verdicts,
             number,
             &delivery,
             &response.value,
-        ) {
-            drop(delivery);
-            return Err(fault);
-        }
+        )?;
         let begun = self.entries.redeliver(delivery);
         self.settle(number, begun.is_ok());
         begun

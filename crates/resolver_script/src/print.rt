@@ -48,12 +48,8 @@ pub fn rows<T: Lined + Drop, W: Write>(
     rows: Vec<T>,
     deadline: Option<u128>,
 ) -> Result<(), Fault> {
-    let printed = each(output, rows.as_slice());
-    drop(rows);
-    match printed {
-        Ok(()) => wake(output, deadline),
-        Err(fault) => Err(fault),
-    }
+    each(output, rows.as_slice())?;
+    wake(output, deadline)
 }
 
 /// Prints the wake-up as one line.

@@ -18,9 +18,7 @@ pub fn run<L: Log, R: Read, W: Write>(
     output: &mut W,
 ) -> Result<Ending, Fault> {
     let mut script = Session::new(alloc);
-    let ended = feed(log, alloc, &mut script, input, output);
-    drop(script);
-    ended
+    feed(log, alloc, &mut script, input, output)
 }
 
 /// Has each command of a script done, one after another, as `run` does.
@@ -33,7 +31,6 @@ pub fn feed<S: Commanded, L: Log, R: Read, W: Write>(
 ) -> Result<Ending, Fault> {
     let mut line = Vec::new(alloc);
     let ended = take_lines(log, alloc, script, input, &mut line, output);
-    drop(line);
     let flushed = written(output.flush());
     let ending = ended?;
     flushed?;
@@ -53,13 +50,8 @@ impl Commanded for Session {
         output: &mut W,
     ) -> Result<Option<Why>, Fault> {
         let turn = self.take(command)?;
-        let printed = self.print(&turn, output);
-        let why = turn.why();
-        drop(turn);
-        match printed {
-            Ok(()) => Ok(why),
-            Err(fault) => Err(fault),
-        }
+        self.print(&turn, output)?;
+        Ok(turn.why())
     }
 }
 

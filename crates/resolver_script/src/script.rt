@@ -171,7 +171,6 @@ fn read_fields(alloc: Global, fields: &mut Fields<'_>) -> Result<Command, Unread
     if read.is_err() || fields.next().is_none() {
         return read;
     }
-    drop(read);
     Err(Unread::Unreadable(Why::TooMany))
 }
 

@@ -99,7 +99,7 @@ fn start(alloc: Global, opened: &mut Option<Opened>, command: Command) -> Turn {
         now: Moment { nanoseconds: 0 },
         planning: Planning::new(alloc),
     };
-    drop(mem::replace(opened, Some(new)));
+    *opened = Some(new);
     Turn::Quiet
 }
 

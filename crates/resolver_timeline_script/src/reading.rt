@@ -15,7 +15,6 @@ pub fn read<R: Read>(alloc: Global, input: &mut BufReader<R>) -> Result<(Run, En
     let mut recorder = Recorder::new(alloc);
     let silent: Option<Memory> = None;
     let ending = feed(&silent, alloc, &mut recorder, input, &mut io::sink());
-    drop(silent);
     let run = recorder.finish()?;
     Ok((run, ending?))
 }

@@ -49,9 +49,7 @@ impl Commanded for Recorder {
         let turn = self.session.take(command)?;
         let why = turn.why();
         self.at.line = self.at.line.saturating_add(1);
-        let noted = self.note(&cause, &turn);
-        drop((cause, turn));
-        noted?;
+        self.note(&cause, &turn)?;
         Ok(why)
     }
 }
@@ -74,15 +72,9 @@ impl Recorder {
 
     /// What happened, up to the end of the script.
     pub fn finish(self) -> Result<Run, AllocError> {
-        let Recorder {
-            mut run,
-            session,
-            at,
-            ..
-        } = self;
-        let moment = session.now();
-        let line = at.line.saturating_add(1);
-        drop(session);
+        let moment = self.session.now();
+        let line = self.at.line.saturating_add(1);
+        let mut run = self.run;
         run.close(At { moment, line })?;
         Ok(run)
     }

@@ -224,21 +224,16 @@ impl<
         let (sender, receiver) = network;
         let peers = Peers::new(peer_provider, blocker);
         let asking = Asking { sender, draws };
-        match Hands::new(alloc, peers, consumer, producer, asking) {
-            Ok(hands) => Ok(Loop {
-                core,
-                shown,
-                mail,
-                hands,
-                receiver,
-                clock,
-                watcher,
-            }),
-            Err(fault) => {
-                drop((core, shown, mail, receiver, clock, watcher));
-                Err(fault)
-            }
-        }
+        let hands = Hands::new(alloc, peers, consumer, producer, asking)?;
+        Ok(Loop {
+            core,
+            shown,
+            mail,
+            hands,
+            receiver,
+            clock,
+            watcher,
+        })
     }
 }
 

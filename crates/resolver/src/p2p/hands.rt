@@ -76,21 +76,15 @@ where
     ) -> Result<Self, Fault>
         ensures only { IfErr result (λ fault. fault ≡ OutOfMemory) }
     {
-        match judging_and_serving(alloc, consumer, producer) {
-            Ok((judging, serving)) => Ok(Hands {
-                alloc,
-                peers,
-                judging,
-                serving,
-                asking,
-                answer: None,
-                is_starved: false,
-            }),
-            Err(fault) => {
-                drop((peers, asking));
-                Err(fault)
-            }
-        }
+        Ok(Hands {
+            alloc,
+            peers,
+            judging: Judging::new(alloc, consumer)?,
+            serving: Serving::new(alloc, producer)?,
+            asking,
+            answer: None,
+            is_starved: false,
+        })
     }
 
     /// The end, where memory was refused outside the core, or what is new of the peers.
@@ -145,31 +139,6 @@ where
                 source: _,
             } => {}
             Effect::Block { response: _, peer } => self.peers.block(&peer),
-        }
-    }
-}
-
-/// With nothing judged and nothing looked for.
-fn judging_and_serving<C: Consumer + Drop, O: Producer + Drop>(
-    alloc: Global,
-    consumer: C,
-    producer: O,
-) -> Result<(Judging<C>, Serving<O>), Fault>
-where
-    C::Outcome: Drop,
-    ensures only { IfErr result (λ fault. fault ≡ OutOfMemory) }
-{
-    match Serving::new(alloc, producer) {
-        Ok(serving) => match Judging::new(alloc, consumer) {
-            Ok(judging) => Ok((judging, serving)),
-            Err(fault) => {
-                drop(serving);
-                Err(fault)
-            }
-        },
-        Err(fault) => {
-            drop(consumer);
-            Err(fault)
         }
     }
 }

@@ -117,14 +117,8 @@ impl<K: Span + Drop, P: Ord + Clone + Drop, S: Ord + Clone + Drop, Q: Predicate<
     {
         match self.status {
             Status::Running => {}
-            Status::Ended => {
-                drop(input);
-                return Err(Fault::Ended);
-            }
-            Status::Failed => {
-                drop(input);
-                return Err(Fault::Failed);
-            }
+            Status::Ended => return Err(Fault::Ended),
+            Status::Failed => return Err(Fault::Failed),
         }
         let ends = is_end(&input);
         let mut effects = Vec::new(self.parts.alloc);
@@ -137,7 +131,6 @@ impl<K: Span + Drop, P: Ord + Clone + Drop, S: Ord + Clone + Drop, Q: Predicate<
                 Ok(effects)
             }
             Err(fault) => {
-                drop(effects);
                 self.counted = before;
                 if is_final(fault) {
                     self.status = Status::Failed;

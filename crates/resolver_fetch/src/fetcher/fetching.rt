@@ -119,7 +119,7 @@ impl<K: Span + Drop, P: PublicKey + Drop> Fetcher<K, P> {
     fn give_up(&mut self)
         ensures { self.new ≡ given_up self.old }
     {
-        drop(self.cursor.take());
+        self.cursor = None;
         self.pending.wake();
     }
 }

@@ -24,7 +24,6 @@ use resolver_sampling::score::Score;
 use std::alloc::{AllocError, Global};
 use std::collections::{BTreeMap, BTreeSet};
 use std::marker::Model;
-use std::mem;
 use std::num::NonZeroU32;
 
 /// The latest set of peers with their scores, the local name, the peers that are blocked, and how
@@ -290,7 +289,7 @@ impl<P: Ord + Drop> Peers<P> {
         requires whole { IsWhole P.cmp (known_by P.cmp self.old) pool }
         ensures same { self.new ≡ self.old }
     {
-        drop(mem::replace(&mut self.pool, pool));
+        self.pool = pool;
     }
 
     /// Those that are drawn from for a key with these targets: where it has none those at hand, if
@@ -367,8 +366,8 @@ impl<P: Ord + Drop> Peers<P> {
     {
         let set = rated(self.alloc, &self.set, peers)?;
         self.allowed = count_askable(&self.local, &set, &self.blocked, &self.load);
-        drop(mem::replace(&mut self.set, set));
-        drop(self.pool.take());
+        self.set = set;
+        self.pool = None;
         Ok(())
     }
 
@@ -388,8 +387,8 @@ impl<P: Ord + Drop> Peers<P> {
     {
         let blocked = distinct(self.alloc, peers)?;
         self.allowed = count_askable(&self.local, &self.set, &blocked, &self.load);
-        drop(mem::replace(&mut self.blocked, blocked));
-        drop(self.pool.take());
+        self.blocked = blocked;
+        self.pool = None;
         Ok(())
     }
 

@@ -40,7 +40,6 @@ use resolver_fetch_scan::trail::{Expected, Reason, Trail};
 use resolver_fetch_scan::trying::{Next, Trying};
 use std::collections::BTreeMap;
 use std::collections::btree_set::Range;
-use std::mem;
 
 impl<K: Ord + Clone + Drop, P: Ord + Clone + Drop> Fetcher<K, P> {
     /// Begins a scan at this moment, where none is open, and says what it asks; nothing where it is
@@ -155,14 +154,13 @@ impl<K: Ord + Clone + Drop, P: Ord + Clone + Drop> Fetcher<K, P> {
     {
         match ask_for(self.priority_requests, &cursor.trying, &expected) {
             Ok(ask) => {
-                drop(mem::replace(&mut cursor.expects, expected));
+                cursor.expects = expected;
                 keep(&mut self.cursor, cursor);
                 self.last_id = last_id;
                 self.pending.wake();
                 Ok(Some(ask))
             }
             Err(fault) => {
-                drop(expected);
                 keep(&mut self.cursor, cursor);
                 Err(fault)
             }
@@ -365,7 +363,6 @@ impl<K: Ord + Clone + Drop, P: Ord + Clone + Drop> Fetcher<K, P> {
                 Some(Ask::Draw(bound))
             }
             Next::Wait(other) => {
-                drop(trail);
                 self.pending.sleep(moment, other);
                 None
             }
@@ -521,7 +518,6 @@ impl<K: Ord + Clone + Drop, P: Ord + Clone + Drop> Fetcher<K, P> {
             if trying.count() > 0 {
                 return Ok(Some(trying));
             }
-            drop(trying);
         }
         Ok(None)
     }
@@ -571,10 +567,7 @@ impl<K: Ord + Clone + Drop, P: Ord + Clone + Drop> Fetcher<K, P> {
     {
         let mut pool = self.peers_for(key, at_hand)?;
         for peer in trail.tried(key) {
-            if let Err(fault) = pool.forget(peer) {
-                drop(pool);
-                return Err(fault);
-            }
+            pool.forget(peer)?;
         }
         Ok(pool)
     }
@@ -633,18 +626,11 @@ fn send<K: Ord + Clone + Drop, P: Ord + Clone + Drop>(
         return Ok(None);
     }
     let name = peer.clone()?;
-    let fills = match peers.sent(&name) {
-        Ok(fills) => fills,
-        Err(fault) => {
-            drop((name, peer));
-            return Err(fault);
-        }
-    };
+    let fills = peers.sent(&name)?;
     match put_request(requests, cursor, peer, id, timeout) {
         Ok(()) => Ok(fills.then_some(name)),
         Err(fault) => {
             peers.freed(&name);
-            drop(name);
             Err(fault)
         }
     }
@@ -664,11 +650,9 @@ fn keep_pool<K: Ord + Drop, P: Ord + Drop>(
     ensures { peers.new ≡ peers.old }
 {
     if targets.contains_key(&trying.pair.1) {
-        drop((trying, sent));
         return;
     }
-    let Trying { pair, mut pool, .. } = trying;
-    drop(pair);
+    let mut pool = trying.pool;
     resample(&mut pool, peers, sent);
     peers.put_pool(Some(pool));
 }
@@ -680,7 +664,6 @@ fn resample<P: Ord + Drop>(pool: &mut Pool<P>, peers: &Peers<P>, sent: Option<P>
     pool.restore();
     if let Some(peer) = sent {
         set_weight(pool, &peer, peers.weight(&peer));
-        drop(peer);
     }
 }
 

@@ -199,7 +199,6 @@ impl<
     {
         let share = &mut seat.share;
         if self.desk.is_closed() {
-            drop(message);
             if let Some(share) = share {
                 share.mark();
             }
@@ -285,6 +284,6 @@ fn keep<T: Drop>(
     ensures same { OnErr made (place.new ≡ place.old) }
 {
     let (feedback, value) = made?;
-    drop(place.replace(value));
+    *place = Some(value);
     Ok(feedback)
 }

@@ -92,26 +92,19 @@ fn ends<
         arrived: Source::new(),
         state: Mutex::new(state),
     };
-    match shared_by_two(alloc, shared) {
-        Ok((shared, same)) => {
-            let sender = Sender {
-                alloc,
-                shared: same,
-                seat: Seat::new(rt),
-            };
-            let receiver = Receiver {
-                rt,
-                alloc,
-                shared,
-                taken,
-            };
-            Ok((sender, receiver))
-        }
-        Err(fault) => {
-            drop(taken);
-            Err(fault)
-        }
-    }
+    let (shared, same) = shared_by_two(alloc, shared)?;
+    let sender = Sender {
+        alloc,
+        shared: same,
+        seat: Seat::new(rt),
+    };
+    let receiver = Receiver {
+        rt,
+        alloc,
+        shared,
+        taken,
+    };
+    Ok((sender, receiver))
 }
 
 /// A value that two share.

@@ -116,24 +116,11 @@ impl<
         ensures err_total { OnErr result (total.new.total ≡ total.old.total) }
         ensures only { IfErr result (λ fault. fault ≡ OutOfMemory) }
     {
-        let copy = match ready_copy(alloc, &mut self.puts, &message) {
-            Ok(copy) => copy,
-            Err(failed) => {
-                drop(message);
-                return Err(failed);
-            }
-        };
-        match desk.put(Some(self.handle), message) {
-            Ok((feedback, _)) => {
-                total.add(&mut self.part, 1);
-                self.puts.push_reserved(copy);
-                Ok(feedback)
-            }
-            Err(fault) => {
-                drop(copy);
-                Err(fault)
-            }
-        }
+        let copy = ready_copy(alloc, &mut self.puts, &message)?;
+        let (feedback, _) = desk.put(Some(self.handle), message)?;
+        total.add(&mut self.part, 1);
+        self.puts.push_reserved(copy);
+        Ok(feedback)
     }
 
     /// Puts the first message of a handle on an open recorded desk, which numbers the handle. Where
@@ -162,31 +149,19 @@ impl<
         ensures err_spare { OnErr result (spare.new.parts ≡ spare.old.parts) }
         ensures only { IfErr result (λ fault. fault ≢ OutOfMemory → fault ≡ Exhausted) }
     {
-        let puts = match first_copied(alloc, &message) {
-            Ok(puts) => puts,
-            Err(failed) => {
-                drop(message);
-                return Err(failed);
-            }
+        let puts = first_copied(alloc, &message)?;
+        let (feedback, Some(handle)) = desk.put(None, message)? else {
+            unreachable!()
         };
-        match desk.put(None, message) {
-            Ok((feedback, Some(handle))) => {
-                let mut part = spare.split_off(1, 0);
-                total.add(&mut part, 1);
-                let share = Share {
-                    handle,
-                    puts,
-                    is_closed: false,
-                    part,
-                };
-                Ok((feedback, share))
-            }
-            Ok((_, None)) => unreachable!(),
-            Err(fault) => {
-                drop(puts);
-                Err(fault)
-            }
-        }
+        let mut part = spare.split_off(1, 0);
+        total.add(&mut part, 1);
+        let share = Share {
+            handle,
+            puts,
+            is_closed: false,
+            part,
+        };
+        Ok((feedback, share))
     }
 }
 
@@ -219,14 +194,6 @@ fn first_copied<K: Faithful + Drop, S: Faithful + Drop, M: Metadata + Drop, Q: F
     ensures list { IfOk result (λ puts. map told_of puts.items ≡ told_of message.now ∷ []) }
 {
     let mut puts = Vec::with_capacity(alloc, 1)?;
-    match message.copy(alloc) {
-        Ok(copy) => {
-            puts.push_reserved(copy);
-            Ok(puts)
-        }
-        Err(failed) => {
-            drop(puts);
-            Err(failed)
-        }
-    }
+    puts.push_reserved(message.copy(alloc)?);
+    Ok(puts)
 }

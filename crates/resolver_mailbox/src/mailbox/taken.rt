@@ -111,17 +111,11 @@ impl<
             return Ok(None);
         };
         let copy = ready_copy(alloc, &mut self.items, front)?;
-        match desk.take() {
-            Ok(Some(message)) => {
-                total.add(part, 1);
-                self.items.push_reserved(copy);
-                Ok(Some(message))
-            }
-            Ok(None) => unreachable!(),
-            Err(fault) => {
-                drop(copy);
-                Err(fault)
-            }
-        }
+        let Some(message) = desk.take()? else {
+            unreachable!()
+        };
+        total.add(part, 1);
+        self.items.push_reserved(copy);
+        Ok(Some(message))
     }
 }

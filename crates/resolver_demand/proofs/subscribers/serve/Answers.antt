@@ -16,31 +16,31 @@ injective a b same = cc
 
 -- some are left
 
-there : (g : _) (c : goal.After-drop g) → lookup (is_at (g.K.Ord.cmp c.args.key)) c.args.demand.now.entries ≡ Some c.into_mut.result.now
+there : (g : _) (c : goal.After-drop-named-in-Some g) → lookup (is_at (g.K.Ord.cmp c.args.key)) c.args.demand.now.entries ≡ Some c.into_mut.result.now
 there g c = sym c.in_ok-place.ensures.value ∙ ap entry_value c.in-Occupied.is ∙ c.into_mut.ensures.value
 
-left : (g : _) (c : goal.After-drop g) → (c.in-Ok-Some.rest ≡ without g.S.Ord.cmp c.args.delivered.now c.into_mut.result.now) × (0 < length c.in-Ok-Some.rest)
+left : (g : _) (c : goal.After-drop-named-in-Some g) → (c.in-Some.rest ≡ without g.S.Ord.cmp c.args.delivered.now c.into_mut.result.now) × (0 < length c.in-Some.rest)
 left g c =
-    let others = rw c.in-Ok-Some.field-0-is at c.in-Ok-Some.ensures in
+    let others = rw c.in-Some.is at c.in_ok-rest-in-Occupied.ensures in
     let same = injective c.get.result.now c.into_mut.result.now (sym c.get.ensures ∙ c.into_mut.ensures.value) in
     (others.0 ∙ ap (λ named. without g.S.Ord.cmp named c.get.result.now) c.in_ok-named-in-Occupied.ensures ∙ ap (without g.S.Ord.cmp c.args.delivered.now) same, others.1)
 
-some : (g : _) (c : goal.After-drop g) → 0 < length (without g.S.Ord.cmp c.args.delivered.now c.into_mut.result.now)
+some : (g : _) (c : goal.After-drop-named-in-Some g) → 0 < length (without g.S.Ord.cmp c.args.delivered.now c.into_mut.result.now)
 some g c = rw (← (left g c).0) (left g c).1
 
 -- the key has what is left as its subscribers
-left_is : (g : _) (c : goal.After-drop g) → insert_entry g.K.Ord.cmp c.args.demand.now.entries c.args.key (without g.S.Ord.cmp c.args.delivered.now c.into_mut.result.now)
+left_is : (g : _) (c : goal.After-drop-named-in-Some g) → insert_entry g.K.Ord.cmp c.args.demand.now.entries c.args.key (without g.S.Ord.cmp c.args.delivered.now c.into_mut.result.now)
     ≡ set_value (is_at (g.K.Ord.cmp c.args.key)) c.args.demand.now.entries (without g.S.Ord.cmp c.args.delivered.now c.into_mut.result.now)
 left_is g c = insert_entry-there g.met.K.Ord.total c.args.key c.into_mut.result.now _ c.args.demand.now.entries c.entry.ensures.ordered (there g c)
 
 -- what is left are subscribers in their order
-left_listed : (g : _) (c : goal.After-drop g) → IsListed g.S.Ord.cmp (without g.S.Ord.cmp c.args.delivered.now c.into_mut.result.now)
+left_listed : (g : _) (c : goal.After-drop-named-in-Some g) → IsListed g.S.Ord.cmp (without g.S.Ord.cmp c.args.delivered.now c.into_mut.result.now)
 left_listed g c =
     let before = listed-of g.S.Ord.cmp (is_at (g.K.Ord.cmp c.args.key)) c.args.demand.now.entries c.into_mut.result.now c.requires.listed (there g c) in
     without-listed g.S.Ord.cmp c.args.delivered.now c.into_mut.result.now before (some g c)
 
-pub returns-in-Ok-Some-clause-ok : goal.returns-in-Ok-Some-clause-ok
-returns-in-Ok-Some-clause-ok g c =
+pub returns-in-Some-clause-ok : goal.returns-in-Some-clause-ok
+returns-in-Some-clause-ok g c =
     let m = c.args.demand.now.entries in
     let left = without g.S.Ord.cmp c.args.delivered.now c.into_mut.result.now in
     let whole = named-some (names g.K.Ord.cmp g.S.Ord.cmp) c.args.key c.args.delivered.now m c.into_mut.result.now (there g c) (some g c) in
@@ -48,15 +48,15 @@ returns-in-Ok-Some-clause-ok g c =
     = λ es is. is ∙ left_is g c ∙ sym whole in
     go _ (search rules)
 
-pub returns-in-Ok-Some-clause-rest : goal.returns-in-Ok-Some-clause-rest
-returns-in-Ok-Some-clause-rest g c = ap Some (left g c).0
+pub returns-in-Some-clause-rest : goal.returns-in-Some-clause-rest
+returns-in-Some-clause-rest g c = ap Some (left g c).0
     ∙ sym (rest-some (names g.K.Ord.cmp g.S.Ord.cmp) c.args.key c.args.delivered.now c.args.demand.now.entries c.into_mut.result.now (there g c) (some g c))
 
-pub returns-in-Ok-Some-clause-rest_listed : goal.returns-in-Ok-Some-clause-rest_listed
-returns-in-Ok-Some-clause-rest_listed g c = rw (left g c).0 (left_listed g c)
+pub returns-in-Some-clause-rest_listed : goal.returns-in-Some-clause-rest_listed
+returns-in-Some-clause-rest_listed g c = rw (left g c).0 (left_listed g c)
 
-pub returns-in-Ok-Some-clause-listed : goal.returns-in-Ok-Some-clause-listed
-returns-in-Ok-Some-clause-listed g c =
+pub returns-in-Some-clause-listed : goal.returns-in-Some-clause-listed
+returns-in-Some-clause-listed g c =
     let m = c.args.demand.now.entries in
     let left = without g.S.Ord.cmp c.args.delivered.now c.into_mut.result.now in
     let go : (es : _) → es ≡ insert_entry g.K.Ord.cmp m c.args.key left → AreListed g.S.Ord.cmp es
@@ -65,26 +65,26 @@ returns-in-Ok-Some-clause-listed g c =
 
 -- none is left
 
-found : (g : _) (c : goal.After-drop-in-Ok-None-2 g) → lookup (is_at (g.K.Ord.cmp c.args.key)) c.args.demand.now.entries ≡ Some c.get.result.now
+found : (g : _) (c : goal.After-drop-named-in-Occupied g) → lookup (is_at (g.K.Ord.cmp c.args.key)) c.args.demand.now.entries ≡ Some c.get.result.now
 found g c = sym c.in_ok-place.ensures.value ∙ ap entry_value c.in-Occupied.is ∙ c.get.ensures
 
-none : (g : _) (c : goal.After-drop-in-Ok-None-2 g) → without g.S.Ord.cmp c.args.delivered.now c.get.result.now ≡ []
-none g c = rw (← c.in_ok-named-in-Occupied.ensures) (rw c.in-Ok-None.field-0-is at c.in-Ok-None.ensures)
+none : (g : _) (c : goal.After-drop-named-in-Occupied g) → without g.S.Ord.cmp c.args.delivered.now c.get.result.now ≡ []
+none g c = rw (← c.in_ok-named-in-Occupied.ensures) (rw c.in-None.is at c.in_ok-rest-in-Occupied.ensures)
 
-pub returns-in-Ok-None-clause-ok : goal.returns-in-Ok-None-clause-ok
-returns-in-Ok-None-clause-ok g c =
+pub returns-in-Occupied-clause-ok : goal.returns-in-Occupied-clause-ok
+returns-in-Occupied-clause-ok g c =
     let m = c.args.demand.now.entries in
     let whole = named-none (names g.K.Ord.cmp g.S.Ord.cmp) c.args.key c.args.delivered.now m c.get.result.now (found g c) (none g c) in
     let go : (es : _) → es ≡ remove_entry (is_at (g.K.Ord.cmp c.args.key)) m → es ≡ without_named (names g.K.Ord.cmp g.S.Ord.cmp) c.args.key c.args.delivered.now m
     = λ es is. is ∙ sym whole in
     go _ (search rules)
 
-pub returns-in-Ok-None-clause-rest : goal.returns-in-Ok-None-clause-rest
-returns-in-Ok-None-clause-rest g c =
+pub returns-in-Occupied-clause-rest : goal.returns-in-Occupied-clause-rest
+returns-in-Occupied-clause-rest g c =
     sym (rest-none (names g.K.Ord.cmp g.S.Ord.cmp) c.args.key c.args.delivered.now c.args.demand.now.entries c.get.result.now (found g c) (none g c))
 
-pub returns-in-Ok-None-clause-listed : goal.returns-in-Ok-None-clause-listed
-returns-in-Ok-None-clause-listed g c =
+pub returns-in-Occupied-clause-listed : goal.returns-in-Occupied-clause-listed
+returns-in-Occupied-clause-listed g c =
     let m = c.args.demand.now.entries in
     let at = is_at (g.K.Ord.cmp c.args.key) in
     let go : (es : _) → es ≡ remove_entry at m → AreListed g.S.Ord.cmp es = λ es is. rw is (all-remove g.S.Ord.cmp at m c.requires.listed) in
@@ -92,11 +92,11 @@ returns-in-Ok-None-clause-listed g c =
 
 -- the key isn't there
 
-absent : (g : _) (c : goal.After-drop-in-Vacant g) → lookup (is_at (g.K.Ord.cmp c.args.key)) c.args.demand.now.entries ≡ None
+absent : (g : _) (c : goal.After-drop-remove-in-Vacant g) → lookup (is_at (g.K.Ord.cmp c.args.key)) c.args.demand.now.entries ≡ None
 absent g c = rw c.in-Vacant.is at c.in_ok-place.ensures.found
 
-pub returns-in-Vacant-clause-ok : goal.returns-in-Vacant-clause-ok
-returns-in-Vacant-clause-ok g c =
+pub returns-clause-ok : goal.returns-clause-ok
+returns-clause-ok g c =
     let m = c.args.demand.now.entries in
     let at = is_at (g.K.Ord.cmp c.args.key) in
     let whole = named-absent (names g.K.Ord.cmp g.S.Ord.cmp) c.args.key c.args.delivered.now m (absent g c) in
@@ -104,11 +104,11 @@ returns-in-Vacant-clause-ok g c =
     = λ es is. is ∙ remove_entry-absent at m (absent g c) ∙ sym whole in
     go _ (search rules)
 
-pub returns-in-Vacant-clause-rest : goal.returns-in-Vacant-clause-rest
-returns-in-Vacant-clause-rest g c = sym (rest-absent (names g.K.Ord.cmp g.S.Ord.cmp) c.args.key c.args.delivered.now c.args.demand.now.entries (absent g c))
+pub returns-clause-rest : goal.returns-clause-rest
+returns-clause-rest g c = sym (rest-absent (names g.K.Ord.cmp g.S.Ord.cmp) c.args.key c.args.delivered.now c.args.demand.now.entries (absent g c))
 
-pub returns-in-Vacant-clause-listed : goal.returns-in-Vacant-clause-listed
-returns-in-Vacant-clause-listed g c =
+pub returns-clause-listed : goal.returns-clause-listed
+returns-clause-listed g c =
     let m = c.args.demand.now.entries in
     let at = is_at (g.K.Ord.cmp c.args.key) in
     let go : (es : _) → es ≡ remove_entry at m → AreListed g.S.Ord.cmp es = λ es is. rw is (all-remove g.S.Ord.cmp at m c.requires.listed) in

@@ -1,4 +1,4 @@
-use Rattle.std.proofs.Common.{◌≡◌, ◌∙◌, ℕ, ◌+◌, ◌^◌, Bool, Option, None, Some, is_some, map, MatchOption, refl, sym, ap, rules, subst}
+use Rattle.std.proofs.Common.{◌≡◌, ◌∙◌, ℕ, Bool, Option, None, Some, sym, ap, rules}
 use Rattle.std.specs.Option.{ForSome, option_map}
 use Rattle.resolver_messages.specs.Waiting.{Told, told_of}
 use Rattle.resolver_desk.specs.declared.book.Book.{Book as Kept}
@@ -22,9 +22,6 @@ module _ {K S M Q : Type 0} where
       → Some number ≡ option_map (number_of handle) (option_map book_of was)
   some-number handle number book was is same = ap (λ (n : ℕ). Some n) same ∙ ap (λ book. option_map (number_of handle) (option_map book_of book)) (sym is)
 
-  some-same : (book now : Kept K S M Q) (was : Option (Kept K S M Q)) → was ≡ Some book → book_of now ≡ book_of book → Some (book_of now) ≡ option_map book_of was
-  some-same book now was is same = ap (λ (b : Book K S M Q). Some b) same ∙ ap (option_map book_of) (sym is)
-
   some-put : (handle : Option ℕ) (told copied : Told K S M Q) (is_ok : Bool) (number next : ℕ) (book ready now : Kept K S M Q) (was : Option (Kept K S M Q)) → was ≡ Some book
       → number ≡ number_of handle (book_of book) → next ≡ next_of handle (book_of book) → copied ≡ told → book_of ready ≡ book_of book → book_of now ≡ with_put_of number next copied is_ok (book_of ready)
       → Some (book_of now) ≡ option_map (with_put handle told is_ok) (option_map book_of was)
@@ -32,20 +29,17 @@ module _ {K S M Q : Type 0} where
       ap (λ (b : Book K S M Q). Some b) (put ∙ (λ i. with_put_of (numbered i) (follows i) (copies i) is_ok (same i)))
       ∙ ap (λ book. option_map (with_put handle told is_ok) (option_map book_of book)) (sym is)
 
-  some-last : (book : Kept K S M Q) (was : Option (Kept K S M Q)) → was ≡ Some book → book.next_handle + 1 ≡ 2 ^ 64 → MatchOption was ⊥ (λ book. book.next_handle + 1 ≡ 2 ^ 64)
-  some-last book was is last = subst (λ book. MatchOption book ⊥ (λ book. book.next_handle + 1 ≡ 2 ^ 64)) (sym is) last
-
 pub returns : goal.returns
 returns g c =
-    let placed = c.in-Ok-place.ensures in
-    let prepared = c.in-Ok.ensures in
+    let placed = c.in_ok-is_ok-2.ensures in
+    let prepared = c.in_ok-number.ensures in
     record {
       is_ok = placed.is_ok;
-      number = some-number c.args.handle c.in-Ok.prepared.0 c.in-Some.book c.args.book.now c.in-Some.is prepared.number;
+      number = some-number c.args.handle c.in_ok-number.number c.in-Some.book c.args.book.now c.in-Some.is prepared.number;
       ready = placed.ready;
       pending = placed.pending;
       right = placed.right;
-      book = some-put c.args.handle (told_of c.args.message) (told_of c.in-Ok.prepared.2) c.in-Ok-place.is_ok c.in-Ok.prepared.0 c.in-Ok.prepared.1 c.in-Some.book c.prepare.new.book c.put.new.self c.args.book.now c.in-Some.is
+      book = some-put c.args.handle (told_of c.args.message) (told_of c.in_ok-number.copy) c.in_ok-is_ok-2.is_ok c.in_ok-number.number c.in_ok-number.next c.in-Some.book c.prepare.new.book c.put.new.self c.args.book.now c.in-Some.is
           prepared.number prepared.next prepared.copy prepared.same c.put.ensures;
       capacity = placed.capacity;
       err = tt;
@@ -73,41 +67,5 @@ returns-in_default g c =
       numbers = λ new. none-some _ c.args.book.now c.in_default.is;
     }
 
-pub returns-in-Err : goal.returns-in-Err
-returns-in-Err g c =
-    let failed = c.in-Err.ensures in
-    record {
-      is_ok = tt;
-      number = tt;
-      ready = tt;
-      pending = tt;
-      right = tt;
-      book = tt;
-      capacity = refl;
-      err = (refl {a = map told_of c.args.ready.now.items}, refl {a = c.args.pending.now}, some-same c.in-Some.book c.prepare.new.book c.args.book.now c.in-Some.is failed.same);
-      full = λ room. ap is_some c.in-Some.is;
-      only = failed.only;
-      exhausted = λ exhausted. let last = failed.exhausted exhausted in (last.0, some-last c.in-Some.book c.args.book.now c.in-Some.is last.1);
-      numbers = tt;
-    }
-
-pub returns-in-Err-place : goal.returns-in-Err-place
-returns-in-Err-place g c =
-    let failed = c.in-Err-place.ensures in
-    record {
-      is_ok = tt;
-      number = tt;
-      ready = tt;
-      pending = tt;
-      right = tt;
-      book = tt;
-      capacity = failed.capacity;
-      err = (failed.err.0, failed.err.1, some-same c.in-Some.book c.prepare.new.book c.args.book.now c.in-Some.is c.in-Ok.ensures.same);
-      full = λ room. ap is_some c.in-Some.is;
-      only = λ other. absurd (other failed.only);
-      exhausted = λ exhausted. absurd (let both = sym failed.only ∙ exhausted in cc);
-      numbers = tt;
-    }
-
 pub put-requires : goal.put-requires
-put-requires g c = record { calls = c.in-Ok.ensures.calls; counts = c.in-Ok.ensures.counts }
+put-requires g c = record { calls = c.in_ok-number.ensures.calls; counts = c.in_ok-number.ensures.counts }

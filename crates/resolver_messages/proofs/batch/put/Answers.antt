@@ -26,14 +26,14 @@ pub returns-in_default-clause-placed : goal.returns-in_default-clause-placed
 returns-in_default-clause-placed g c =
     let pushed : c.push_reserved.new.self.items ≡ c.args.batch.now.items ++ c.args.item ∷ [] = search rules in
     rw (keys-pushed c.args.batch.now.items c.push_reserved.new.self.items c.args.item c.args.item.key pushed refl)
-    (c.in_default-make_place.ensures.placed (keys_of_items c.args.batch.now.items) c.requires.placed)
+    (c.in_ok-make_place.ensures.placed (keys_of_items c.args.batch.now.items) c.requires.placed)
 
 pub returns-in_default-clause-grows : goal.returns-in_default-clause-grows
 returns-in_default-clause-grows g c =
     let pushed : c.push_reserved.new.self.items ≡ c.args.batch.now.items ++ c.args.item ∷ [] = search rules in (
       c.args.item.key ∷ [],
       keys-pushed c.args.batch.now.items c.push_reserved.new.self.items c.args.item c.args.item.key pushed refl,
-      c.in_default-make_place.ensures.back,
+      c.in_ok-make_place.ensures.back,
     )
 
 -- a key that is there

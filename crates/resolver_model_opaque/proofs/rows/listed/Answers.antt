@@ -15,7 +15,7 @@ pub loop-key-preserved : goal.loop-key-preserved
 loop-key-preserved g c =
     let so_far = c.loop-key.list.items in
     let shown = listed (c.in-Some.key.now, row_of (c.in-Some.subscribers.now, c.in-Some-next.entry.now)) in
-    let pushed : c.add_row.new.list.items ≡ so_far ++ shown ∷ [] = c.in_default-add_row.ensures in
+    let pushed : c.add_row.new.list.items ≡ so_far ++ shown ∷ [] = c.in_ok-add_row.ensures in
     record {
       made =
           rw (pushed, append_assoc)

@@ -43,8 +43,8 @@ returns-in-Try-clause-asked g c =
     rw (c.from-bound.ensures, retries, c.keep.ensures, c.wake.ensures)
     (rw (← c.self.view_is) at (asks-kept o c.args.self.now c.args.moment c.args.trail c.in-Try.trying Mode c.self.inside.last_id None tries))
 
-pub invariant_of-self-in-Wait : goal.invariant_of-self-in-Wait
-invariant_of-self-in-Wait g c =
+pub invariant_of-self-in-Wait-1 : goal.invariant_of-self-in-Wait-1
+invariant_of-self-in-Wait-1 g c =
     let shut = ap is_some (ap (λ (f : Fetcher g.row.K.Denot g.row.P.Denot). f.scan) c.self.view_is) ∙ c.requires.closed in
     rw c.sleep.ensures (c.self.invariant.0, c.self.invariant.1, closed-any c.self.inside.cursor shut _)
 

@@ -31,9 +31,9 @@ loop-peer-preserved g c =
     let first : drop c.loop-peer.peer-index tried ≡ c.peer-item.result ∷ drop (c.loop-peer.peer-index + 1) tried =
     drop-first tried c.loop-peer.peer-index c.peer-item.result c.loop-peer-test.true c.peer-item.is in
     record {
-      all = ap (λ (p : Pool g.row.P.Denot). p.all) c.in_default.ensures.ok ∙ c.loop-peer.invariant.all;
+      all = ap (λ (p : Pool g.row.P.Denot). p.all) c.in_ok-forget.ensures.ok ∙ c.loop-peer.invariant.all;
       left =
-          rw c.in_default.ensures.ok
+          rw c.in_ok-forget.ensures.ok
           (untried-more g.P.Ord.cmp c.peer-item.result (drop (c.loop-peer.peer-index + 1) tried) c.loop-peer.pool.left
           ∙ ap (λ (ps : List g.row.P.Denot). untried g.P.Ord.cmp ps c.loop-peer.pool.left) (sym first)
           ∙ c.loop-peer.invariant.left);
@@ -55,8 +55,8 @@ returns-clause-ok g c =
 pub returns-clause-at_hand : goal.returns-clause-at_hand
 returns-clause-at_hand g c = c.loop-peer.invariant.at_hand
 
-pub returns-in-Err-clause-at_hand : goal.returns-in-Err-clause-at_hand
-returns-in-Err-clause-at_hand g c = c.loop-peer.invariant.at_hand
+pub returns-in_err-forget-clause-at_hand : goal.returns-in_err-forget-clause-at_hand
+returns-in_err-forget-clause-at_hand g c = c.loop-peer.invariant.at_hand
 
 pub returns-in_err-pool-clause-ok : goal.returns-in_err-pool-clause-ok
 returns-in_err-pool-clause-ok g c = refused c.from_residual.result _ _ c.from_residual.ensures.1

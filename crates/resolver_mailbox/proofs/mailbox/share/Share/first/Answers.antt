@@ -22,50 +22,36 @@ module _ {K S M Q : Type 0} where
     noted None some below all = absurd cc
     noted (Some book) some below all = let less = below book refl in omega (arith, less, all)
 
-pub unreachable-requires : goal.unreachable-requires
-unreachable-requires g c =
-    let number = first-number c.args.desk.now c.in-Ok-default-None.field-0-1 c.requires.unclosed c.requires.recorded (ap (λ answer. answer.1) c.in-Ok-default-None.ensures.answer) in
-    let none = c.in-Ok-default-None.field-0-1-is in
-    absurd cc
-
 pub split_off-part-requires-clause-has_parts : goal.split_off-part-requires-clause-has_parts
 split_off-part-requires-clause-has_parts g c =
-    part-left c.args.desk.now c.args.spare.now.parts c.requires.recorded (c.in-Ok-default-Some.ensures.numbers c.requires.unclosed refl) c.requires.parts
+    part-left c.args.desk.now c.args.spare.now.parts c.requires.recorded (c.in_ok-feedback.ensures.numbers c.requires.unclosed refl) c.requires.parts
 
-pub returns-in-Ok-default-Some-clause-share : goal.returns-in-Ok-default-Some-clause-share
-returns-in-Ok-default-Some-clause-share g c =
-    let number = first-number c.args.desk.now c.in-Ok-default-Some.field-0-1 c.requires.unclosed c.requires.recorded (ap (λ answer. answer.1) c.in-Ok-default-Some.ensures.answer) in
-    let is = c.in-Ok-default-Some.field-0-1-is in
-    let handle : c.in-Ok-default-Some.handle ≡ numbered c.args.desk.now = cc in
-    λ i. record { handle = handle i; puts = c.in-Ok.ensures.list i; is_closed = false }
+pub returns-clause-share : goal.returns-clause-share
+returns-clause-share g c =
+    let number = first-number c.args.desk.now c.in_ok-feedback.field-0.1 c.requires.unclosed c.requires.recorded (ap (λ answer. answer.1) c.in_ok-feedback.ensures.answer) in
+    let is = c.in_default-Some.is-1 in
+    let handle : c.in_default-Some.handle ≡ numbered c.args.desk.now = cc in
+    λ i. record { handle = handle i; puts = c.in_ok-puts.ensures.list i; is_closed = false }
 
-pub returns-in-Ok-default-Some-clause-desk : goal.returns-in-Ok-default-Some-clause-desk
-returns-in-Ok-default-Some-clause-desk g c = c.in-Ok-default-Some.ensures.ok
+pub returns-clause-desk : goal.returns-clause-desk
+returns-clause-desk g c = c.in_ok-feedback.ensures.ok
 
 pub put-requires : goal.put-requires
 put-requires g c = record { keys_clone = g.met.K.Faithful.clones; subscribers_clone = g.met.S.Faithful.clones; tests_clone = g.met.Q.Faithful.clones }
 
 pub invariant_of-share : goal.invariant_of-share
 invariant_of-share g c =
-    let one : length (map told_of c.in-Ok.puts.items) ≡ 1 = ap length c.in-Ok.ensures.list in
-    let kept : length c.in-Ok.puts.items ≡ vec_len c.in-Ok.puts = search rules in
+    let one : length (map told_of c.in_ok-puts.puts.items) ≡ 1 = ap length c.in_ok-puts.ensures.list in
+    let kept : length c.in_ok-puts.puts.items ≡ vec_len c.in_ok-puts.puts = search rules in
     let parts : c.add.new.share.parts ≡ 1 = c.add.ensures.parts ∙ c.split_off-part.ensures.parts in
     let amount : c.add.new.share.amount ≡ 1 = c.add.ensures.amount ∙ ap (λ (n : ℕ). n + 1) c.split_off-part.ensures.amount in
-    (omega (arith, parts), amount ∙ sym one ∙ length-map c.in-Ok.puts.items told_of ∙ kept)
+    (omega (arith, parts), amount ∙ sym one ∙ length-map c.in_ok-puts.puts.items told_of ∙ kept)
 
-pub returns-in-Ok-default-Some-clause-feedback : goal.returns-in-Ok-default-Some-clause-feedback
-returns-in-Ok-default-Some-clause-feedback g c = ap (λ answer. answer.0) c.in-Ok-default-Some.ensures.answer
+pub returns-clause-feedback : goal.returns-clause-feedback
+returns-clause-feedback g c = ap (λ answer. answer.0) c.in_ok-feedback.ensures.answer
 
-pub returns-in-Ok-default-Some-clause-total : goal.returns-in-Ok-default-Some-clause-total
-returns-in-Ok-default-Some-clause-total g c = c.add.ensures.total
+pub returns-clause-total : goal.returns-clause-total
+returns-clause-total g c = c.add.ensures.total
 
-pub returns-in-Ok-default-Some-clause-spare : goal.returns-in-Ok-default-Some-clause-spare
-returns-in-Ok-default-Some-clause-spare g c = c.split_off-part.ensures.parts_left
-
-pub returns-in-Err-put : goal.returns-in-Err-put
-returns-in-Err-put g c =
-    record { feedback = tt; share = tt; desk = tt; total = tt; spare = tt; unused = c.requires.unused; err_desk = c.in-Err-put.ensures.err; err_total = refl; err_spare = refl; only = c.in-Err-put.ensures.only }
-
-pub returns-in-Err : goal.returns-in-Err
-returns-in-Err g c =
-    record { feedback = tt; share = tt; desk = tt; total = tt; spare = tt; unused = c.requires.unused; err_desk = refl; err_total = refl; err_spare = refl; only = λ other. absurd (other c.in-Err.ensures.only) }
+pub returns-clause-spare : goal.returns-clause-spare
+returns-clause-spare g c = c.split_off-part.ensures.parts_left

@@ -26,8 +26,8 @@ module _ {K S M Q : Type 0} where
 pub unreachable-requires : goal.unreachable-requires
 unreachable-requires g c = let wrong = sym (c.self.invariant.0 ∙ c.requires.recorded) ∙ ap is_some c.in_default.is in cc
 
-pub unreachable-requires-in-Ok-None : goal.unreachable-requires-in-Ok-None
-unreachable-requires-in-Ok-None g c = some-none (told_of c.in-Some-front.front.now) (desk_taken c.args.desk.now).0 c.in-Some-front.ensures (ap (λ pair. pair.0) (rw c.in-Ok-None.field-0-is at c.in-Ok-None.ensures.ok))
+pub unreachable-requires-in_default-2 : goal.unreachable-requires-in_default-2
+unreachable-requires-in_default-2 g c = some-none (told_of c.in-Some-front.front.now) (desk_taken c.args.desk.now).0 c.in-Some-front.ensures (ap (λ pair. pair.0) (rw c.in_default-2.is at c.in_ok-message.ensures.ok))
 
 pub take-requires : goal.take-requires
 take-requires g c = record { keys_clone = g.met.K.Faithful.clones; subscribers_clone = g.met.S.Faithful.clones; tests_clone = g.met.Q.Faithful.clones }
@@ -43,15 +43,15 @@ returns-in_default-front g c = record {
   only = tt;
 }
 
-pub returns-in-Ok-Some : goal.returns-in-Ok-Some
-returns-in-Ok-Some g c =
+pub returns : goal.returns
+returns g c =
     let pushed : c.push_reserved.new.self.items ≡ c.ready_copy.new.puts.items ++ c.in_ok-copy.copy ∷ [] = search rules in
-    let taken = rw c.in-Ok-Some.field-0-is at c.in-Ok-Some.ensures.ok in
+    let taken = rw c.in-Some-2.is at c.in_ok-message.ensures.ok in
     record {
       desk = taken;
-      listed = copy-listed _ _ c.in_ok-copy.copy (told_of c.in-Some-front.front.now) (told_of c.in-Ok-Some.message) _ pushed c.in_ok-copy.ensures.copy c.in-Some-front.ensures (ap (λ pair. pair.0) taken)
-          ∙ ap (λ ms. map told_of ms ++ told_of c.in-Ok-Some.message ∷ []) c.in_ok-copy.ensures.same
-          ∙ ap (λ told. told ++ told_of c.in-Ok-Some.message ∷ []) c.self.view_is;
+      listed = copy-listed _ _ c.in_ok-copy.copy (told_of c.in-Some-front.front.now) (told_of c.in-Some-2.message) _ pushed c.in_ok-copy.ensures.copy c.in-Some-front.ensures (ap (λ pair. pair.0) taken)
+          ∙ ap (λ ms. map told_of ms ++ told_of c.in-Some-2.message ∷ []) c.in_ok-copy.ensures.same
+          ∙ ap (λ told. told ++ told_of c.in-Some-2.message ∷ []) c.self.view_is;
       total = c.add.ensures.total;
       err = tt;
       err_desk = tt;
