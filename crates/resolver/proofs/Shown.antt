@@ -15,7 +15,7 @@ use Rattle.std.specs.declared.cmp.Ordering.{Ordering}
 use Rattle.std.specs.declared.cmp.Ordering.TheVariants.{Less, Equal, Greater}
 use Rattle.resolver_types.specs.Names.{same_key}
 use Rattle.resolver_priority_set.specs.Priorities.{is_of}
-use Rattle.resolver_types.specs.Table.{is_asked}
+use Rattle.resolver_types.specs.Table.{is_asked, subscribers_of}
 use Rattle.resolver_delivery.specs.Entries.{Numbered, number_of}
 use Rattle.resolver_fetch_requests.specs.declared.requests.request.Request.{Request}
 use Rattle.resolver_fetch_requests.specs.Requests.{is_for, request_for}
@@ -28,7 +28,7 @@ use Rattle.resolver_model_peer.specs.PeerRows.{Row, Phase, Waits, Asked, Judged,
 use Rattle.resolver_model_peer.specs.Peer.{Machine, row_of}
 use Rattle.resolver.specs.declared.p2p.rows.Phase.TheVariants as phases
 use Rattle.resolver.specs.declared.p2p.rows.Row.{Row as ListedRow}
-use Rattle.resolver.specs.Listed.{listed, listed_phase}
+use Rattle.resolver.specs.Listed.{listed, listed_phase, listed_row}
 use Rattle.resolver_peer_step.specs.Tied.{IsOwn, IsSound, count_of, demand_of, fetcher_of, held_of, holds_in, holds_of, place_in, place_of}
 use Rattle.resolver_peer_step.proofs.Keeping.{IsSingle, all-by, all-imply, find-in_turn}
 use Rattle.resolver_peer_step.proofs.Retained.{apart-ids, apart-places, by_id-turn, number-held, numbers_total, places_total}
@@ -242,6 +242,28 @@ module _ {K S P : Type 0} (a : Parties K S P) (o : IsTotalOrder a.key) (m : Mach
       at : (row : Option (Row K S P)) → is_some (option_map (λ row. row.subscribers) row) ≡ is_some row
       at None = refl
       at (Some row) = refl
+
+  -- who wants the key is told by its row
+  wanted-by : (demand : List (K × List (S × ℕ))) → demand ≡ demand_of m.rows → subscribers_of (names_of a) demand key ≡ option_map (λ row. row.subscribers) (row_of a m key)
+  wanted-by demand is = ap (λ d. subscribers_of (names_of a) d key) is ∙ lookup-map_values (λ row. row.subscribers) (is_at (a.key key)) m.rows
+
+  -- what is listed of a key that these subscribers want is its row
+  pub row-shown : (demand : List (K × List (S × ℕ))) → demand ≡ demand_of m.rows → (subscribers : List (S × ℕ)) → Some subscribers ≡ subscribers_of (names_of a) demand key
+      → (shown : ListedRow K S P) → IfSome (row_of a m key) (λ row. subscribers ≡ row.subscribers → shown ≡ listed (key, row)) → Some shown ≡ listed_row a m key
+  row-shown demand is subscribers there shown listed-so = at (row_of a m key) (there ∙ wanted-by demand is) listed-so
+    where
+      at : (row : Option (Row K S P)) → Some subscribers ≡ option_map (λ row. row.subscribers) row → IfSome row (λ row. subscribers ≡ row.subscribers → shown ≡ listed (key, row))
+          → Some shown ≡ option_map (λ row. listed (key, row)) row
+      at None same shown-so = absurd cc
+      at (Some row) same shown-so = ap Some (shown-so cc)
+
+  -- a key that nobody wants has no row
+  pub none-shown : (demand : List (K × List (S × ℕ))) → demand ≡ demand_of m.rows → None ≡ subscribers_of (names_of a) demand key → None ≡ listed_row a m key
+  none-shown demand is none = at (row_of a m key) (none ∙ wanted-by demand is)
+    where
+      at : (row : Option (Row K S P)) → None ≡ option_map (λ row. row.subscribers) row → None ≡ option_map (λ row. listed (key, row)) row
+      at None same = refl
+      at (Some row) same = absurd cc
 
   -- an equal key finds the same
   lookup-equal : {Y : Type 0} (before after : List (K × Y)) (own : K) → a.key key own ≡ Equal → (was : Option Y) → lookup (is_at (a.key key)) (slot before own was after) ≡ lookup (is_at (a.key own)) (slot before own was after)

@@ -133,6 +133,18 @@ fn spell_rows(rt: &impl Abort, text: &mut String, rows: &[Row<Key, u16, Peer>]) 
     }
 }
 
+/// Writes the row of one key, or that the key isn't demanded.
+fn spell_found(
+    rt: &impl Abort,
+    text: &mut String,
+    row: Result<Option<Row<Key, u16, Peer>>, Fault>,
+) {
+    match row.expect(rt, "memory") {
+        Some(row) => spell_row(rt, text, &row),
+        None => text.push_str("no row\n").expect(rt, "memory"),
+    }
+}
+
 /// Writes how many keys wait, how many requests have no answer, and how many were sent.
 fn spell_counts(rt: &impl Abort, text: &mut String, counted: &Metrics) {
     let sent = counted.requests_sent.success;
@@ -163,7 +175,7 @@ fn spell_state(
 }
 
 /// What the row `peer_refusals` of the worked rows prints, with an empty line for each input that
-/// has no effect, and the counts after it.
+/// has no effect, and behind it the counts, the row of key 1 once more, and that key 2 has none.
 const PRINTED: &str = "
  draw 4
  draw 2
@@ -177,6 +189,8 @@ const PRINTED: &str = "
 key 1 subs 10:7 retries 0 asked 1234 4 50
 wake None timeout Some(50)
 waiting 0 asked 1 sent 1
+key 1 subs 10:7 retries 0 asked 1234 4 50
+no row
 ";
 
 /// Gives an engine the inputs, in one run or one by one, and writes what it answers and how it stands then.
@@ -197,6 +211,8 @@ fn drive<R>(rt: &impl Abort, text: &mut String, engine: &mut Silent<R>, is_one_r
     let due = (engine.get_pending_deadline(), engine.get_active_deadline());
     spell_state(rt, text, rows.as_slice(), due, &engine.metrics());
     drop(rows);
+    spell_found(rt, text, engine.row(&Key(1)));
+    spell_found(rt, text, engine.row(&Key(2)));
 }
 
 /// What an engine that is called 9, with a timeout of 50 and a delay of 10, writes of the inputs.
@@ -236,6 +252,8 @@ fn printed_of_core(rt: &impl Abort, alloc: Global) -> String {
     let due = (core.get_pending_deadline(), core.get_active_deadline());
     spell_state(rt, &mut text, rows.as_slice(), due, &core.metrics());
     drop(rows);
+    spell_found(rt, &mut text, core.row(&Key(1)));
+    spell_found(rt, &mut text, core.row(&Key(2)));
     drop(core);
     text
 }

@@ -41,13 +41,18 @@ fn take(rt: &impl Abort, judge: &mut Judge, now: u128, event: Happens) {
 /// A judge of a node that wants a key and has peer 2.
 fn wanting(rt: &impl Abort, alloc: Global) -> Judge {
     let mut judge = judge(alloc);
-    let mut items = Vec::new(alloc);
-    let item = FetchKey::from_fetch(alloc, Fetch::from(KEY));
-    items.push(item.expect(rt, "memory")).expect(rt, "memory");
-    take(rt, &mut judge, 0, Event::Fetch(items));
+    fetch(rt, alloc, &mut judge);
     let peers = Vec::from_slice(alloc, &[1, 2]).expect(rt, "memory");
     take(rt, &mut judge, 0, Event::PeerSet { index: 0, peers });
     judge
+}
+
+/// The key is fetched.
+fn fetch(rt: &impl Abort, alloc: Global, judge: &mut Judge) {
+    let mut items = Vec::new(alloc);
+    let item = FetchKey::from_fetch(alloc, Fetch::from(KEY));
+    items.push(item.expect(rt, "memory")).expect(rt, "memory");
+    take(rt, judge, 0, Event::Fetch(items));
 }
 
 /// The same, where peer 2 was asked for it.
@@ -161,6 +166,142 @@ fn a_request_that_stays_is_found(rt: HostRuntime) {
     };
     judge.note_rows(&[row(&rt, rt.alloc(), phase)]);
     assert_found(&rt, &judge, Some(Complaint::Requests));
+}
+
+/// What a judge finds that is told of the row of its key alone.
+fn assert_row_found(
+    rt: &impl Abort,
+    alloc: Global,
+    judge: &mut Judge,
+    phase: Option<Phase<u16>>,
+    complaint: Option<Complaint>,
+) {
+    let row = phase.map(|phase| row(rt, alloc, phase));
+    judge.note_row(KEY, row.as_ref());
+    assert_found(rt, judge, complaint);
+}
+
+#[test]
+fn a_right_row_is_not_complained_of(rt: HostRuntime) {
+    let waiting = Phase::Waiting {
+        is_retry: false,
+        due: 0,
+    };
+    let asked = Phase::Asked {
+        id: ID,
+        peer: 2,
+        deadline: 1_000_000,
+    };
+    let judged = Phase::Judged { number: 0 };
+    assert_row_found(
+        &rt,
+        rt.alloc(),
+        &mut wanting(&rt, rt.alloc()),
+        Some(waiting),
+        None,
+    );
+    assert_row_found(
+        &rt,
+        rt.alloc(),
+        &mut asking(&rt, rt.alloc()),
+        Some(asked),
+        None,
+    );
+    assert_row_found(
+        &rt,
+        rt.alloc(),
+        &mut judging(&rt, rt.alloc()),
+        Some(judged),
+        None,
+    );
+}
+
+#[test]
+fn a_lost_row_is_found(rt: HostRuntime) {
+    let mut judge = wanting(&rt, rt.alloc());
+    assert_row_found(&rt, rt.alloc(), &mut judge, None, Some(Complaint::Demand));
+}
+
+#[test]
+fn a_row_that_stays_is_found(rt: HostRuntime) {
+    let mut judge = judging(&rt, rt.alloc());
+    let outcome = Some(Outcome::from(true));
+    take(&rt, &mut judge, 10, Event::Verdict { number: 0, outcome });
+    let phase = Phase::Waiting {
+        is_retry: true,
+        due: 20,
+    };
+    assert_row_found(
+        &rt,
+        rt.alloc(),
+        &mut judge,
+        Some(phase),
+        Some(Complaint::Demand),
+    );
+}
+
+#[test]
+fn a_row_in_another_phase_is_found(rt: HostRuntime) {
+    let waiting = Phase::Waiting {
+        is_retry: false,
+        due: 0,
+    };
+    let late = Phase::Asked {
+        id: ID,
+        peer: 2,
+        deadline: 1_000_001,
+    };
+    let another = Phase::Judged { number: 1 };
+    let found = Some(Complaint::Requests);
+    assert_row_found(
+        &rt,
+        rt.alloc(),
+        &mut asking(&rt, rt.alloc()),
+        Some(waiting),
+        found,
+    );
+    assert_row_found(
+        &rt,
+        rt.alloc(),
+        &mut asking(&rt, rt.alloc()),
+        Some(late),
+        found,
+    );
+    assert_row_found(
+        &rt,
+        rt.alloc(),
+        &mut judging(&rt, rt.alloc()),
+        Some(another),
+        found,
+    );
+}
+
+#[test]
+fn the_keys_of_an_event_are_looked_at(rt: HostRuntime) {
+    let mut wanted = wanting(&rt, rt.alloc());
+    assert!(rt; wanted.touched.is_empty(), "a set of peers changes no row");
+    fetch(&rt, rt.alloc(), &mut wanted);
+    assert_eq!(rt; wanted.touched.as_slice(), [KEY].as_slice());
+    let asked = asking(&rt, rt.alloc());
+    assert_eq!(rt; asked.touched.last(), Some(&KEY));
+    let mut late = asking(&rt, rt.alloc());
+    take(&rt, &mut late, 1_000_000, Event::ActiveDue);
+    assert_eq!(rt; late.touched.as_slice(), [KEY].as_slice());
+    let mut early = asking(&rt, rt.alloc());
+    take(&rt, &mut early, 999_999, Event::ActiveDue);
+    assert!(rt; early.touched.is_empty(), "nothing is over");
+    let mut answered = judging(&rt, rt.alloc());
+    assert_eq!(rt; answered.touched.as_slice(), [KEY].as_slice());
+    take(
+        &rt,
+        &mut answered,
+        10,
+        Event::Verdict {
+            number: 0,
+            outcome: None,
+        },
+    );
+    assert_eq!(rt; answered.touched.as_slice(), [KEY].as_slice());
 }
 
 #[test]

@@ -14,7 +14,7 @@ ghost use Rattle.resolver.specs.Asking.{CanBeAnswered};
 ghost use Rattle.resolver.specs.EngineLaws.{RunsWell};
 ghost use Rattle.resolver.specs.Taking.{Took};
 ghost use Rattle.resolver_peer_step.specs.EngineSteps.{Takes, all_fed};
-ghost use Rattle.resolver.specs.Listed.{listed};
+ghost use Rattle.resolver.specs.Listed.{listed, listed_row};
 ghost use Rattle.resolver.specs.Phased.{IsPhased};
 ghost use Rattle.resolver.specs.Matching.{Matches};
 ghost use Rattle.resolver_peer_step.specs.Said.{answer_of, codec, fed_of};
@@ -312,6 +312,21 @@ impl<
             ⊎ ((fault ≡ Fault.Failed) × (self.now.status ≡ Failed))) }
     {
         self.core.rows()
+    }
+
+    /// The row of a key as `rows` lists it, if the key is demanded. Once the engine has failed the
+    /// answer is `Failed`. It takes time logarithmic in the keys, and linear in the key's subscribers
+    /// and targets, which are copied.
+    pub fn row(&self, key: &K) -> Result<Option<Row<K, S, P>>, Fault>
+        requires keys_clone { (x y : K) → K.is_clone x y → y ≡ x }
+        requires peers_clone { (x y : P) → P.is_clone x y → y ≡ x }
+        requires subscribers_clone { (x y : S) → S.is_clone x y → y ≡ x }
+        ensures row { (m : Machine K S P) → Matches (parties K.cmp S.cmp P.cmp) self.now m
+            → IfOk result (λ row. row ≡ listed_row (parties K.cmp S.cmp P.cmp) m key.now) }
+        ensures only { IfErr result (λ fault. (fault ≡ OutOfMemory)
+            ⊎ ((fault ≡ Fault.Failed) × (self.now.status ≡ Failed))) }
+    {
+        self.core.row(key)
     }
 
     /// When a scan may do something, if a key waits. It takes time logarithmic in the waiting keys.

@@ -10,7 +10,7 @@ ghost use Rattle.resolver_base.specs.declared.fault.Fault.TheVariants.{OutOfMemo
 ghost use Rattle.resolver_model_peer.specs.Parties.{parties};
 ghost use Rattle.resolver_model_peer.specs.Peer.{Machine, row_of};
 ghost use Rattle.resolver_peer_step.specs.Going.{IsTied};
-ghost use Rattle.resolver.specs.Listed.{listed, listed_phase};
+ghost use Rattle.resolver.specs.Listed.{listed, listed_phase, listed_row};
 ghost use Rattle.resolver_peer_step.specs.Tied.{Agrees};
 
 use resolver_base::Fault;
@@ -107,6 +107,25 @@ pub(crate) fn rows<K: Ord + Clone + Drop, P: Ord + Clone + Drop, S: Ord + Clone 
         list.push(listed(parts, key, subscribers)?)?;
     }
     Ok(list)
+}
+
+/// The row of a key, if it is demanded. It takes time logarithmic in the keys, and linear in what is listed.
+pub(crate) fn find<K: Ord + Clone + Drop, P: Ord + Clone + Drop, S: Ord + Clone + Drop>(
+    parts: &Parts<K, P, S>,
+    key: &K,
+) -> Result<Option<Row<K, S, P>>, Fault>
+    requires keys_clone { (x y : K) → K.is_clone x y → y ≡ x }
+    requires peers_clone { (x y : P) → P.is_clone x y → y ≡ x }
+    requires subscribers_clone { (x y : S) → S.is_clone x y → y ≡ x }
+    requires tied { IsTied (parties K.cmp S.cmp P.cmp) parts.now }
+    ensures row { (m : Machine K S P) → Agrees (parties K.cmp S.cmp P.cmp) parts.now m
+        → IfOk result (λ row. row ≡ listed_row (parties K.cmp S.cmp P.cmp) m key.now) }
+    ensures only { IfErr result (λ fault. fault ≡ OutOfMemory) }
+{
+    match parts.demand.get(key) {
+        Some(subscribers) => Ok(Some(listed(parts, key, subscribers)?)),
+        None => Ok(None),
+    }
 }
 
 /// The row of a demanded key with these subscribers.

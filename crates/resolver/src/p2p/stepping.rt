@@ -15,7 +15,7 @@ ghost use Rattle.resolver.specs.Ending.{is_end, is_end_event};
 ghost use Rattle.resolver.specs.EngineLaws.{RunsWell};
 ghost use Rattle.resolver.specs.Taking.{Took};
 ghost use Rattle.resolver_peer_step.specs.EngineSteps.{Takes, all_fed};
-ghost use Rattle.resolver.specs.Listed.{listed};
+ghost use Rattle.resolver.specs.Listed.{listed, listed_row};
 ghost use Rattle.resolver.specs.Phased.{IsPhased};
 ghost use Rattle.resolver.specs.Matching.{Matches, UnlessFailed, is_final};
 ghost use Rattle.resolver_peer_step.specs.Said.{answer_of, codec, fed_of};
@@ -200,6 +200,25 @@ impl<K: Span + Drop, P: Ord + Clone + Drop, S: Ord + Clone + Drop, Q: Predicate<
         match self.status {
             Status::Running => rows::rows(&self.parts),
             Status::Ended => rows::rows(&self.parts),
+            Status::Failed => Err(Fault::Failed),
+        }
+    }
+
+    /// The row of a key as `rows` lists it, if the key is demanded. Once the engine has failed the
+    /// answer is `Failed`. It takes time logarithmic in the keys, and linear in the key's subscribers
+    /// and targets, which are copied.
+    pub fn row(&self, key: &K) -> Result<Option<Row<K, S, P>>, Fault>
+        requires keys_clone { (x y : K) → K.is_clone x y → y ≡ x }
+        requires peers_clone { (x y : P) → P.is_clone x y → y ≡ x }
+        requires subscribers_clone { (x y : S) → S.is_clone x y → y ≡ x }
+        ensures row { (m : Machine K S P) → Matches (parties K.cmp S.cmp P.cmp) self.now m
+            → IfOk result (λ row. row ≡ listed_row (parties K.cmp S.cmp P.cmp) m key.now) }
+        ensures only { IfErr result (λ fault. (fault ≡ OutOfMemory)
+            ⊎ ((fault ≡ Fault.Failed) × (self.now.status ≡ Failed))) }
+    {
+        match self.status {
+            Status::Running => rows::find(&self.parts, key),
+            Status::Ended => rows::find(&self.parts, key),
             Status::Failed => Err(Fault::Failed),
         }
     }

@@ -43,6 +43,8 @@ pub struct Judge {
     pub answered: Option<Asked>,
     /// The peer that may be sent to, as the last check said.
     pub clear: Option<u16>,
+    /// The keys whose rows the last event, and what was asked and told since, may have changed.
+    pub touched: Vec<Height>,
     /// How many events were taken since whole rows were compared.
     pub unseen: usize,
     /// What is wrong, if something is: what was found first.
@@ -66,6 +68,7 @@ impl Judge {
             senders: BTreeMap::new(alloc),
             answered: None,
             clear: None,
+            touched: Vec::new(alloc),
             unseen: 0,
             complaint: None,
         }
@@ -104,17 +107,19 @@ impl Judge {
         self.now = now;
         self.answered = None;
         self.clear = None;
+        self.touched.clear();
         match event {
             Event::Fetch(items) => {
                 for item in items {
                     self.demand.insert(item.key)?;
+                    self.touched.push(item.key)?;
                 }
             }
             Event::PeerSet { index, peers } => self.set_peers(*index, peers.as_slice())?,
             Event::Blocked(peers) => replace(&mut self.blocked, peers.as_slice())?,
-            Event::ActiveDue => self.time_out(),
-            Event::Verdict { number, outcome } => self.rule(*number, *outcome),
-            Event::Net { peer, bytes } => self.receive(*peer, bytes.as_slice()),
+            Event::ActiveDue => self.time_out()?,
+            Event::Verdict { number, outcome } => self.rule(*number, *outcome)?,
+            Event::Net { peer, bytes } => self.receive(*peer, bytes.as_slice())?,
             Event::Retain(_) | Event::PendingDue | Event::Served { .. } | Event::End => {}
         }
         Ok(())
@@ -130,33 +135,44 @@ impl Judge {
     }
 
     /// The time of a request is over: of the first one, by its deadline and then by its id.
-    fn time_out(&mut self) {
-        if let Some((deadline, id)) = self.asked.first() {
-            if deadline <= self.now {
-                self.asked.remove(id);
-            }
+    fn time_out(&mut self) -> Result<(), AllocError> {
+        let Some((deadline, id)) = self.asked.first() else {
+            return Ok(());
+        };
+        if deadline > self.now {
+            return Ok(());
         }
+        if let Some(asked) = self.asked.remove(id) {
+            self.touched.push(asked.key)?;
+        }
+        Ok(())
     }
 
     /// A verdict: a key that is complete, or that is let go, is retired.
-    fn rule(&mut self, number: u64, outcome: Option<Outcome>) {
+    fn rule(&mut self, number: u64, outcome: Option<Outcome>) -> Result<(), AllocError> {
         let Some(key) = self.judged.remove(&number) else {
-            return;
+            return Ok(());
         };
         if is_retiring(outcome) {
             self.demand.remove(&key);
         }
+        Ok(self.touched.push(key)?)
     }
 
     /// A message of a peer ends the request that it answers.
-    fn receive(&mut self, peer: u16, bytes: &[u8]) {
-        match read(bytes) {
-            Some(Said::Response { id }) => self.answered = self.end_request(id, peer),
-            Some(Said::Missing { id }) => {
-                self.end_request(id, peer);
+    fn receive(&mut self, peer: u16, bytes: &[u8]) -> Result<(), AllocError> {
+        let ended = match read(bytes) {
+            Some(Said::Response { id }) => {
+                self.answered = self.end_request(id, peer);
+                self.answered
             }
-            Some(Said::Request) | None => {}
+            Some(Said::Missing { id }) => self.end_request(id, peer),
+            Some(Said::Request) | None => None,
+        };
+        if let Some(asked) = ended {
+            self.touched.push(asked.key)?;
         }
+        Ok(())
     }
 
     /// Ends the request of this id, if this peer was asked.
@@ -207,7 +223,7 @@ impl Judge {
     {
         self.demand.contains(&key)
             && !self.asked.has_key(key)
-            && !self.judged.values().any(|other| *other == key)
+            && !self.is_judged(key)
             && self.asked.get(id).is_none()
     }
 
@@ -239,7 +255,7 @@ impl Judge {
             };
             self.asked.put(id, asked)?;
         }
-        Ok(())
+        Ok(self.touched.push(key)?)
     }
 
     /// The core tells this.
@@ -306,7 +322,18 @@ impl Judge {
         self.expect(is_unanswered, Complaint::Delivery);
     }
 
-    /// Whether whole rows are to be compared: four times as many events were taken since they were as there are rows, so
+    /// What the core lists of a key once an event is over, if it lists it: whether it is demanded, and what is done for
+    /// it.
+    pub fn note_row(&mut self, key: Height, row: Option<&Row<Height, u16, u16>>)
+        ensures stays { IsSome self.old.complaint → self.new.complaint ≡ self.old.complaint }
+    {
+        let is_demand = row.is_some() == self.demand.contains(&key);
+        self.expect(is_demand, Complaint::Demand);
+        let is_known = row.is_none_or(|row| row.key == key && self.is_known(row));
+        self.expect(is_known, Complaint::Requests);
+    }
+
+    /// Whether all rows are to be compared: four times as many events were taken since they were as there are rows, so
     /// that an event costs a quarter of a row.
     pub fn wants_rows(&self) -> bool {
         self.unseen / 4 >= self.demand.len()
@@ -338,17 +365,25 @@ impl Judge {
         asked.count() == self.asked.len() && rows.iter().all(|row| self.is_known(row))
     }
 
-    /// Whether a row is of no request, or of one that is open.
+    /// Whether what is done for a row's key is what the requests and the deliveries say.
     fn is_known(&self, row: &Row<Height, u16, u16>) -> bool {
-        let Phase::Asked { id, peer, deadline } = &row.phase else {
-            return true;
-        };
-        let asked = Asked {
-            key: row.key,
-            peer: *peer,
-            deadline: *deadline,
-        };
-        self.asked.get(*id) == Some(asked)
+        match &row.phase {
+            Phase::Waiting { .. } => !self.asked.has_key(row.key) && !self.is_judged(row.key),
+            Phase::Asked { id, peer, deadline } => {
+                let asked = Asked {
+                    key: row.key,
+                    peer: *peer,
+                    deadline: *deadline,
+                };
+                self.asked.get(*id) == Some(asked)
+            }
+            Phase::Judged { number } => self.judged.get(number) == Some(&row.key),
+        }
+    }
+
+    /// Whether a key's delivery has no verdict.
+    fn is_judged(&self, key: Height) -> bool {
+        self.judged.values().any(|other| *other == key)
     }
 
     /// When the time of the first request is over.

@@ -119,13 +119,25 @@ impl Node {
             }
         }
         self.judge.note_phases(self.core.phases());
+        self.compare_touched()?;
         if self.script.is_some() || self.judge.wants_rows() {
             self.compare_rows()?;
         }
         Ok(())
     }
 
-    /// Has whole rows compared.
+    /// Has the rows compared that the last event may have changed.
+    fn compare_touched(&mut self) -> Result<(), Fault> {
+        for place in 0..self.judge.touched.len() {
+            if let Some(key) = self.judge.touched.get(place).copied() {
+                let row = self.core.row(&key)?;
+                self.judge.note_row(key, row.as_ref());
+            }
+        }
+        Ok(())
+    }
+
+    /// Has all rows compared.
     pub fn compare_rows(&mut self) -> Result<(), Fault> {
         let rows = self.core.rows()?;
         self.judge.note_rows(rows.as_slice());
