@@ -4,7 +4,7 @@ ghost use Rattle.std.specs.Prelude.{◌≡◌, ◌≢◌, ◌↔◌, ◌+◌, Is
 ghost use Rattle.std.specs.Ordering.{nat_cmp};
 ghost use Rattle.std.specs.BTreeMap.{get};
 ghost use Rattle.std.specs.BTreeSet.{contains};
-ghost use Rattle.resolver_swarm.specs.Judging.{IsLater, first_found};
+ghost use Rattle.resolver_swarm.specs.Judging.{IsLater, IsNoted, first_found};
 
 use crate::height::Height;
 use crate::judging::complaint::Complaint;
@@ -325,11 +325,18 @@ impl Judge {
     /// What the core lists of a key once an event is over, if it lists it: whether it is demanded, and what is done for
     /// it.
     pub fn note_row(&mut self, key: Height, row: Option<&Row<Height, u16, u16>>)
+        ensures named { self.new.complaint ≡ None → IfSome row.entry (λ row. row.now.key ≡ key) }
+        ensures noted { self.new.complaint ≡ None → IfSome row.entry (λ row. IsNoted
+            (get nat_cmp self.old.asked.by_id) (get nat_cmp self.old.judged)
+            row.now.key row.now.phase) }
         ensures stays { IsSome self.old.complaint → self.new.complaint ≡ self.old.complaint }
     {
         let is_demand = row.is_some() == self.demand.contains(&key);
         self.expect(is_demand, Complaint::Demand);
-        let is_known = row.is_none_or(|row| row.key == key && self.is_known(row));
+        let is_known = match row {
+            Some(row) => row.key == key && self.is_known(row),
+            None => true,
+        };
         self.expect(is_known, Complaint::Requests);
     }
 
@@ -366,7 +373,11 @@ impl Judge {
     }
 
     /// Whether what is done for a row's key is what the requests and the deliveries say.
-    fn is_known(&self, row: &Row<Height, u16, u16>) -> bool {
+    fn is_known(&self, row: &Row<Height, u16, u16>) -> bool
+        ensures { IsTrue result → IsNoted
+            (get nat_cmp self.entry.now.asked.by_id) (get nat_cmp self.entry.now.judged)
+            row.now.key row.now.phase }
+    {
         match &row.phase {
             Phase::Waiting { .. } => !self.asked.has_key(row.key) && !self.is_judged(row.key),
             Phase::Asked { id, peer, deadline } => {
