@@ -25,7 +25,8 @@ pub struct Settings<const N: usize = 32> {
     pub me: Option<Name<N>>,
     /// How long a request may take, in nanoseconds: from 1 to below 2^94.
     pub fetch_timeout: Moment,
-    /// How long a key waits before it is tried again, in nanoseconds: below 2^94.
+    /// How long a key waits before it is tried again, after a timeout, a wrong value or an answer
+    /// without data, in nanoseconds: below 2^94. Who had no data may be asked again.
     pub retry_delay: Moment,
     /// How many requests one peer may have without an answer at once; 0: any number.
     pub peer_limit: u32,
@@ -89,7 +90,8 @@ pub enum Event<'a, const N: usize = 32> {
         /// Its peers.
         peers: &'a [Name<N>],
     },
-    /// All peers that are blocked.
+    /// All peers that are blocked. None of them is asked from now on; what one answers to an earlier
+    /// request is still judged.
     Blocked(&'a [Name<N>]),
     /// The time of a request may be over.
     ActiveDue,
@@ -293,6 +295,7 @@ pub enum Effect<'a, const N: usize = 32> {
         bytes: u64,
     },
     /// A response was wrong, and its peer is to be blocked: [`Event::Blocked`] says so once it is.
+    /// It comes for each wrong response, so a peer may be named more than once.
     Block {
         /// The delivery that carried the response first.
         response: u64,
