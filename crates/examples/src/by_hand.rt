@@ -3,22 +3,22 @@
 
 use anyhow::Result;
 use bytes::{Bytes, BytesMut};
-use resolver::backfill::Without;
-use resolver::base::{Check, Draws, Moment, Seeded};
-use resolver::ingress::FetchKey;
-use resolver::names::Height;
-use resolver::p2p::Core;
-use resolver::p2p::effects::Effect;
-use resolver::p2p::fetcher::{Answer, Ask, Config};
-use resolver::p2p::inputs::{Event, Happening, Input};
-use resolver::p2p::wire::{Message, Payload};
-use resolver::{Fetch, Outcome};
+use resolver_core::base::{Check, Draws, Moment, Seeded};
+use resolver_core::ingress::FetchKey;
+use resolver_core::names::Height;
+use resolver_core::node::predicates::All;
+use resolver_core::p2p::Core;
+use resolver_core::p2p::effects::Effect;
+use resolver_core::p2p::fetcher::{Answer, Ask, Config};
+use resolver_core::p2p::inputs::{Event, Happening, Input};
+use resolver_core::p2p::wire::{Message, Payload};
+use resolver_core::{Fetch, Outcome};
 use std::alloc::Global;
 use std::collections::BTreeMap;
 use std::num::NonZeroU32;
 
 /// A height is a key and a peer a number. There is one subscriber, 0, who gives nothing up.
-type Happens = Event<Height, u8, u16, Without<Height, u16>>;
+type Happens = Event<Height, u8, u16, All>;
 
 /// Nanoseconds in a millisecond.
 const MS: u128 = 1_000_000;
@@ -29,7 +29,7 @@ const SLOW: u8 = 3;
 
 #[derive(Drop)]
 struct Synchroniser {
-    core: Core<Height, u8, u16, Without<Height, u16>>,
+    core: Core<Height, u8, u16, All>,
     draws: Seeded,
     now: Moment,
     /// What will happen, by its moment in nanoseconds and then in order: messages, verdicts, what is blocked.
@@ -88,10 +88,7 @@ impl Synchroniser {
     }
 
     /// Feeds one input, and does what comes of it. The answer to what is asked, if something is.
-    fn step(
-        &mut self,
-        input: Input<Height, u8, u16, Without<Height, u16>>,
-    ) -> Result<Option<Answer>> {
+    fn step(&mut self, input: Input<Height, u8, u16, All>) -> Result<Option<Answer>> {
         let effects = self.core.step(input)?;
         let mut answer = None;
         for effect in effects {

@@ -6,10 +6,10 @@ ghost use Rattle.std.specs.Prelude.{◌==◌, not};
 ghost use Rattle.std.proofs.Common.{rules};
 
 use anyhow::Result;
-use resolver::base::{Moment, NonEmptyVec, Predicate};
-use resolver::ingress::FetchKey;
-use resolver::opaque::{Actor, Effect, Event, Input};
-use resolver::{Delivery, Outcome};
+use resolver_core::base::{Moment, NonEmptyVec, Predicate};
+use resolver_core::ingress::FetchKey;
+use resolver_core::opaque::{Actor, Effect, Event, Input};
+use resolver_core::{Delivery, Outcome};
 use std::alloc::Global;
 use std::mem;
 

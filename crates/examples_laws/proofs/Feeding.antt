@@ -8,8 +8,8 @@ use Rattle.resolver_model_peer.specs.PeerLaws.{StaysAwake}
 use Rattle.resolver_model_peer.specs.PeerRun.{Fed}
 use Rattle.resolver_model_peer.specs.declared.effects.Effect.{Effect as Told}
 use Rattle.resolver_peer_step.specs.Said.{Codec}
-use Rattle.resolver.specs.EngineLaws.{RunsWell}
-use Rattle.resolver.specs.Matching.{Engine}
+use Rattle.resolver_core.specs.EngineLaws.{RunsWell}
+use Rattle.resolver_core.specs.Matching.{Engine}
 use Rattle.examples_laws.specs.Feeding.{FedWell}
 
 module _ {K S P : Type 0} (a : Parties K S P) (c : Codec K) (awake : StaysAwake a) where

@@ -16,8 +16,8 @@ use Rattle.resolver_model_peer.specs.PeerRun.{Fed, after, all_effects, demanded}
 use Rattle.resolver_model_peer.specs.declared.effects.Effect.{Effect as Told}
 use Rattle.resolver_peer_step.specs.EngineSteps.{written_of}
 use Rattle.resolver_peer_step.specs.Said.{Codec}
-use Rattle.resolver.specs.EngineLaws.{HaveNewIds}
-use Rattle.resolver.specs.Matching.{Engine, Matches}
+use Rattle.resolver_core.specs.EngineLaws.{HaveNewIds}
+use Rattle.resolver_core.specs.Matching.{Engine, Matches}
 
 module _ {K S P : Type 0} (a : Parties K S P) (c : Codec K) where
   -- A core was opened, took these inputs, and gave these answers. `machine` is what it is then, and `said` its answers without their bytes.

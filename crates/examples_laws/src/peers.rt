@@ -8,16 +8,16 @@ ghost use Rattle.resolver_model_peer.specs.Parties.{parties};
 ghost use Rattle.resolver_model_peer.specs.Peer.{Machine, opening};
 ghost use Rattle.resolver_peer_step.specs.EngineSteps.{all_fed};
 ghost use Rattle.resolver_peer_step.specs.Said.{answer_of, codec};
-ghost use Rattle.resolver.specs.Matching.{Matches};
-ghost use Rattle.resolver.specs.Taking.{Took};
+ghost use Rattle.resolver_core.specs.Matching.{Matches};
+ghost use Rattle.resolver_core.specs.Taking.{Took};
 ghost use Rattle.examples_laws.specs.Feeding.{FedWell};
 
-use resolver::base::{Faithful, Fault, Predicate, Span};
-use resolver::p2p::Core;
-use resolver::p2p::effects::Effect;
-use resolver::p2p::fetcher::Config;
-use resolver::p2p::inputs::Input;
-use resolver::p2p::laws::{cores_take, stays_awake};
+use resolver_core::base::{Faithful, Fault, Predicate, Span};
+use resolver_core::p2p::Core;
+use resolver_core::p2p::effects::Effect;
+use resolver_core::p2p::fetcher::Config;
+use resolver_core::p2p::inputs::Input;
+use resolver_core::p2p::laws::{cores_take, stays_awake};
 use std::alloc::Global;
 
 /// A core's answer to one input.

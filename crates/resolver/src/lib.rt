@@ -6,17 +6,14 @@
 //! `p2p::Engine` is such a core with all that its loop will poll.
 #![tactic(auto)]
 
-pub use resolver_demand::subscribers;
+pub use resolver_core::{Delivery, Fetch, Outcome, Resolution, laws, names, subscribers};
 pub use resolver_mailbox::mailbox;
-pub use resolver_opaque_actor::laws;
 pub use resolver_runtime::{Consumer, Ending, Handle, Resolver, TargetedResolver};
-pub use resolver_types::{Delivery, Fetch, Outcome, Resolution};
 
 pub mod backfill;
 pub mod base;
 pub mod delivery;
 pub mod ingress;
-pub mod names;
 pub mod node;
 pub mod opaque;
 pub mod p2p;

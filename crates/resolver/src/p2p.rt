@@ -7,33 +7,25 @@
 
 mod answers;
 mod config;
-mod counts;
 mod engine;
 mod hands;
-pub mod laws;
 mod looping;
 mod mail;
 pub mod mocks;
 mod monitor;
-pub mod rows;
 mod starting;
-mod stepping;
 
 pub use config::Config;
-pub use counts::Phases;
 pub use engine::Engine;
 pub use looping::Loop;
 pub use monitor::{Monitor, Rows};
-pub use resolver_fetch::fetcher;
+pub use resolver_core::p2p::{
+    Core, Durations, MAX_RESPONSE_OVERHEAD, Metrics, Phases, REQUEST_OVERHEAD, Tally, effects,
+    fetcher, inputs, laws, max_message_size, named, rows, sampling, score, wire,
+};
 pub use resolver_handles::mailbox::{FetchKey, Mailbox, Message};
 use resolver_mailbox::mailbox::Unrecorded;
-pub use resolver_metrics::metrics::{Durations, Metrics, Tally};
-pub use resolver_model_peer::{effects, inputs, named};
 pub use resolver_runtime::Producer;
-pub use resolver_sampling::{sampling, score};
-pub use resolver_wire::wire;
-pub use resolver_wire::wire::{MAX_RESPONSE_OVERHEAD, REQUEST_OVERHEAD, max_message_size};
-pub use stepping::Core;
 
 /// A handle of the mailbox of an engine, as `Engine::new` answers it.
 pub type EngineHandle<K, P, S, Q, R> = Mailbox<K, P, S, Q, Unrecorded, R>;

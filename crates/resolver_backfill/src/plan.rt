@@ -20,6 +20,7 @@ use std::marker::Model;
 /// It tells nobody: its calls answer what a resolver has to be told, so that the resolver's demand has
 /// the plan's pairs. A call takes time in proportion to the keys that it is given, or that it removes or
 /// answers, times the logarithm of how many are wanted.
+#[derive(Drop)]
 pub struct Plan<K: Ord, S> {
     subscriber: S,
     mark: u64,
@@ -37,17 +38,6 @@ impl<K: Ord, S> Model for Plan<K, S> {
     ghost view = { λ a. record { subscriber = a.subscriber; mark = a.mark; wanted = a.wanted.keys } };
 
     ghost invariant = { λ a. IsStrictlySortedBy K.cmp a.wanted.keys };
-}
-
-impl<K: Ord + Drop, S: Drop> Drop for Plan<K, S> {
-    fn drop(self) {
-        let Self {
-            subscriber: _,
-            mark: _,
-            wanted: _,
-            alloc: _,
-        } = self;
-    }
 }
 
 impl<K: Ord, S> Plan<K, S> {

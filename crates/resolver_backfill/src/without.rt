@@ -17,6 +17,7 @@ use std::marker::Model;
 /// those below a bound, if there is one. The bound itself is kept.
 ///
 /// To ask it takes time logarithmic in the number of the set's keys.
+#[derive(Drop)]
 pub struct Without<K: Ord, S> {
     subscriber: S,
     keys: BTreeSet<K>,
@@ -29,16 +30,6 @@ impl<K: Ord, S> Model for Without<K, S> {
     ghost Value = { Without K S };
 
     ghost view = { λ a. record { subscriber = a.subscriber; keys = a.keys.keys; below = a.below } };
-}
-
-impl<K: Ord + Drop, S: Drop> Drop for Without<K, S> {
-    fn drop(self) {
-        let Self {
-            subscriber: _,
-            keys: _,
-            below: _,
-        } = self;
-    }
 }
 
 impl<K: Ord, S> Without<K, S> {

@@ -7,7 +7,7 @@ use std::marker::Model;
 /// Numbers from 0 on, each given once. The last is `u64::MAX`.
 ///
 /// Contracts see it as the number that is given next, which is 2^64 once all were given.
-#[derive(Debug)]
+#[derive(Debug, Drop)]
 pub struct Numbers {
     next: Option<u64>,
 }
@@ -18,12 +18,6 @@ impl Model for Numbers {
     ghost Value = { ℕ };
 
     ghost view = { λ a. unwrap_or a.next (2 ^ 64) };
-}
-
-impl Drop for Numbers {
-    fn drop(self) {
-        let Self { next: _ } = self;
-    }
 }
 
 impl Numbers {

@@ -12,7 +12,7 @@ use std::marker::Model;
 /// A source of numbers over the generator PCG64: from one seed always the same.
 ///
 /// Contracts see it as that generator.
-#[derive(Debug)]
+#[derive(Debug, Drop)]
 pub struct Seeded {
     generator: Pcg64,
 }
@@ -23,12 +23,6 @@ impl Model for Seeded {
     ghost Value = { Lcg };
 
     ghost view = { λ a. a.generator };
-}
-
-impl Drop for Seeded {
-    fn drop(self) {
-        let Self { generator: _ } = self;
-    }
 }
 
 impl Seeded {

@@ -35,7 +35,6 @@ impl Driven for Worker {
         match self.step(Input { now: 0, event }) {
             Ok(effects) => {
                 let counted = effects.len() as u64;
-                drop(effects);
                 Ok(counted)
             }
             Err(fault) => Err(fault.into()),

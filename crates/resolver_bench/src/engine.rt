@@ -91,7 +91,6 @@ fn step(
         Ok(told) => {
             let counted = told.len() as u64;
             let answer = answer_to(&told);
-            drop(told);
             Ok((counted, answer))
         }
         Err(fault) => Err(fault.into()),

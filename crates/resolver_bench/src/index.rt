@@ -15,18 +15,10 @@ const STEPS: &[Steps] = &[
 ];
 
 /// An index, and the weights that it was made of.
+#[derive(Drop)]
 struct Choices {
     weights: Vec<u64>,
     index: WeightedIndex,
-}
-
-impl Drop for Choices {
-    fn drop(self) {
-        let Self {
-            weights: _,
-            index: _,
-        } = self;
-    }
 }
 
 /// Takes an index of as many places as there are peers through draws and weights.
@@ -64,7 +56,6 @@ impl Driven for Choices {
 fn make(alloc: Global, weights: &[u64]) -> Result<u64, Fault> {
     let index = WeightedIndex::new(alloc, weights)?;
     let places = index.count() as u64;
-    drop(index);
     Ok(places)
 }
 

@@ -31,12 +31,7 @@ pub fn run<R: AllocGlobal + Clock + Print + Wait + RandomSource + Copy + Drop>(
     load: &Load,
 ) -> Result<(), Fault> {
     match mailbox::new(rt, rt.alloc(), NonZeroUsize::MIN) {
-        Ok((mut sender, mut receiver)) => {
-            let taken = put_and_take(&rt, &mut sender, &mut receiver, load);
-            drop(sender);
-            drop(receiver);
-            taken
-        }
+        Ok((mut sender, mut receiver)) => put_and_take(&rt, &mut sender, &mut receiver, load),
         Err(fault) => Err(fault.into()),
     }
 }
@@ -108,10 +103,8 @@ fn taken<R: AllocGlobal + Wait + RandomSource + Drop>(
 
 /// How many fetches a message has that was taken.
 fn fetches(message: Message<u64, u16, (), All>) -> u64 {
-    let count = match &message {
+    match &message {
         Message::Fetch(items) => items.len() as u64,
         Message::Retain(_) => 0,
-    };
-    drop(message);
-    count
+    }
 }

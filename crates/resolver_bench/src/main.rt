@@ -115,12 +115,7 @@ fn asked(rt: &(impl AllocGlobal + Env)) -> Result<Work, Fault> {
     let first = arguments.next();
     let second = arguments.next();
     let third = arguments.next();
-    drop(arguments);
-    let work = asked_by(first.as_deref(), second.as_deref(), third.as_deref());
-    drop(first);
-    drop(second);
-    drop(third);
-    work
+    asked_by(first.as_deref(), second.as_deref(), third.as_deref())
 }
 
 /// The work that the first argument and the others ask for.

@@ -29,6 +29,7 @@ const STEPS: &[Steps] = &[
 type Subscribers = NonEmptyVec<(u64, u64)>;
 
 /// What the subscribers come to.
+#[derive(Drop)]
 struct Crowd {
     tracker: Tracker<u64, u64>,
     pending: Pending<u64, u64, (), All>,
@@ -36,17 +37,6 @@ struct Crowd {
     coming: Vec<Subscribers>,
     /// The step behind which they are counted.
     last: u64,
-}
-
-impl Drop for Crowd {
-    fn drop(self) {
-        let Self {
-            tracker: _,
-            pending: _,
-            coming: _,
-            last: _,
-        } = self;
-    }
 }
 
 /// Takes the subscribers through the tracker and through an overflow.
@@ -108,7 +98,6 @@ impl Crowd {
             Some(Message::Fetch(items)) => items.first().map_or(0, |it| it.subscribers.len()),
             _ => 0,
         };
-        drop(popped);
         waiting as u64
     }
 }

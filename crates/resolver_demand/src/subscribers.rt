@@ -49,7 +49,7 @@ use std::marker::Model;
 /// let rest = tracker.remove_delivered(&1, &list(alloc, &[(10, 0), (12, 0)])?)?;
 /// assert_eq!(rt; rest.ok_or("11 is left")?.as_slice(), [(11, 0)].as_slice());
 /// ```
-#[derive(Debug)]
+#[derive(Debug, Drop)]
 pub struct Tracker<K: Ord, S: Ord> {
     demand: BTreeMap<K, Subscribers<S>>,
     alloc: Global,
@@ -64,15 +64,6 @@ impl<K: Ord, S: Ord> Model for Tracker<K, S> {
     ghost view = { λ a. a.demand.entries };
 
     ghost invariant = { λ a. AreListed S.cmp a.demand.entries };
-}
-
-impl<K: Ord + Drop, S: Ord + Drop> Drop for Tracker<K, S> {
-    fn drop(self) {
-        let Self {
-            demand: _,
-            alloc: _,
-        } = self;
-    }
 }
 
 impl<K: Ord + Drop, S: Ord + Drop> Tracker<K, S> {

@@ -10,6 +10,7 @@ use std::collections::HashMap;
 
 /// The calls on a desk in their order, how many of them are puts of each handle, and the number
 /// of the next handle.
+#[derive(Drop)]
 pub(crate) struct Book<K, S, M, Q> {
     pub(crate) calls: Vec<Entry<K, S, M, Q>>,
     pub(crate) counts: HashMap<u64, u64>,
@@ -18,14 +19,4 @@ pub(crate) struct Book<K, S, M, Q> {
         → unwrap_or (get nat_eq counts h) 0 ≡ length (puts_of h (map call_of calls.items)) },
     // A close takes no memory.
     ghost closable: { closes (map call_of calls.items) ≡ 0 → vec_len calls < vec_capacity calls },
-}
-
-impl<K: Drop, S: Drop, M: Drop, Q: Drop> Drop for Book<K, S, M, Q> {
-    fn drop(self) {
-        let Self {
-            calls: _,
-            counts: _,
-            next_handle: _,
-        } = self;
-    }
 }

@@ -21,6 +21,7 @@ use std::mem;
 /// What waits: tests of subscribers, and then fetches as one batch, in which each key stands once.
 ///
 /// Contracts see both lists.
+#[derive(Drop)]
 pub struct Pending<K: Ord + Hash, S: Ord, M, Q> {
     retains: VecDeque<Q>,
     batch: Vec<FetchKey<K, S, M>>,
@@ -37,17 +38,6 @@ impl<K: Ord + Hash, S: Ord, M, Q> Model for Pending<K, S, M, Q> {
     ghost view = { λ a. backlog_of a.retains.items a.batch.items };
 
     ghost invariant = { λ a. IsFiled (names K.cmp S.cmp) a.places a.batch.items };
-}
-
-impl<K: Ord + Hash + Drop, S: Ord + Drop, M: Drop, Q: Drop> Drop for Pending<K, S, M, Q> {
-    fn drop(self) {
-        let Self {
-            retains: _,
-            batch: _,
-            places: _,
-            alloc: _,
-        } = self;
-    }
 }
 
 impl<

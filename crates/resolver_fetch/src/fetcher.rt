@@ -66,6 +66,7 @@ use std::num::NonZeroU32;
 ///     fetcher.fetch(network, &mut draws, u128::from(now))?;
 /// }
 /// ```
+#[derive(Drop)]
 pub struct Fetcher<K: Ord, P: Ord> {
     pending: Pending<K>,
     requests: Requests<K, P>,
@@ -123,25 +124,6 @@ impl<K: Ord, P: Ord> Model for Fetcher<K, P> {
           peer_limit = a.peer_limit;
           priority_requests = a.priority_requests;
         }) a.requests) a.requests a.last_id) };
-}
-
-impl<K: Ord + Drop, P: Ord + Drop> Drop for Fetcher<K, P> {
-    fn drop(self) {
-        let Self {
-            pending: _,
-            requests: _,
-            targets: _,
-            retries: _,
-            peers: _,
-            fetch_timeout: _,
-            retry_delay: _,
-            peer_limit: _,
-            priority_requests: _,
-            last_id: _,
-            cursor: _,
-            alloc: _,
-        } = self;
-    }
 }
 
 /// How many keys wait, how many requests have no answer, and whether a scan is open.

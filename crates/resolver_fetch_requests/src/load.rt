@@ -16,6 +16,7 @@ use std::num::NonZeroU32;
 /// A peer is counted from its first request on, and stays so at 0 when its last one ends, until
 /// `tidy`. A call takes one look-up, in time logarithmic in the number of peers that are counted;
 /// where a peer is not counted yet, its first request takes one more.
+#[derive(Drop)]
 pub struct Load<P: Ord> {
     limit: NonZeroU32,
     /// Of the peers that are counted: of some it may be 0.
@@ -32,15 +33,6 @@ impl<P: Ord> Model for Load<P> {
       limit = non_zero_u32_get a.limit;
       counts = a.counts.entries;
     } };
-}
-
-impl<P: Ord + Drop> Drop for Load<P> {
-    fn drop(self) {
-        let Self {
-            limit: _,
-            counts: _,
-        } = self;
-    }
 }
 
 impl<P: Ord + Drop> Load<P> {

@@ -24,6 +24,7 @@ use std::marker::Model;
 /// The requests without an answer, by their ids. Contracts see them as a list in that order.
 ///
 /// A call on one request takes time logarithmic in their number.
+#[derive(Drop)]
 pub struct Requests<K: Ord, P> {
     by_id: BTreeMap<ID, Request<K, P>>,
     /// The deadlines with the same ids, in order.
@@ -43,16 +44,6 @@ impl<K: Ord, P> Model for Requests<K, P> {
 
     ghost invariant = { λ a. AreTimed a.by_id.entries a.deadlines.keys
         × AreNamed K.cmp a.by_id.entries a.by_key.entries };
-}
-
-impl<K: Ord + Drop, P: Drop> Drop for Requests<K, P> {
-    fn drop(self) {
-        let Self {
-            by_id: _,
-            deadlines: _,
-            by_key: _,
-        } = self;
-    }
 }
 
 impl<K: Ord + Drop, P: Drop> Requests<K, P> {

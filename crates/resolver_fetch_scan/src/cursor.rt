@@ -89,13 +89,6 @@ impl<K: Ord + Drop, P: Ord + Drop> Cursor<K, P> {
     }
 }
 
-/// Has a place hold this. What it held is dropped whole.
-pub fn keep<T: Drop>(place: &mut Option<T>, value: T)
-    ensures { place.new ≡ Some value }
-{
-    drop(place.replace(value));
-}
-
 /// Puts the request that a scan sent. Where memory is refused, nothing changes.
 pub fn put_request<K: Ord + Clone + Drop, P: Ord + Drop>(
     requests: &mut Requests<K, P>,

@@ -21,11 +21,13 @@ use std::marker::Model;
 ///
 /// A call takes time logarithmic in the number of peers, unless it says otherwise. A pool is moved
 /// as a pointer, since a scan hands it on with each question.
+#[derive(Drop)]
 pub struct Pool<P: Ord> {
     held: Box<Held<P>>,
 }
 
 /// What a pool holds.
+#[derive(Drop)]
 struct Held<P> {
     names: Vec<P>,
     /// What each of them weighs: nothing once it is left no more.
@@ -47,22 +49,6 @@ impl<P: Ord> Model for Pool<P> {
 
     ghost invariant = { λ a. IsPool P.cmp a.held.value.names.items a.held.value.weights
         a.held.value.taken.items };
-}
-
-impl<P: Ord + Drop> Drop for Pool<P> {
-    fn drop(self) {
-        let Self { held: _ } = self;
-    }
-}
-
-impl<P: Drop> Drop for Held<P> {
-    fn drop(self) {
-        let Self {
-            names: _,
-            weights: _,
-            taken: _,
-        } = self;
-    }
 }
 
 impl<P: Ord + Drop> Pool<P> {

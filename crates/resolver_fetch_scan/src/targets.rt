@@ -17,6 +17,7 @@ use std::marker::Model;
 
 /// The peers that may be asked for a key, each once, in the order in which they were added.
 /// Contracts see them as that list.
+#[derive(Drop)]
 pub struct Targets<P: Ord> {
     listed: Vec<P>,
     /// The same peers, in their own order.
@@ -34,15 +35,6 @@ impl<P: Ord> Model for Targets<P> {
 
     ghost invariant = { λ a. (peer : P)
         → contains P.cmp a.names peer ≡ is_one_of P.cmp a.listed.items peer };
-}
-
-impl<P: Ord + Drop> Drop for Targets<P> {
-    fn drop(self) {
-        let Self {
-            listed: _,
-            names: _,
-        } = self;
-    }
 }
 
 impl<P: Ord + Drop> Targets<P> {

@@ -68,6 +68,7 @@ pub enum Expected<P> {
 /// What a scan tried in vain. Contracts see it as the list of its tries.
 ///
 /// A call on one key takes time logarithmic in the number of keys that were tried.
+#[derive(Drop)]
 pub struct Trail<K: Ord, P> {
     tries: Vec<Try<K, P>>,
     /// Whom they name for each key, in their order.
@@ -90,16 +91,6 @@ impl<K: Ord, P> Model for Trail<K, P> {
     ghost invariant = { λ a. (key : K)
         → option_map_or (λ peers. peers.items) (lookup (is_at (K.cmp key)) a.peers.entries) []
         ≡ peers_tried K.cmp a.tries.items key };
-}
-
-impl<K: Ord + Drop, P: Drop> Drop for Trail<K, P> {
-    fn drop(self) {
-        let Self {
-            tries: _,
-            peers: _,
-            alloc: _,
-        } = self;
-    }
 }
 
 impl<K: Ord + Drop, P: Drop> Trail<K, P> {

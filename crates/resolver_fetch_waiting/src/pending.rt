@@ -22,6 +22,7 @@ use std::marker::Model;
 /// A scan in vain leaves its moment here, in constant time; when a key becomes due after it is
 /// looked up once the wake-up is asked for. That takes no memory: the look-ups begin at a bound that
 /// is kept, so no key is cloned for them.
+#[derive(Drop)]
 pub struct Pending<K: Ord> {
     keys: Queues<K>,
     waiter: Waiter,
@@ -30,17 +31,6 @@ pub struct Pending<K: Ord> {
     /// A bound: that moment, with a key that no waiting key exceeds. In each queue the keys behind
     /// it are those that become due later.
     bound: Option<(u128, K)>,
-}
-
-impl<K: Ord + Drop> Drop for Pending<K> {
-    fn drop(self) {
-        let Self {
-            keys: _,
-            waiter: _,
-            moment: _,
-            bound: _,
-        } = self;
-    }
 }
 
 /// When a scan may be begun again.

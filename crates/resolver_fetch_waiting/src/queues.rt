@@ -21,6 +21,7 @@ use std::marker::Model;
 ///
 /// Contracts see them as one list of the keys with their places: the fresh keys by due and key,
 /// then the others. A call on one key looks it up once in a queue, or in one and then in the other.
+#[derive(Drop)]
 pub struct Queues<K: Ord> {
     fresh: PrioritySet<K, u128>,
     retry: PrioritySet<K, u128>,
@@ -36,12 +37,6 @@ impl<K: Ord> Model for Queues<K> {
     ghost view = { λ a. joined a.fresh a.retry };
 
     ghost invariant = { λ a. AreApart K.cmp a.fresh a.retry };
-}
-
-impl<K: Ord + Drop> Drop for Queues<K> {
-    fn drop(self) {
-        let Self { fresh: _, retry: _ } = self;
-    }
 }
 
 impl<K: Ord> Queues<K> {

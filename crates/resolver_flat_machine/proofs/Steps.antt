@@ -4,7 +4,7 @@ use Rattle.resolver_base.specs.declared.fault.Fault.{Fault}
 use Rattle.resolver_model_peer.specs.Peer.{Machine}
 use Rattle.resolver_model_peer.specs.PeerRun.{Fed}
 use Rattle.resolver_peer_step.specs.EngineSteps.{Takes}
-use Rattle.resolver.specs.Matching.{Engine, Matches}
+use Rattle.resolver_core.specs.Matching.{Engine, Matches}
 use Rattle.resolver_flat.specs.Naming.{Shape}
 use Rattle.resolver_flat_machine.specs.Inputs.{as_bytes, by_names, input_from}
 use Rattle.resolver_flat_machine.specs.Steps.{Does, Flat, Told}

@@ -5,7 +5,7 @@ use Rattle.resolver_fetch_scan.specs.declared.scan.Ask.{Ask as Question}
 use Rattle.resolver_fetch_scan.specs.declared.scan.Ask.TheVariants.{Draw, Check, Request}
 use Rattle.resolver_model_peer.specs.declared.effects.Effect.{Effect}
 use Rattle.resolver_model_peer.specs.declared.effects.Effect.TheVariants.{Ask, Deliver, Cancel, Produce, Reply, Credit, Block}
-use Rattle.resolver.specs.declared.p2p.rows.Row.{Row}
+use Rattle.resolver_core.specs.declared.p2p.rows.Row.{Row}
 use Rattle.resolver_flat.specs.Spelling.{demanded, flag, handed, number, value, wide}
 
 -- `bytes_of` is a name's bytes

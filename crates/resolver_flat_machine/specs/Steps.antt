@@ -9,8 +9,8 @@ use Rattle.resolver_model_peer.specs.Peer.{Machine, active_deadline, opening, wa
 use Rattle.resolver_model_peer.specs.PeerRun.{Fed}
 use Rattle.resolver_peer_step.specs.EngineSteps.{Takes}
 use Rattle.resolver_peer_step.specs.Tied.{fetcher_of}
-use Rattle.resolver.specs.Listed.{listed}
-use Rattle.resolver.specs.Matching.{Engine, Matches}
+use Rattle.resolver_core.specs.Listed.{listed}
+use Rattle.resolver_core.specs.Matching.{Engine, Matches}
 use Rattle.resolver_flat.specs.declared.reading.Misread.{Misread}
 use Rattle.resolver_flat.specs.declared.refusal.Refusal.{Refusal}
 use Rattle.resolver_flat.specs.declared.refusal.Refusal.TheVariants as refusals

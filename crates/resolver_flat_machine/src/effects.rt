@@ -3,7 +3,7 @@
 ghost use Rattle.std.specs.Prelude.{◌≡◌, ◌++◌, OnOk};
 ghost use Rattle.resolver_flat_machine.specs.Effects.{all_rows, all_spelled, asked, row_spelled, spelled};
 
-use resolver::p2p::rows::Row;
+use resolver_core::p2p::rows::Row;
 use resolver_fetch_scan::scan::Ask;
 use resolver_flat::FlatName;
 use resolver_flat::writing::{

@@ -14,6 +14,7 @@ use std::marker::Model;
 ///
 /// Contracts see the keys in order, each with its place. `IsPlaced` says what they are of the
 /// batch's keys.
+#[derive(Drop)]
 pub struct Places<K: Ord> {
     by_key: BTreeMap<K, usize>,
 }
@@ -24,12 +25,6 @@ impl<K: Ord> Model for Places<K> {
     ghost Value = { List (K × ℕ) };
 
     ghost view = { λ a. a.by_key.entries };
-}
-
-impl<K: Ord + Drop> Drop for Places<K> {
-    fn drop(self) {
-        let Self { by_key: _ } = self;
-    }
 }
 
 impl<K: Ord + Drop> Places<K> {

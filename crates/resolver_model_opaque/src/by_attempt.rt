@@ -16,6 +16,7 @@ use std::marker::Model;
 /// stand in a hash table.
 ///
 /// Contracts see it as the list of its pairs, in an order that is left open.
+#[derive(Drop)]
 pub struct ByAttempt<K> {
     table: HashMap<u64, K>,
 }
@@ -26,12 +27,6 @@ impl<K> Model for ByAttempt<K> {
     ghost Value = { List (ℕ × K) };
 
     ghost view = { λ a. a.table.entries };
-}
-
-impl<K: Drop> Drop for ByAttempt<K> {
-    fn drop(self) {
-        let Self { table: _ } = self;
-    }
 }
 
 impl<K: Drop> ByAttempt<K> {

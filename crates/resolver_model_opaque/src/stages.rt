@@ -27,6 +27,7 @@ use std::marker::Model;
 ///
 /// Contracts see it as the entries and the next attempt. A call on one key or one attempt takes
 /// time logarithmic in the number of keys.
+#[derive(Drop)]
 pub struct Stages<K: Ord, S, V> {
     entries: Keys<K, S, V>,
     /// Each key that was asked for last, by its attempt.
@@ -48,17 +49,6 @@ impl<K: Ord, S, V> Model for Stages<K, S, V> {
 
     ghost invariant = { λ a. IsLed K.cmp a.attempts a.asked a.entries.keys
         × AreDue K.cmp a.retries a.entries.keys };
-}
-
-impl<K: Ord + Drop, S: Drop, V: Drop> Drop for Stages<K, S, V> {
-    fn drop(self) {
-        let Self {
-            entries: _,
-            asked: _,
-            retries: _,
-            attempts: _,
-        } = self;
-    }
 }
 
 impl<K: Ord + Drop, S: Drop, V: Drop> Stages<K, S, V> {

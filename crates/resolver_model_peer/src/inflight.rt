@@ -14,6 +14,7 @@ pub type Inflight<K, P, S> = Entries<K, S, Bytes, Source<P>, Start>;
 
 /// When a key was fetched first, and whether the time from then on was counted. Contracts see the
 /// moment alone.
+#[derive(Drop)]
 pub struct Start {
     moment: u128,
     is_counted: bool,
@@ -25,15 +26,6 @@ impl Model for Start {
     ghost Value = { ℕ };
 
     ghost view = { λ a. a.moment };
-}
-
-impl Drop for Start {
-    fn drop(self) {
-        let Self {
-            moment: _,
-            is_counted: _,
-        } = self;
-    }
 }
 
 impl Start {

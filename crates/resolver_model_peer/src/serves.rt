@@ -14,6 +14,7 @@ use std::alloc::Global;
 use std::marker::Model;
 
 /// A peer's request that the producer has, and when it came. Contracts see the request alone.
+#[derive(Drop)]
 pub struct OpenServe<P> {
     serve: Serve<P>,
     start: u128,
@@ -25,12 +26,6 @@ impl<P> Model for OpenServe<P> {
     ghost Value = { Serve P };
 
     ghost view = { λ a. a.serve };
-}
-
-impl<P: Drop> Drop for OpenServe<P> {
-    fn drop(self) {
-        let Self { serve: _, start: _ } = self;
-    }
 }
 
 impl<P: Drop> OpenServe<P> {

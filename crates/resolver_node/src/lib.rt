@@ -1,12 +1,11 @@
-//! What a node lends to its engine, ready to be used: a clock, a network, sets of peers, a
-//! blocker, and predicates for `retain`.
+//! What a node lends to its engine, ready to be used: a clock, a network, sets of peers and a
+//! blocker.
 #![tactic(auto)]
 
 pub mod blocked;
 pub mod inbox;
 pub mod memory;
 pub mod one_set;
-pub mod predicates;
 pub mod system_clock;
 
 pub use blocked::Blocked;

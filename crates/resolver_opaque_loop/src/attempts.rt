@@ -17,15 +17,10 @@ use std::alloc::Global;
 use std::collections::BTreeMap;
 
 /// What comes of a look, under its number. One that was given up comes to nothing.
+#[derive(Drop)]
 struct Attempt<F> {
     number: u64,
     look: Abortable<F>,
-}
-
-impl<F: Drop> Drop for Attempt<F> {
-    fn drop(self) {
-        let Self { number: _, look: _ } = self;
-    }
 }
 
 impl<V, F: Future<Output = Option<V>>> Future for Attempt<F> {
@@ -44,20 +39,11 @@ impl<V, F: Future<Output = Option<V>>> Future for Attempt<F> {
 
 /// Looks that are under way, each under the number of its attempt, and none once they were ended. A
 /// poll looks only at those that were woken.
+#[derive(Drop)]
 pub(crate) struct Attempts<F> {
     alloc: Global,
     looks: Option<FuturesUnordered<Attempt<F>>>,
     handles: BTreeMap<u64, AbortHandle>,
-}
-
-impl<F: Drop> Drop for Attempts<F> {
-    fn drop(self) {
-        let Self {
-            alloc: _,
-            looks: _,
-            handles: _,
-        } = self;
-    }
 }
 
 impl<V, F: Future<Output = Option<V>>> Attempts<F> {

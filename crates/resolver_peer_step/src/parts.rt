@@ -18,6 +18,7 @@ use std::collections::BTreeMap;
 
 /// The parts of the engine. Each has what it says of one peer machine; together they are that
 /// machine.
+#[derive(Drop)]
 pub struct Parts<K: Ord, P: Ord, S: Ord> {
     /// Who wants which key.
     pub demand: Tracker<K, S>,
@@ -35,21 +36,6 @@ pub struct Parts<K: Ord, P: Ord, S: Ord> {
     pub priority_responses: bool,
     /// Where memory comes from.
     pub alloc: Global,
-}
-
-impl<K: Ord + Drop, P: Ord + Drop, S: Ord + Drop> Drop for Parts<K, P, S> {
-    fn drop(self) {
-        let Self {
-            demand: _,
-            entries: _,
-            fetcher: _,
-            serves: _,
-            next_serve: _,
-            last_index: _,
-            priority_responses: _,
-            alloc: _,
-        } = self;
-    }
 }
 
 impl<K: Ord + Drop, P: Ord + Drop, S: Ord + Drop> Parts<K, P, S> {

@@ -26,7 +26,7 @@ use std::ops::Bound;
 ///
 /// Contracts see it as the list of its pairs of a priority and an item, in order. A call on one
 /// item takes time logarithmic in the number of items.
-#[derive(Debug)]
+#[derive(Debug, Drop)]
 pub struct PrioritySet<I: Ord, R: Ord> {
     ordered: BTreeSet<(R, I)>,
     priorities: BTreeMap<I, R>,
@@ -41,15 +41,6 @@ impl<I: Ord, R: Ord> Model for PrioritySet<I, R> {
     ghost view = { λ a. a.ordered.keys };
 
     ghost invariant = { λ a. IsIndexed R.cmp I.cmp a.ordered.keys a.priorities.entries };
-}
-
-impl<I: Ord + Drop, R: Ord + Drop> Drop for PrioritySet<I, R> {
-    fn drop(self) {
-        let Self {
-            ordered: _,
-            priorities: _,
-        } = self;
-    }
 }
 
 impl<I: Ord, R: Ord> PrioritySet<I, R> {

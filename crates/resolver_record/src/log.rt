@@ -19,6 +19,7 @@ pub enum State {
 /// What a loop took and wanted, in the order in which it was told.
 ///
 /// It holds a copy of each name each time that it was told, and shares the bytes of values and messages.
+#[derive(Drop)]
 pub struct Log<K: Ord, P: Ord, S: Ord> {
     pub(crate) alloc: Global,
     pub(crate) pieces: Vec<Piece<K, P, S>>,
@@ -34,23 +35,6 @@ pub struct Log<K: Ord, P: Ord, S: Ord> {
     /// How many inputs no line of a script says.
     unsaid: u64,
     state: State,
-}
-
-impl<K: Ord + Drop, P: Ord + Drop, S: Ord + Drop> Drop for Log<K, P, S> {
-    fn drop(self) {
-        let Self {
-            alloc: _,
-            pieces: _,
-            keys: _,
-            peers: _,
-            subscribers: _,
-            pairs: _,
-            now: _,
-            room: _,
-            unsaid: _,
-            state: _,
-        } = self;
-    }
 }
 
 impl<K: Ord, P: Ord, S: Ord> Log<K, P, S> {

@@ -7,7 +7,7 @@ use crate::Visits;
 use std::marker::Model;
 
 /// A list of numbers, each of which is got at by a call that counts one visit, and in no other way.
-#[derive(Debug)]
+#[derive(Debug, Drop)]
 pub(super) struct Stored {
     numbers: Vec<u128>,
 }
@@ -18,12 +18,6 @@ impl Model for Stored {
     ghost Value = { List ℕ };
 
     ghost view = { λ stored. stored.numbers.items };
-}
-
-impl Drop for Stored {
-    fn drop(self) {
-        let Self { numbers: _ } = self;
-    }
 }
 
 impl Stored {

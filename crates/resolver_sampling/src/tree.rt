@@ -23,7 +23,7 @@ pub(super) struct Shape {
 /// The numbers are leaves. Node 1 is the root, the nodes below node i are 2i and 2i + 1, and the
 /// leaves come last: those past the list are not stored. Each other node stores what the two
 /// below it add up to.
-#[derive(Debug)]
+#[derive(Debug, Drop)]
 pub struct Tree {
     nodes: Stored,
     shape: Shape,
@@ -39,16 +39,6 @@ impl Model for Tree {
     ghost view = { λ tree. drop tree.shape.leaves tree.nodes };
 
     ghost invariant = { λ tree. IsTree tree.shape.depth tree.shape.leaves tree.nodes tree.total };
-}
-
-impl Drop for Tree {
-    fn drop(self) {
-        let Self {
-            nodes: _,
-            shape: _,
-            total: _,
-        } = self;
-    }
 }
 
 impl Tree {

@@ -7,7 +7,7 @@ use std::marker::Model;
 
 /// How often a number was visited that an index stores: a weight, a sum or a count. To read one, to
 /// write it, and to do both at once is one visit. It stops at `u64::MAX`.
-#[derive(Debug)]
+#[derive(Debug, Drop)]
 pub struct Visits {
     count: u64,
 }
@@ -18,12 +18,6 @@ impl Model for Visits {
     ghost Value = { ℕ };
 
     ghost view = { λ visits. visits.count };
-}
-
-impl Drop for Visits {
-    fn drop(self) {
-        let Self { count: _ } = self;
-    }
 }
 
 impl Visits {

@@ -22,15 +22,10 @@ type Told = Event<Key, Bytes, u16, Kept>;
 type Taken = Input<Key, Bytes, u16, Kept>;
 
 /// The actor that a script opened.
+#[derive(Drop)]
 pub struct Opaque {
     actor: Actor<Key, Bytes, u16, Kept>,
     alloc: Global,
-}
-
-impl Drop for Opaque {
-    fn drop(self) {
-        let Self { actor: _, alloc: _ } = self;
-    }
 }
 
 impl Opaque {

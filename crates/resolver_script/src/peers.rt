@@ -7,9 +7,9 @@ use crate::peer::Peer;
 use crate::planning::items_of;
 use crate::print;
 use crate::script::{Said, Timing, Why, Wish};
-use resolver::p2p::Core;
-use resolver::p2p::rows::Row;
 use resolver_base::Moment;
+use resolver_core::p2p::Core;
+use resolver_core::p2p::rows::Row;
 use resolver_fetch::fetcher::{Answer, Config};
 use resolver_mailbox::mocks::Key;
 use resolver_messages::FetchKey;
@@ -28,15 +28,10 @@ type Wanted = FetchKey<Key, u16, Option<NonEmptyVec<Peer>>>;
 type Taken = Input<Key, Peer, u16, Kept>;
 
 /// The engine that a script opened, of which nothing but its core takes part in a script. Priorities are off.
+#[derive(Drop)]
 pub struct Peers {
     core: Core<Key, Peer, u16, Kept>,
     alloc: Global,
-}
-
-impl Drop for Peers {
-    fn drop(self) {
-        let Self { core: _, alloc: _ } = self;
-    }
 }
 
 impl Peers {

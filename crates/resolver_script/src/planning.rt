@@ -23,15 +23,10 @@ pub enum Planned {
 }
 
 /// The plan that a script opened last, if it opened one.
+#[derive(Drop)]
 pub struct Planning {
     alloc: Global,
     plan: Option<Plan<Key, u16>>,
-}
-
-impl Drop for Planning {
-    fn drop(self) {
-        let Self { alloc: _, plan: _ } = self;
-    }
 }
 
 impl Planning {

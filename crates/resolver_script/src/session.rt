@@ -13,35 +13,18 @@ use std::io::Write;
 use std::mem;
 
 /// The machine that a script opened, the moment of its next input, and the plan.
+#[derive(Drop)]
 struct Opened {
     machine: Machine,
     now: Moment,
     planning: Planning,
 }
 
-impl Drop for Opened {
-    fn drop(self) {
-        let Self {
-            machine: _,
-            now: _,
-            planning: _,
-        } = self;
-    }
-}
-
 /// A script, from before its machine is opened on.
+#[derive(Drop)]
 pub struct Session {
     alloc: Global,
     opened: Option<Opened>,
-}
-
-impl Drop for Session {
-    fn drop(self) {
-        let Self {
-            alloc: _,
-            opened: _,
-        } = self;
-    }
 }
 
 impl Session {

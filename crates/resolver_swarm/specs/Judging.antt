@@ -1,7 +1,7 @@
 -- What a judge says of a node.
 use Rattle.std.specs.Prelude.{ℕ, ◌≡◌, ◌<◌, Option, None, Some, IfSome}
-use Rattle.resolver.specs.declared.p2p.rows.Phase.{Phase}
-use Rattle.resolver.specs.declared.p2p.rows.Phase.TheVariants.{Waiting, Asked, Judged}
+use Rattle.resolver_core.specs.declared.p2p.rows.Phase.{Phase}
+use Rattle.resolver_core.specs.declared.p2p.rows.Phase.TheVariants.{Waiting, Asked, Judged}
 use Rattle.resolver_swarm.specs.declared.height.Height.{Height}
 use Rattle.resolver_swarm.specs.declared.judging.requests.Asked.{Asked as Request}
 

@@ -3,11 +3,11 @@
 use crate::height::Height;
 use crate::settings::{Settings, nanos};
 use crate::world::Happens;
-use resolver::base::Check;
-use resolver::p2p::FetchKey;
-use resolver::p2p::fetcher::Answer;
-use resolver::p2p::inputs::Event;
-use resolver::{Outcome, Resolution};
+use resolver_core::base::{Check, NonEmptyVec};
+use resolver_core::ingress::FetchKey;
+use resolver_core::p2p::fetcher::Answer;
+use resolver_core::p2p::inputs::Event;
+use resolver_core::{Outcome, Resolution};
 use std::alloc::{AllocError, Global};
 use std::fmt::Write;
 
@@ -19,7 +19,7 @@ pub struct Script {
 }
 
 /// A key that is wanted.
-type Item = FetchKey<Height, u16, u16>;
+type Item = FetchKey<Height, u16, Option<NonEmptyVec<u16>>>;
 
 impl Script {
     /// The script of a node of this name. It opens the core, and a plan.

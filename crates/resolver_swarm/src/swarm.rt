@@ -6,8 +6,8 @@ use crate::nodes::node::Node;
 use crate::report::{Progress, Report};
 use crate::settings::{Kind, MS, Settings, nanos};
 use crate::world::{Coming, Happens, World};
-use resolver::p2p::inputs::Event;
 use resolver_base::{Fault, Moment};
+use resolver_core::p2p::inputs::Event;
 use std::alloc::{AllocError, Global};
 
 /// Many nodes over one network.

@@ -7,9 +7,9 @@ use crate::network::Network;
 use crate::settings::Settings;
 use crate::shelf::Shelf;
 use bytes::Bytes;
-use resolver::backfill::Without;
-use resolver::p2p::inputs::Event;
+use resolver_backfill::Without;
 use resolver_base::{Fault, Moment};
+use resolver_core::p2p::inputs::Event;
 use std::alloc::{AllocError, Global};
 
 /// What happens to a node. Nodes are numbers, and each has one subscriber, 0.

@@ -1,8 +1,8 @@
 //! What a command may be the cause of.
 
-use resolver::Outcome;
-use resolver::base::Check;
-use resolver::p2p::fetcher::Answer;
+use resolver_core::Outcome;
+use resolver_core::base::Check;
+use resolver_core::p2p::fetcher::Answer;
 use resolver_script::script::{Command, Said, Timing};
 use std::alloc::{AllocError, Global};
 

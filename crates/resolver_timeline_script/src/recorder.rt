@@ -3,9 +3,9 @@
 use crate::cause::Cause;
 use crate::states::{of_peers, of_source};
 use bytes::Bytes;
-use resolver::opaque;
-use resolver::p2p::effects::Effect;
-use resolver::p2p::fetcher::Ask;
+use resolver_core::opaque;
+use resolver_core::p2p::effects::Effect;
+use resolver_core::p2p::fetcher::Ask;
 use resolver_mailbox::mocks::Key;
 use resolver_script::endings::Fault;
 use resolver_script::machine::{Machine, Turn};

@@ -1,7 +1,7 @@
 //! What is done for the keys that are wanted, after a step.
 
-use resolver::opaque;
-use resolver::p2p::rows;
+use resolver_core::opaque;
+use resolver_core::p2p::rows;
 use resolver_script::endings::Fault;
 use resolver_script::opaque::Opaque;
 use resolver_script::peers::Peers;
@@ -42,7 +42,7 @@ pub fn of_peers(
 ) -> Result<Vec<State>, Fault> {
     let rows = match engine.rows() {
         Ok(rows) => rows,
-        Err(resolver::base::Fault::Failed) => return Ok(Vec::new(alloc)),
+        Err(resolver_core::base::Fault::Failed) => return Ok(Vec::new(alloc)),
         Err(_) => return Err(Fault::Memory),
     };
     let mut states = Vec::with_capacity(alloc, rows.len())?;

@@ -89,11 +89,9 @@ const DELIVERED: &[(u8, u16)] = &[(1, 10), (2, 10), (3, 10)];
 fn reply(rt: &(impl Abort + Print), pair: &mut impl Acts, key: u8, bytes: &[u8]) {
     let rows = pair.rows(rt);
     let asked = asked_in(rows.as_slice(), key);
-    drop(rows);
     if let Some((id, peer)) = asked {
         let message = message(rt, pair.hands().alloc, id, bytes);
         pair.act(rt, Act::Net(peer, message.as_slice()));
-        drop(message);
     }
 }
 

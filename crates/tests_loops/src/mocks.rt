@@ -26,13 +26,11 @@ fn bytes_of(rt: &impl Abort, alloc: Global, key: Key) -> BytesMut {
 fn a_key_is_read_again(rt: HostRuntime) {
     let bytes = bytes_of(&rt, rt.alloc(), Key(123));
     assert_same(&rt, bytes.as_slice(), [123].as_slice());
-    drop(bytes);
     assert_same(&rt, &Key::read(&[123]), &Some(Key(123)));
     assert_same(&rt, &Key::default(), &Key(0));
     assert!(rt; Key(1) < Key(2));
     let shown = Key(123).to_string(rt.alloc()).expect(&rt, "memory");
     assert_same(&rt, shown.as_str(), "Key(123)");
-    drop(shown);
 }
 
 /// Puts a fetch of a key.
@@ -67,9 +65,7 @@ fn key_of<N: Naming, R: Wait>(
 ) -> Option<Key> {
     let share = handle.share()?;
     let book = receiver.book(&[share]).expect(rt, "a book");
-    let key = key_in(book.first());
-    drop(book);
-    key
+    key_in(book.first())
 }
 
 /// Puts a fetch of a key into a recorded mailbox, and gives the key that its book has.
@@ -84,10 +80,7 @@ where
     let ends = recorded::<Key, u16, (), Below, N, R>(rt, alloc, pages, NonZeroUsize::MIN);
     let (mut handle, receiver) = ends.expect(&rt, "memory");
     put(&rt, alloc, &mut handle, key);
-    let read = key_of(&rt, &handle, &receiver);
-    drop(receiver);
-    drop(handle);
-    read
+    key_of(&rt, &handle, &receiver)
 }
 
 #[test]

@@ -133,6 +133,7 @@ fn a_monitor_shows_counts_and_rows_while_the_loop_goes_on(rt: HostRuntime) {
     act_all(&rt, &task, &mut looped, &mut world, &answer);
     spell_counts(&rt, &mut text, &monitor);
     listed(&rt, &mut text, &monitor, tasks, &mut looped);
+    // By hand: by scope such a test takes up to 173 seconds to prove.
     drop(looped);
     drop(world);
     assert_same(
@@ -170,6 +171,7 @@ fn a_monitor_of_a_loop_that_is_over_keeps_its_counts(rt: HostRuntime) {
     spell_listed(&rt, &mut text, &task, &mut late);
     let mut none = monitor.rows().expect(&rt, "memory");
     spell_listed(&rt, &mut text, &task, &mut none);
+    // By hand: by scope such a test takes up to 173 seconds to prove.
     drop(looped);
     drop(world);
     assert_same(&rt, text.as_str(), "0 0 0 1\nEnded\n");
@@ -208,5 +210,6 @@ fn a_monitor_is_asked_while_its_engine_runs_in_a_thread(rt: HostRuntime) {
     let mut text = String::new(rt.alloc());
     spell_counts(&rt, &mut text, &third);
     assert_same(&rt, text.as_str(), "0 0 0 1\n");
+    // By hand: by scope such a test takes up to 173 seconds to prove.
     drop(world);
 }

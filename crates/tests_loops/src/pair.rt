@@ -23,6 +23,7 @@ pub trait Side {
 }
 
 /// A loop in its world. The loop is large, so it is boxed.
+#[derive(Drop)]
 pub struct Looping<M, L> {
     task: MockTask,
     looped: Box<L>,
@@ -44,17 +45,6 @@ impl<M: Drop, L: Drop> Looping<M, L> {
             world,
             awaited: None,
         }
-    }
-}
-
-impl<M: Drop, L: Drop> Drop for Looping<M, L> {
-    fn drop(self) {
-        let Self {
-            task: _,
-            looped: _,
-            world: _,
-            awaited: _,
-        } = self;
     }
 }
 
@@ -84,6 +74,7 @@ fn act_in<M: Asks>(rt: &impl Abort, text: &mut String, world: &mut World<M>, act
 }
 
 /// A loop, and its twin.
+#[derive(Drop)]
 pub struct Pair<S, C> {
     twin: Twin<C>,
     side: S,
@@ -107,17 +98,6 @@ impl<S, C: Steps> Pair<S, C> {
             said: String::new(alloc),
             expected: String::new(alloc),
         }
-    }
-}
-
-impl<S: Drop, C: Drop> Drop for Pair<S, C> {
-    fn drop(self) {
-        let Self {
-            twin: _,
-            side: _,
-            said: _,
-            expected: _,
-        } = self;
     }
 }
 
@@ -149,7 +129,6 @@ pub trait Acts {
 pub fn judge_end(rt: &(impl Abort + Print), pair: &mut impl Acts, complaint: Option<&str>) {
     let rows = pair.rows(rt);
     let is_left = !rows.is_empty();
-    drop(rows);
     let hands = pair.hands();
     hands.judge(rt, complaint);
     if is_left {
@@ -179,7 +158,6 @@ where
         pairs.push(pair).expect(&rt, "memory");
     }
     play.play(&rt, pairs.as_mut_slice());
-    drop(pairs);
 }
 
 fn compare(rt: &(impl Abort + Print), hands: &Hands, said: &str, expected: &str) {

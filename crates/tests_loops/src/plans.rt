@@ -130,6 +130,7 @@ where
         }
         turn(text, &task, looped, &mut world.held.told).expect(rt, "memory");
     }
+    // By hand: the borrow checker doesn't cover these by scope.
     drop(task);
 }
 
@@ -147,11 +148,11 @@ where
     for one in closed {
         make(&rt, &mut text, &mut world, &mut plan, *one);
     }
+    // By hand: the borrow checker doesn't cover these by scope.
     drop(looped);
     drop(world);
     drop(plan);
     assert_same(&rt, text.as_str(), seen);
-    drop(text);
 }
 
 /// A plan is filled, a block comes and is forgotten, another is given up, and what is left is asked for again.

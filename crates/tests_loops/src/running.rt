@@ -32,7 +32,6 @@ fn wait<R: Abort + Wait + RandomSource + AllocGlobal>(
     for _ in 0..count {
         if let Some(seen) = next(rt, told).expect(rt, "a wait") {
             spell_one(rt, text, &seen);
-            drop(seen);
         }
     }
 }
@@ -46,7 +45,6 @@ fn spell_next(
     match told.try_recv() {
         Ok(seen) => {
             spell_one(rt, text, &seen);
-            drop(seen);
             true
         }
         Err(_) => false,
@@ -209,7 +207,6 @@ where
     let handle = start(engine, lent).expect(&rt, "a thread");
     let text = go(&rt, &mut world, steps);
     let ended = handle.join(&rt);
-    drop(world);
     (text, ended)
 }
 
@@ -221,7 +218,6 @@ where
     let (text, found) = play(rt, wrong, steps);
     assert_same(&rt, &found, &ended);
     assert_same(&rt, text.as_str(), expected);
-    drop(text);
 }
 
 #[test]

@@ -87,6 +87,7 @@ fn next_due(rows: &[Shown], now: u128) -> u128 {
 
 /// A scan of an engine with a timeout of 50 and a delay of 10, in which each key has as many eligible
 /// peers as every other.
+#[derive(Drop)]
 pub struct Scan {
     now: u128,
     eligible: usize,
@@ -98,20 +99,6 @@ pub struct Scan {
     /// The least moment that a check said.
     limit: Option<u128>,
     is_sent: bool,
-}
-
-impl Drop for Scan {
-    fn drop(self) {
-        let Self {
-            now: _,
-            eligible: _,
-            rows: _,
-            tried: _,
-            is_repeated: _,
-            limit: _,
-            is_sent: _,
-        } = self;
-    }
 }
 
 impl Scan {

@@ -60,6 +60,7 @@ pub const NONE: Counts = Counts {
 };
 
 /// What is asked, and what it is asked.
+#[derive(Drop)]
 pub struct Fakes {
     wire: Wire,
     dice: Dice,
@@ -67,18 +68,8 @@ pub struct Fakes {
     pub seen: mpsc::UnboundedReceiver<Seen>,
 }
 
-impl Drop for Fakes {
-    fn drop(self) {
-        let Self {
-            wire: _,
-            dice: _,
-            told: _,
-            seen: _,
-        } = self;
-    }
-}
-
 /// What carries a core's effects out, and what is open then.
+#[derive(Drop)]
 pub struct Hands {
     pub alloc: Global,
     pub setting: Setting,
@@ -104,43 +95,13 @@ pub struct Hands {
     pub model: Option<Model>,
 }
 
-impl Drop for Hands {
-    fn drop(self) {
-        let Self {
-            alloc: _,
-            setting: _,
-            now: _,
-            fakes: _,
-            scan: _,
-            deliveries: _,
-            canceled: _,
-            closing: _,
-            serves: _,
-            sent: _,
-            delivered: _,
-            counts: _,
-            script: _,
-            model: _,
-        } = self;
-    }
-}
-
 /// A core, and what carries its effects out.
+#[derive(Drop)]
 pub struct Twin<C> {
     core: C,
     pub hands: Hands,
     /// How many peers each key may be asked of, where scans are to be judged.
     eligible: Option<usize>,
-}
-
-impl<C: Drop> Drop for Twin<C> {
-    fn drop(self) {
-        let Self {
-            core: _,
-            hands: _,
-            eligible: _,
-        } = self;
-    }
 }
 
 /// When a request's time is over, and when it is time to look for keys to ask for.
@@ -226,9 +187,7 @@ impl Steps for Plain {
 
     fn list_rows(&self, rt: &impl Abort, alloc: Global) -> Vec<Shown> {
         let rows = self.rows().expect(rt, "memory");
-        let list = shown_of(rt, alloc, rows.as_slice());
-        drop(rows);
-        list
+        shown_of(rt, alloc, rows.as_slice())
     }
 }
 
@@ -633,7 +592,6 @@ impl<C: Steps> Twin<C> {
         let (_, pending) = self.core.deadlines();
         let rows = self.rows(rt);
         let complaint = self.hands.scan.judge(rows.as_slice(), pending);
-        drop(rows);
         self.hands.judge(rt, complaint);
     }
 
@@ -644,7 +602,6 @@ impl<C: Steps> Twin<C> {
         };
         let rows = self.rows(rt);
         let is_past = most_asked(rows.as_slice()) > limit.get();
-        drop(rows);
         if is_past {
             self.hands.fail(rt, "a peer has too many requests");
         }

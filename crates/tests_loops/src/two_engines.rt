@@ -90,7 +90,6 @@ fn next_work(me: &mut Hands, other: &mut Hands, kind: u128) -> Work {
                 if peer.0 == me.setting.me {
                     Work::Net(bytes)
                 } else {
-                    drop(bytes);
                     Work::Pass
                 }
             }
@@ -123,7 +122,6 @@ fn work_on(rt: &(impl Abort + Print), me: &mut impl Acts, other: &mut Hands, kin
     for _ in 0..BATCH {
         let next = next_work(me.hands(), other, kind);
         let is_done = do_next(rt, me, other.setting.me, &next);
-        drop(next);
         if !is_done {
             break;
         }

@@ -1,5 +1,5 @@
 use crate::support::equal_texts;
-use resolver_node::predicates::{All, Both, Either, Nobody, Not, OfKeys, Only};
+use resolver_predicates::predicates::{All, Both, Either, Nobody, Not, OfKeys, Only};
 use resolver_types::Predicate;
 use std::alloc::Global;
 use std::collections::BTreeSet;

@@ -221,8 +221,6 @@ fn play_parts(rt: &impl Abort, alloc: Global, actor: Plain, parts: &[&str]) {
         now: 0,
     };
     plays_parts(rt, alloc, &mut stepped, parts);
-    drop(stepped);
-    drop(actor);
 }
 
 /// Plays each case behind a beginning, of a new actor.
@@ -293,8 +291,6 @@ fn play_in_one_run(rt: &impl Abort, alloc: Global, case: &str) {
         answers: answers.as_slice(),
     };
     plays(rt, alloc, &mut ran, case);
-    drop(ran);
-    drop(actor);
 }
 
 #[test]
@@ -692,7 +688,6 @@ fn play_crowd(rt: &impl Abort, alloc: Global) -> Vec<Tally> {
     let mut actor: Plain = Actor::new(alloc, 100);
     let mut tallies = Vec::new(alloc);
     take_crowd(rt, alloc, &mut actor, &mut tallies);
-    drop(actor);
     tallies
 }
 
@@ -763,9 +758,7 @@ fn count(rt: &impl Abort, actor: &mut Plain, now: u64, event: PlainEvent) -> usi
     let effects = actor
         .step(at(now, event))
         .expect(rt, "an input that is taken");
-    let count = effects.len();
-    drop(effects);
-    count
+    effects.len()
 }
 
 fn tally_of(rt: &impl Abort, actor: &Plain, effects: Option<usize>) -> Tally {

@@ -40,6 +40,5 @@ fn a_clone_is_the_same(rt: HostRuntime) {
     let rt = &rt;
     let completion = completed(rt, rt.alloc());
     compares_clones(rt, &completion);
-    drop(completion);
     holds(rt, copied(rt, &Aborted {}) == Aborted {});
 }

@@ -29,7 +29,6 @@ where
     let delivery = delivery(rt, alloc, Letter(key));
     let mut verdict = consumer.deliver(delivery, value).expect(rt, "memory");
     let polled = task.poll(&mut verdict);
-    drop(verdict);
     match polled {
         Poll::Ready(Ok(outcome)) => Some(outcome.into()),
         _ => None,
@@ -111,5 +110,4 @@ fn a_dummy_judges_too(rt: HostRuntime) {
     let task = MockTask::new(rt).expect(rt, "a task");
     let mut consumer = mocks::Consumer::dummy(alloc).expect(rt, "memory");
     judges(rt, alloc, &task, &mut consumer, &[(1, 7), (2, 8)], JUDGED);
-    drop(consumer);
 }

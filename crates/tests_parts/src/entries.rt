@@ -166,7 +166,6 @@ fn play_each(rt: &impl Abort, alloc: Global, transcript: &str) {
     for case in cases(transcript) {
         let mut entries: Tracked = Entries::new(alloc);
         plays(rt, alloc, &mut Part(&mut entries), case);
-        drop(entries);
     }
 }
 
@@ -450,5 +449,4 @@ state 2
 > None";
     let mut entries: Stated = Entries::new(rt.alloc());
     plays(&rt, rt.alloc(), &mut Part(&mut entries), CASE);
-    drop(entries);
 }

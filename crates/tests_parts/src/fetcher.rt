@@ -484,5 +484,4 @@ fn a_scan_goes_over_each_due_key_once(rt: HostRuntime) {
     }
     limits_each(rt, &mut fetcher, 20_000);
     equal(rt, &fetcher.get_pending_deadline(), &Some(100));
-    drop(fetcher);
 }

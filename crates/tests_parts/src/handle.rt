@@ -13,13 +13,8 @@ use std::sync::Wait;
 use std::thread::Threads;
 
 /// A loop that is over at its first poll.
+#[derive(Drop)]
 struct Over(Ending);
-
-impl Drop for Over {
-    fn drop(self) {
-        let Self(_) = self;
-    }
-}
 
 impl Future for Over {
     type Output = Ending;

@@ -48,9 +48,7 @@ type Plain = Message<u16, u16, (), All>;
 
 /// A copy of a message, which is let go.
 fn copied(rt: &impl Abort, alloc: Global, message: Plain) -> Plain {
-    let copy = message.copy(alloc).expect(rt, "memory");
-    drop(message);
-    copy
+    message.copy(alloc).expect(rt, "memory")
 }
 
 #[test]
@@ -104,7 +102,6 @@ fn counted<K, S: Drop, M, Q>(
 fn pops(pending: &mut Waiting, place: usize) -> Option<Option<(usize, usize)>> {
     let popped = pending.pop()?;
     let counts = counted(&popped, place);
-    drop(popped);
     Some(counts)
 }
 
@@ -131,7 +128,6 @@ fn each_of_ten_thousand_keys_is_compared_with_few(rt: HostRuntime) {
     let looks = Cell::new(0);
     let mut pending = Pending::new(rt.alloc());
     queues_each(&rt, rt.alloc(), &mut pending, &looks);
-    drop(pending);
 }
 
 #[test]

@@ -121,7 +121,6 @@ fn drain<M: Metadata + Drop, Q: Predicate<u16, u16> + Drop>(
         if matches!(message, Message::Retain(_)) {
             if takes_tests {
                 tests = tests.wrapping_add(1);
-                drop(message);
                 return None;
             }
         } else if takes_fetches {
@@ -215,7 +214,6 @@ fn play_each(rt: &impl Abort, alloc: Global, transcript: &str) {
     for case in cases(transcript) {
         let mut pending: Waiting = Pending::new(alloc);
         plays(rt, alloc, &mut Part(&mut pending), case);
-        drop(pending);
     }
 }
 

@@ -70,7 +70,6 @@ fn keys_are_wanted_and_done_with(rt: HostRuntime) {
     wants(rt, alloc, &plan, " 2 3");
     plan.forget(&[Letter(1), Letter(3)]);
     wants(rt, alloc, &plan, " 2");
-    drop(plan);
 }
 
 #[test]
@@ -90,7 +89,6 @@ fn keys_below_a_bound_are_done_with(rt: HostRuntime) {
     plan.forget_below(&Letter(9));
     wants(rt, alloc, &plan, "");
     plan.forget_below(&Letter(9));
-    drop(plan);
 }
 
 /// Ends the test where other ones are kept than all but these keys of subscriber 10.
@@ -177,8 +175,6 @@ fn one_is_refused(rt: &impl Abort, alloc: Global, refused: u64, refusal: Refusal
     }
     wants(rt, alloc, &plan, WANTED[5]);
     equal_texts(rt, resolver.told.as_str(), TOLD);
-    drop(resolver);
-    drop(plan);
 }
 
 /// With 0 none is refused, and so with 6.
@@ -207,8 +203,6 @@ fn what_is_not_new_is_not_told(rt: HostRuntime) {
     let answer = refill(&mut resolver, &plan, None);
     equal(rt, &answer.ok(), &Some(Feedback::Ok));
     equal_texts(rt, resolver.told.as_str(), "");
-    drop(resolver);
-    drop(plan);
 }
 
 /// How many heights may be wanted at a time.
@@ -269,9 +263,6 @@ fn a_window_is_kept_full(rt: HostRuntime) {
     wants(rt, alloc, &plan, " 9 10");
     equal_texts(rt, resolver.told.as_str(), BEFORE);
     equal_texts(rt, restarted.told.as_str(), AFTER);
-    drop(resolver);
-    drop(restarted);
-    drop(plan);
 }
 
 const BEFORE: &str = "ask 5/10/7 6/10/7 7/10/7 8/10/7\nask 9/10/7 10/10/7\n";
@@ -296,7 +287,6 @@ fn a_hundred_thousand_keys(rt: HostRuntime) {
     equal(rt, &fetches.len(), &50_000);
     plan.forget_below(&99_999);
     equal(rt, &plan.wanted().first(), &Some(&99_999));
-    drop(plan);
 }
 
 fn first_numbers(rt: &impl Abort, alloc: Global, count: u32) -> Vec<u32> {

@@ -74,7 +74,6 @@ impl<R: Abort> Said<R> for Part<'_, Set> {
 fn play_new(rt: &impl Abort, alloc: Global, case: &str) {
     let mut set: Set = PrioritySet::new(alloc);
     plays(rt, alloc, &mut Part(&mut set), case);
-    drop(set);
 }
 
 #[test]
@@ -172,7 +171,6 @@ fn an_item_that_is_there_stays(rt: HostRuntime) {
     let (kept, priority) = set.pop().expect(rt, "a fetch");
     equal(rt, &(kept.mark, priority), &(1, 30));
     holds(rt, set.is_empty());
-    drop(set);
 }
 
 #[test]

@@ -27,7 +27,6 @@ fn has<O: Producer<Key = Letter>>(
 ) {
     let mut served = producer.produce(Letter(key)).expect(rt, "memory");
     let found = task.poll(&mut served);
-    drop(served);
     equal(rt, &seen(&found), &Poll::Ready(wanted));
 }
 
@@ -60,5 +59,4 @@ fn an_absent_key_drops_its_sender(rt: HostRuntime) {
     let task = MockTask::new(rt).expect(rt, "a task");
     let mut producer = mocks::Producer::new(rt.alloc());
     gives_what_was_inserted(rt, &task, &mut producer);
-    drop(producer);
 }

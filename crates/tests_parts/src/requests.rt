@@ -82,7 +82,6 @@ fn play_each(rt: &impl Abort, alloc: Global, transcript: &str) {
     for case in cases(transcript) {
         let mut requests: Asked = Requests::new(alloc);
         plays(rt, alloc, &mut Part(&mut requests), case);
-        drop(requests);
     }
 }
 

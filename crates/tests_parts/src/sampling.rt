@@ -21,7 +21,6 @@ fn has_weights(rt: &impl Abort, index: &WeightedIndex, weights: &[u64]) {
 fn ends_with(rt: &impl Abort, selection: Selection, weights: &[u64]) {
     let index = selection.end();
     has_weights(rt, &index, weights);
-    drop(index);
 }
 
 /// Begins draws without replacement.
@@ -60,7 +59,6 @@ fn index_choices(rt: HostRuntime) {
     const CHOICES: &[(u128, usize)] = &[(0, 0), (1, 0), (2, 0), (3, 2), (4, 2)];
     let index = index_of(&rt, rt.alloc(), &[3, 0, 2]);
     picks(&rt, &index, 5, 3, CHOICES);
-    drop(index);
 }
 
 #[test]
@@ -125,7 +123,6 @@ fn weights_of_each_length(rt: HostRuntime) {
     for weights in LENGTHS {
         let index = index_of(&rt, rt.alloc(), weights);
         has_weights(&rt, &index, weights);
-        drop(index);
     }
 }
 
@@ -140,7 +137,6 @@ fn updates_of_each_length(rt: HostRuntime) {
     has_weights(rt, &index, &[1, 4, 1]);
     index.update(&[(2, 5), (0, 6), (2, 7)]);
     has_weights(rt, &index, &[6, 4, 7]);
-    drop(index);
 }
 
 #[test]
@@ -151,7 +147,6 @@ fn index_wide_weights(rt: HostRuntime) {
     ];
     let index = index_of(&rt, rt.alloc(), &[u64::MAX; 3]);
     picks(&rt, &index, 55_340_232_221_128_654_845, 3, CHOICES);
-    drop(index);
 }
 
 /// An index of a thousand places, each of which weighs its number.
@@ -169,7 +164,6 @@ fn index_thousand_places(rt: HostRuntime) {
     const CHOICES: &[(u128, usize)] = &[(0, 1), (498_500, 998), (499_499, 999)];
     let index = thousand_places(&rt, rt.alloc());
     picks(&rt, &index, 499_500, 11, CHOICES);
-    drop(index);
 }
 
 #[test]
@@ -182,7 +176,6 @@ fn index_sets_one_of_a_thousand_places(rt: HostRuntime) {
     index.set_counted(998, 0, &mut visits);
     equal(rt, &index.weight(998), &0);
     holds(rt, visits.count() <= 22);
-    drop(index);
 }
 
 #[test]

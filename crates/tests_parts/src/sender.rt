@@ -67,7 +67,6 @@ fn sends_to_a_peer(rt: HostRuntime) {
     };
     answers(&rt, rt.alloc(), &mut wire, (1, &[5, 6], true), TAKEN);
     answers(&rt, rt.alloc(), &mut wire, (2, &[5, 6, 7], false), TOO_LONG);
-    drop(wire);
 }
 
 #[test]

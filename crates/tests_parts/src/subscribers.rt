@@ -199,7 +199,6 @@ fn tracker(rt: HostRuntime) {
     for case in cases(CASES) {
         let mut tracker: Demand = Tracker::new(rt.alloc());
         plays(&rt, rt.alloc(), &mut Part(&mut tracker), case);
-        drop(tracker);
     }
 }
 
@@ -248,7 +247,6 @@ fn has_a_clone(rt: &impl Abort, alloc: Global, tracker: &mut Demand) {
     has_thousand(rt, alloc, &same);
     take_out(rt, tracker);
     holds(rt, same.contains(&500));
-    drop(same);
 }
 
 #[test]
@@ -256,7 +254,6 @@ fn holds_a_thousand_keys(rt: HostRuntime) {
     let mut tracker = Tracker::new(rt.alloc());
     put_thousand(&rt, rt.alloc(), &mut tracker);
     has_a_clone(&rt, rt.alloc(), &mut tracker);
-    drop(tracker);
 }
 
 /// Subscribers of key 1 from 0 to 40 are put at three times, of which the first finds the key new. Each has its name as
@@ -295,7 +292,6 @@ fn many_subscribers_stand_in_order(rt: HostRuntime) {
     plays(rt, alloc, &mut Part(&mut tracker), TAKEN);
     drop(tracker);
     plays(rt, alloc, &mut Part(&mut same), MANY);
-    drop(same);
 }
 
 /// Puts each of 10,000 subscribers of one key into a tracker, one by one, and says how often they are looked
@@ -322,7 +318,6 @@ fn looks_at_few(rt: &impl Abort, alloc: Global, looks: &Cell<u32>) {
     let mut tracker = Tracker::new(alloc);
     let first = put_each(rt, alloc, &mut tracker, looks);
     let again = put_each(rt, alloc, &mut tracker, looks);
-    drop(tracker);
     holds(rt, 0 < first);
     holds(rt, first <= 1_000_000);
     holds(rt, again <= 1_000_000);

@@ -194,7 +194,6 @@ impl Judged<'_> {
             print(rt, printed, judge.send(outcome));
         } else {
             print(rt, printed, judge.is_canceled());
-            drop(judge);
         }
     }
 }
@@ -233,10 +232,6 @@ fn play_new<R: Abort + RandomSource + AllocGlobal>(rt: &R, alloc: Global, case: 
         judges: &mut judges,
     };
     plays(rt, alloc, &mut judged, case);
-    drop(judged);
-    drop(judges);
-    drop(tracker);
-    drop(asked);
 }
 
 #[test]
@@ -382,6 +377,5 @@ fn a_key_without_a_state_is_new_once(rt: HostRuntime) {
     );
     let mut tracker = Tracker::new(rt.alloc(), consumer);
     let is_new = put_twice(&rt, &mut tracker);
-    drop(tracker);
     equal(&rt, &is_new, &[true, false]);
 }

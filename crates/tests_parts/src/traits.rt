@@ -84,7 +84,6 @@ fn a_network_gives_what_was_sent(rt: HostRuntime) {
     let (sender, messages) = mpsc::unbounded(rt.alloc()).expect(rt, "memory");
     let mut network = Wire { messages };
     gives_hi(rt, &task, sender, &mut network);
-    drop(network);
 }
 
 #[test]
@@ -98,5 +97,4 @@ fn a_moment_comes_at_its_time(rt: HostRuntime) {
     };
     equal(rt, &left(&task, &mut clock, 5), &(0, true));
     equal(rt, &left(&task, &mut clock, 8), &(3, false));
-    drop(clock);
 }

@@ -232,7 +232,6 @@ fn keys_refused(rt: HostRuntime) {
     let payload = Payload::Request(Zeros);
     let request = Message { id: 0, payload };
     gives(rt, Message::decode(zeros(rt, rt.alloc(), 73)), &request);
-    drop(request);
     let short = Message::decode(zeros(rt, rt.alloc(), 72));
     is_refused(rt, short, Fault::EndOfBuffer);
     other_key(rt, rt.alloc());
@@ -248,5 +247,4 @@ fn other_key(rt: &impl Abort, alloc: Global) {
     let mut bytes = followed(rt, alloc, &[0; 72], 1);
     is_refused(rt, Message::read(&mut bytes), Fault::Key);
     equal(rt, &bytes.len(), &73);
-    drop(bytes);
 }

@@ -128,7 +128,6 @@ fn what_was_counted_stays_once_a_core_failed(rt: HostRuntime) {
     let ended = give(&mut core, happens(Event::End));
     assert_same(&rt, ended, Err(Fault::Failed));
     assert_counts(&rt, &core.metrics());
-    drop(core);
 }
 
 /// A response is right, which is a credit; but memory is wanting to hand it out to who came since, so the verdict is
@@ -145,5 +144,4 @@ fn a_step_that_is_refused_memory_counts_nothing(rt: HostRuntime) {
     let answered = give(&mut core, happens(Event::Verdict { number: 0, outcome }));
     assert_same(&rt, answered, Err(Fault::OutOfMemory));
     assert_same(&rt, core.metrics(), counted);
-    drop(core);
 }

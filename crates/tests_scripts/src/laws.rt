@@ -59,5 +59,4 @@ fn a_delivery_that_was_dropped_is_served(rt: HostRuntime) {
 fn of_a_core_that_has_not_failed(rt: HostRuntime) {
     let core = make_core(rt.alloc(), None);
     core.law();
-    drop(core);
 }

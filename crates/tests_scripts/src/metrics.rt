@@ -138,9 +138,7 @@ fn counts(rt: &impl Abort, alloc: Global, lists: &[&[(u64, Given)]]) -> Metrics 
     for given in lists {
         give_all(rt, alloc, &mut core, given);
     }
-    let counted = core.metrics();
-    drop(core);
-    counted
+    core.metrics()
 }
 
 fn assert_counts(rt: &impl Abort, alloc: Global, lists: &[&[(u64, Given)]], expected: &Metrics) {
@@ -717,5 +715,4 @@ fn spelled(rt: &impl Abort, alloc: Global, metrics: &Metrics) -> String {
 fn a_scraper_gets_a_line_for_each_number(rt: HostRuntime) {
     let text = spelled(&rt, rt.alloc(), &COUNTED);
     assert_same(&rt, text.as_str(), SCRAPED);
-    drop(text);
 }

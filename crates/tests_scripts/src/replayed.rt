@@ -107,7 +107,6 @@ fn replayed(rt: &impl Abort, alloc: Global, log: &Memory, script: &[u8], ways: W
     };
     let mut input = BufReader::new(alloc, given).expect(rt, "memory");
     let ended = run(log, alloc, &mut input, &mut output);
-    drop(input);
     let Printed { mut taken, ways: _ } = output;
     put_end(rt, &mut taken, ended);
     taken
@@ -117,9 +116,7 @@ fn replayed(rt: &impl Abort, alloc: Global, log: &Memory, script: &[u8], ways: W
 fn assert_taken(rt: &impl Abort, alloc: Global, script: &[u8], ways: Ways, expected: &[u8]) {
     let log = Memory::new(alloc);
     let found = replayed(rt, alloc, &log, script, ways);
-    drop(log);
     assert_text(rt, found.as_slice(), expected);
-    drop(found);
 }
 
 /// The same, where all is given, and all is taken.
@@ -197,7 +194,6 @@ fn a_full_output(rt: HostRuntime) {
         put(&rt, &mut expected, b"fault: output\n");
         let ways = Ways { room, ..WHOLE };
         assert_taken(&rt, rt.alloc(), script, ways, &expected);
-        drop(expected);
     }
 }
 
@@ -239,5 +235,4 @@ fn lines_that_are_traced(rt: HostRuntime) {
     let lines = log.into_lines();
     let said = format!(in rt.alloc(); "{:?}", lines.as_slice()).expect(&rt, "memory");
     assert_text(&rt, said.as_bytes(), TRACED.as_bytes());
-    drop((lines, said));
 }

@@ -8,9 +8,7 @@ use std::process::Abort;
 /// How many effects of serves a core has where this is given.
 fn serves(rt: &impl Abort, alloc: Global, core: &mut Plain, given: Given) -> usize {
     let effects = take(rt, alloc, core, 0, given);
-    let count = count_serves(effects.as_slice());
-    drop(effects);
-    count
+    count_serves(effects.as_slice())
 }
 
 fn count_serves(effects: &[PlainEffect]) -> usize {
@@ -48,7 +46,6 @@ fn counts(rt: &impl Abort, alloc: Global, count: u64) -> (usize, usize) {
     let mut core = make_core(alloc, None);
     let produced = open_serves(rt, alloc, &mut core, count);
     let replied = close_serves(rt, alloc, &mut core, count);
-    drop(core);
     (produced, replied)
 }
 

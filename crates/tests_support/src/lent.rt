@@ -5,7 +5,6 @@ ghost use Rattle.futures.specs.Poll.{OnPending};
 ghost use Rattle.futures.specs.Task.{IsArmed, Keeps};
 ghost use Rattle.resolver_base.specs.declared.fault.Fault.TheVariants.{OutOfMemory};
 
-use crate::both::both;
 use crate::names::Peer;
 use crate::seen::{Seen, Told, Wrong, tell};
 use bytes::Bytes;
@@ -19,15 +18,10 @@ use resolver_types::{Delivery, Outcome};
 use std::alloc::Global;
 
 /// Peer sets, blocked sets or messages, as a test gives them.
+#[derive(Drop)]
 pub struct Given<T> {
     pub told: Told,
     pub given: mpsc::UnboundedReceiver<T>,
-}
-
-impl<T: Drop> Drop for Given<T> {
-    fn drop(self) {
-        let Self { told: _, given: _ } = self;
-    }
 }
 
 impl Provider for Given<(u64, Vec<Peer>)> {
@@ -59,24 +53,13 @@ impl Receiver for Given<(Peer, Bytes)> {
 }
 
 /// A way to the peers that takes everything but what goes wrong.
+#[derive(Drop)]
 pub struct Wire {
     told: Told,
     wrong: Wrong,
     checks: u64,
     sends: u64,
     drawn: Seeded,
-}
-
-impl Drop for Wire {
-    fn drop(self) {
-        let Self {
-            told: _,
-            wrong: _,
-            checks: _,
-            sends: _,
-            drawn: _,
-        } = self;
-    }
 }
 
 impl Wire {
@@ -152,15 +135,10 @@ impl Sender for Wire {
 }
 
 /// Draws that follow from a seed, or are all 0 where there is none.
+#[derive(Drop)]
 pub struct Dice {
     pub told: Told,
     pub seeded: Option<Seeded>,
-}
-
-impl Drop for Dice {
-    fn drop(self) {
-        let Self { told: _, seeded: _ } = self;
-    }
 }
 
 impl Draws for Dice {
@@ -184,22 +162,12 @@ fn channel<T: Drop>(alloc: Global) -> Result<(oneshot::Sender<T>, oneshot::Recei
 }
 
 /// A consumer that hands each delivery's sender to its test, unless it drops them.
+#[derive(Drop)]
 pub struct Judge {
     pub alloc: Global,
     pub told: Told,
     pub wrong: Wrong,
     pub verdicts: mpsc::UnboundedSender<oneshot::Sender<Outcome>>,
-}
-
-impl Drop for Judge {
-    fn drop(self) {
-        let Self {
-            alloc: _,
-            told: _,
-            wrong: _,
-            verdicts: _,
-        } = self;
-    }
 }
 
 impl Consumer for Judge {
@@ -231,11 +199,7 @@ impl Consumer for Judge {
                 }
                 Ok(receiver)
             }
-            Err(fault) => {
-                drop(delivery);
-                drop(value);
-                Err(fault)
-            }
+            Err(fault) => Err(fault),
         }
     }
 }
@@ -246,37 +210,23 @@ pub fn make_judge(
     told: &Told,
     wrong: Wrong,
 ) -> Result<(mpsc::UnboundedReceiver<oneshot::Sender<Outcome>>, Judge), Fault> {
-    match both(told.clone(), mpsc::unbounded(alloc)) {
-        Ok((told, (verdicts, senders))) => {
-            let judge = Judge {
-                alloc,
-                told,
-                wrong,
-                verdicts,
-            };
-            Ok((senders, judge))
-        }
-        Err(error) => Err(error.into()),
-    }
+    let (verdicts, senders) = mpsc::unbounded(alloc)?;
+    let judge = Judge {
+        alloc,
+        told: told.clone()?,
+        wrong,
+        verdicts,
+    };
+    Ok((senders, judge))
 }
 
 /// A producer that hands each request's sender to its test.
+#[derive(Drop)]
 pub struct Store {
     pub alloc: Global,
     pub told: Told,
     pub wrong: Wrong,
     pub serves: mpsc::UnboundedSender<oneshot::Sender<Bytes>>,
-}
-
-impl Drop for Store {
-    fn drop(self) {
-        let Self {
-            alloc: _,
-            told: _,
-            wrong: _,
-            serves: _,
-        } = self;
-    }
 }
 
 impl Producer for Store {

@@ -4,12 +4,11 @@
 //! consumer, a producer, a network and draws that write down what they are asked, which `seen` spells,
 //! with the `kinds` of what a watcher is told.
 //! `transcript` reads the lines that tests say, with what each is to print.
-//! `polling` is how a test polls a loop by hand, and writes what is seen of that, and `waiting` how it waits. `both` ties what two calls
-//! make that may want memory. `names` has names of keys and peers, `counting` names that count how often they are
-//! compared, `slow` a consumer whose verdicts the test gives, and `wide` keys for tests of many.
+//! `polling` is how a test polls a loop by hand, and writes what is seen of that, and `waiting` how it waits.
+//! `names` has names of keys and peers, `counting` names that count how often they are compared, `slow` a
+//! consumer whose verdicts the test gives, and `wide` keys for tests of many.
 #![tactic(auto)]
 
-pub mod both;
 pub mod counting;
 pub mod kinds;
 pub mod lent;

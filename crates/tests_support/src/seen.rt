@@ -159,7 +159,6 @@ pub fn spell<T: fmt::Display + Drop>(
             return Ok(());
         };
         let written = writeln!(text, "{seen}");
-        drop(seen);
         written?;
     }
     Ok(())

@@ -11,6 +11,7 @@ use resolver_runtime::Clock;
 use std::alloc::{AllocError, Global};
 use std::sync::{Arc, Mutex};
 
+#[derive(Drop)]
 struct Time {
     now: u64,
     /// The last moment that was waited for.
@@ -18,29 +19,11 @@ struct Time {
     waker: Option<Waker>,
 }
 
-impl Drop for Time {
-    fn drop(self) {
-        let Self {
-            now: _,
-            awaited: _,
-            waker: _,
-        } = self;
-    }
-}
-
 /// A moment that a test puts forward.
+#[derive(Drop)]
 pub struct Watch {
     changed: Source,
     time: Mutex<Time>,
-}
-
-impl Drop for Watch {
-    fn drop(self) {
-        let Self {
-            changed: _,
-            time: _,
-        } = self;
-    }
 }
 
 impl Watch {
@@ -96,14 +79,9 @@ impl Watch {
 }
 
 /// A clock that stands until its test puts it forward.
+#[derive(Drop)]
 pub struct Standing {
     pub watch: Arc<Watch>,
-}
-
-impl Drop for Standing {
-    fn drop(self) {
-        let Self { watch: _ } = self;
-    }
 }
 
 impl Clock for Standing {
@@ -129,18 +107,10 @@ impl Clock for Standing {
 }
 
 /// A clock that stands, and tells its test each moment that it is to wait for.
+#[derive(Drop)]
 pub struct Telling {
     pub clock: Standing,
     pub moments: mpsc::UnboundedSender<u128>,
-}
-
-impl Drop for Telling {
-    fn drop(self) {
-        let Self {
-            clock: _,
-            moments: _,
-        } = self;
-    }
 }
 
 impl Clock for Telling {

@@ -1,13 +1,14 @@
 //! One wrong step for each thing that a judge judges.
 
 use bytes::Bytes;
-use resolver::base::{Check, NonEmptyVec};
-use resolver::p2p::effects::Effect;
-use resolver::p2p::inputs::Event;
-use resolver::p2p::named::Source;
-use resolver::p2p::rows::{Phase, Row};
-use resolver::p2p::{FetchKey, Phases};
-use resolver::{Delivery, Fetch, Outcome};
+use resolver_core::base::{Check, NonEmptyVec};
+use resolver_core::ingress::FetchKey;
+use resolver_core::p2p::Phases;
+use resolver_core::p2p::effects::Effect;
+use resolver_core::p2p::inputs::Event;
+use resolver_core::p2p::named::Source;
+use resolver_core::p2p::rows::{Phase, Row};
+use resolver_core::{Delivery, Fetch, Outcome};
 use resolver_swarm::height::Height;
 use resolver_swarm::judging::complaint::Complaint;
 use resolver_swarm::judging::judge::Judge;
@@ -35,7 +36,6 @@ fn judge(alloc: Global) -> Judge {
 
 fn take(rt: &impl Abort, judge: &mut Judge, now: u128, event: Happens) {
     judge.take(now, &event).expect(rt, "memory");
-    drop(event);
 }
 
 /// A judge of a node that wants a key and has peer 2.
@@ -428,7 +428,6 @@ fn a_block_after_a_credit_is_found(rt: HostRuntime) {
         peer: 2,
     };
     judge.note_effect(&block).expect(&rt, "memory");
-    drop(block);
     assert_found(&rt, &judge, Some(Complaint::Earned));
 }
 

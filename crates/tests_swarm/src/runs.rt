@@ -119,8 +119,6 @@ fn replayed(rt: &impl Abort, alloc: Global, script: &[u8]) -> (Vec<u8>, Ending) 
     let mut taken = Vec::new(alloc);
     let mut input = BufReader::new(alloc, script).expect(rt, "memory");
     let ending = run(&log, alloc, &mut input, &mut taken).expect(rt, "no fault");
-    drop(input);
-    drop(log);
     (taken, ending)
 }
 

@@ -49,7 +49,6 @@ fn assert_key(rt: &impl Abort, alloc: Global, run: &Run, key: u8, expected: (&st
         found.as_str() == wanted,
         "key {key}\nwanted: {wanted}\ncame: {found}"
     );
-    drop(found);
     assert_marks(rt, alloc, lane.marks(), marks);
 }
 
@@ -63,7 +62,6 @@ fn assert_of(
 ) {
     let run = run_of(rt, alloc, before, lines);
     assert_key(rt, alloc, &run, key, expected);
-    drop(run);
 }
 
 #[test]
@@ -135,7 +133,6 @@ fn a_key_that_the_source_lacks_is_asked_for_again(rt: HostRuntime) {
 fn a_refusal_is_marked(rt: HostRuntime) {
     let run = run_of(&rt, rt.alloc(), "opaque 100\nat 3\nstop\nat 4\n", "wake\n");
     assert_marks(&rt, rt.alloc(), run.marks.as_slice(), "refused@4");
-    drop(run);
 }
 
 #[test]
@@ -147,5 +144,4 @@ fn a_line_that_cannot_be_read_ends_the_run(rt: HostRuntime) {
     );
     assert_eq!(rt; ending.status(), 2);
     assert!(rt; run.lanes.len() == 1, "what came before is noted");
-    drop(run);
 }

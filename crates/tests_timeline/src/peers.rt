@@ -20,7 +20,6 @@ fn assert_last(
     let last = lane.spans().last().expect(rt, "a span of the peer");
     assert_eq!(rt; last.is.weight, weight, "the weight behind {lines}");
     assert_eq!(rt; last.is.standing, standing, "the standing behind {lines}");
-    drop(run);
 }
 
 /// Of one whose response came after 20 nanoseconds, with two bytes.
@@ -44,7 +43,6 @@ fn assert_drawn(rt: &impl Abort, alloc: Global, lines: &str, weight: u64) {
         1,
         "the machine draws below another number than {weight} behind {lines}"
     );
-    drop((run, script));
 }
 
 // Two bytes in 20 nanoseconds are 100,000,000 in a second.
@@ -63,7 +61,6 @@ fn assert_again(rt: &impl Abort, alloc: Global, lines: &str, weight: u64) {
     let lines = joined(rt, alloc, ASKED_AGAIN, lines);
     assert_last(rt, alloc, (ASKED, lines.as_str()), Standing::Free, weight);
     assert_drawn(rt, alloc, lines.as_str(), weight);
-    drop(lines);
 }
 
 // The averages of bytes are 2 and 0, and of nanoseconds 20 and the timeout of 50 with the delay of 10.
@@ -84,7 +81,6 @@ fn a_peer_that_comes_back_is_forgotten(rt: HostRuntime) {
     let alloc = rt.alloc();
     let lines = joined(&rt, alloc, RIGHT, "peers 2 3\npeers 3 4\n");
     assert_last(&rt, alloc, (ASKED, lines.as_str()), Standing::Free, 1);
-    drop(lines);
 }
 
 // A set with an index that is not greater is passed over.
@@ -99,7 +95,6 @@ fn an_older_set_changes_nothing(rt: HostRuntime) {
         Standing::Free,
         100_000_001,
     );
-    drop(lines);
 }
 
 #[test]
@@ -132,7 +127,6 @@ fn assert_peer_marks(rt: &impl Abort, alloc: Global, (before, lines): (&str, &st
     let run: Run = run_of(rt, alloc, before, lines);
     let lane = run.peers.get(&4).expect(rt, "a lane of the peer");
     assert_marks(rt, alloc, lane.marks(), marks);
-    drop(run);
 }
 
 #[test]
@@ -165,5 +159,4 @@ fn the_local_peer_has_no_lane(rt: HostRuntime) {
     );
     assert!(rt; run.peers.get(&9).is_none(), "the local peer has a lane");
     assert!(rt; run.peers.get(&4).is_some(), "peer 4 has none");
-    drop(run);
 }

@@ -31,7 +31,6 @@ fn the_worked_script_as_text(rt: HostRuntime) {
     assert_line(&rt, text.as_str(), KEY_1);
     assert_line(&rt, text.as_str(), KEY_MARKS);
     assert_line(&rt, text.as_str(), "a peer 4 was asked\n");
-    drop((run, text));
 }
 
 /// Of an actor: a verdict that is dropped, behind which a late subscriber gets the response again, and one of a wrong value.
@@ -61,7 +60,6 @@ fn a_script_of_an_actor_as_text(rt: HostRuntime) {
         text.as_str(),
         "\nkey 1     ############====================================~~~~~~~~~~~~~~~~~~~~~~~~\n",
     );
-    drop((run, text));
 }
 
 // Eight commands, with nine columns for each: key 2 comes with the last of them, and peer 4 is full one command before.
@@ -84,7 +82,6 @@ fn a_full_peer_as_text(rt: HostRuntime) {
         text.as_str(),
         "\npeer 4    111111111111111111111111111111111111111111111111111111==================\n",
     );
-    drop((run, text));
 }
 
 /// A run as SVG, by its moments.
@@ -110,7 +107,6 @@ fn the_worked_script_as_svg(rt: HostRuntime) {
         "the request takes all the time"
     );
     assert!(rt; text.ends_with("</svg>\n"), "the picture ends");
-    drop((run, drawn));
 }
 
 #[test]
@@ -118,5 +114,4 @@ fn a_script_without_inputs_is_drawn(rt: HostRuntime) {
     let run = run_of(&rt, rt.alloc(), "", "");
     let drawn = svg_of(&rt, rt.alloc(), &run);
     assert!(rt; drawn.as_str().ends_with("</svg>\n"), "the picture ends");
-    drop((run, drawn));
 }

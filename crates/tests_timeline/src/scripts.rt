@@ -41,9 +41,7 @@ pub fn joined(rt: &impl Abort, alloc: Global, before: &str, lines: &str) -> Stri
 /// What is noted of a script, and how it ends.
 pub fn noted(rt: &impl Abort, alloc: Global, script: &str) -> (Run, Ending) {
     let mut input = BufReader::new(alloc, script.as_bytes()).expect(rt, "memory");
-    let read = read(alloc, &mut input).expect(rt, "no fault");
-    drop(input);
-    read
+    read(alloc, &mut input).expect(rt, "no fault")
 }
 
 /// What is noted of these lines behind a beginning.
@@ -51,7 +49,6 @@ pub fn run_of(rt: &impl Abort, alloc: Global, before: &str, lines: &str) -> Run 
     let script = joined(rt, alloc, before, lines);
     let (run, ending) = noted(rt, alloc, script.as_str());
     assert_eq!(rt; ending, Ending::End, "a line can't be read");
-    drop(script);
     run
 }
 
@@ -91,5 +88,4 @@ pub fn assert_marks(rt: &impl Abort, alloc: Global, marks: &[Mark], expected: &s
         found.as_str() == expected,
         "wanted: {expected}\ncame: {found}"
     );
-    drop(found);
 }

@@ -11,18 +11,10 @@ use resolver_fetch::fetcher::{Answer, Ask, answer_to};
 use std::alloc::Global;
 
 /// The way to the peers, and a source of numbers: what a scan asks is answered at once from these.
+#[derive(Drop)]
 pub(crate) struct Asking<X, G> {
     pub(crate) sender: X,
     pub(crate) draws: G,
-}
-
-impl<X: Drop, G: Drop> Drop for Asking<X, G> {
-    fn drop(self) {
-        let Self {
-            sender: _,
-            draws: _,
-        } = self;
-    }
 }
 
 impl<X: Sender, G: Draws> Asking<X, G>

@@ -10,28 +10,27 @@ ghost use Rattle.resolver_fetch_scan.specs.FetcherLaws.{AllAre};
 ghost use Rattle.resolver_model.specs.declared.status.Status.TheVariants.{Failed};
 ghost use Rattle.resolver_model_peer.specs.Parties.{parties};
 ghost use Rattle.resolver_model_peer.specs.Peer.{Machine, active_deadline, opening, wake_up};
-ghost use Rattle.resolver.specs.Asking.{CanBeAnswered};
-ghost use Rattle.resolver.specs.EngineLaws.{RunsWell};
-ghost use Rattle.resolver.specs.Taking.{Took};
+ghost use Rattle.resolver_core.specs.Asking.{CanBeAnswered};
+ghost use Rattle.resolver_core.specs.EngineLaws.{RunsWell};
+ghost use Rattle.resolver_core.specs.Taking.{Took};
 ghost use Rattle.resolver_peer_step.specs.EngineSteps.{Takes, all_fed};
-ghost use Rattle.resolver.specs.Listed.{listed, listed_row};
-ghost use Rattle.resolver.specs.Phased.{IsPhased};
-ghost use Rattle.resolver.specs.Matching.{Matches};
+ghost use Rattle.resolver_core.specs.Listed.{listed, listed_row};
+ghost use Rattle.resolver_core.specs.Phased.{IsPhased};
+ghost use Rattle.resolver_core.specs.Matching.{Matches};
 ghost use Rattle.resolver_peer_step.specs.Said.{answer_of, codec, fed_of};
 ghost use Rattle.resolver_peer_step.specs.Tied.{fetcher_of};
 ghost use Rattle.resolver.specs.Configured.{fetching};
 
 use crate::p2p::answers::Asking;
 use crate::p2p::config::Config;
-use crate::p2p::counts::Phases;
 use crate::p2p::hands::Hands;
 use crate::p2p::looping::Loop;
 use crate::p2p::mail::Mail;
 use crate::p2p::monitor::{Monitor, Shown};
-use crate::p2p::rows::Row;
-use crate::p2p::stepping::Core;
 use bytes::Bytes;
 use resolver_base::{Draws, Faithful, Fault, PublicKey, Sender, Span};
+use resolver_core::p2p::rows::Row;
+use resolver_core::p2p::{Core, Phases};
 use resolver_fetch::fetcher;
 use resolver_handles::mailbox::Mailbox;
 use resolver_mailbox::mailbox;
@@ -103,7 +102,7 @@ impl<
 
 impl<P: Ord + Faithful + Drop, D, B, K: Ord + Hash, S: Ord, C, O, Q: Predicate<K, S>, R> Model
     for Engine<P, D, B, K, S, C, O, Q, R> {
-    ghost use Rattle.resolver.specs.Matching as matching;
+    ghost use Rattle.resolver_core.specs.Matching as matching;
 
     ghost Value = { matching.Engine K S P };
 

@@ -3,7 +3,7 @@
 ghost use Rattle.std.specs.Prelude.{◌≡◌, IfErr};
 ghost use Rattle.futures.specs.Task.{Keeps};
 ghost use Rattle.resolver_base.specs.declared.fault.Fault.TheVariants.{OutOfMemory};
-ghost use Rattle.resolver.specs.Asking.{CanBeAnswered};
+ghost use Rattle.resolver_core.specs.Asking.{CanBeAnswered};
 
 use crate::p2p::answers::Asking;
 use bytes::Bytes;

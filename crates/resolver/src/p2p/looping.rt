@@ -6,11 +6,11 @@ ghost use Rattle.futures.specs.Task.{IsArmed, Keeps};
 use crate::p2p::hands::Hands;
 use crate::p2p::mail::{Mail, poll_mail};
 use crate::p2p::monitor::Shown;
-use crate::p2p::stepping::Core;
 use bytes::Bytes;
 use futures::Future;
 use futures::task::{Context, Poll};
 use resolver_base::{Draws, Faithful, PublicKey, Sender, Span};
+use resolver_core::p2p::Core;
 use resolver_model_peer::effects::Effect;
 use resolver_model_peer::inputs::{Event, Happening, Input};
 use resolver_runtime::{

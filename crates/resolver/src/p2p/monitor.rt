@@ -5,15 +5,14 @@ ghost use Rattle.futures.specs.Poll.{OnPending, IfReady};
 ghost use Rattle.futures.specs.Task.{IsArmed, Keeps};
 ghost use Rattle.resolver_base.specs.declared.fault.Fault.TheVariants.{Ended, OutOfMemory};
 
-use crate::p2p::counts::Phases;
-use crate::p2p::rows::Row;
-use crate::p2p::stepping::Core;
 use futures::channel::mpsc::{UnboundedReceiver, UnboundedSender};
 use futures::channel::{mpsc, oneshot};
 use futures::spin::lock;
 use futures::task::{Context, Poll};
 use futures::{Future, Stream};
 use resolver_base::{Faithful, Fault, Span};
+use resolver_core::p2p::rows::Row;
+use resolver_core::p2p::{Core, Phases};
 use resolver_metrics::metrics::Metrics;
 use resolver_runtime::TURNS;
 use resolver_types::Predicate;

@@ -67,7 +67,6 @@ impl Part<Call> for Demand {
                     return Err(Fault::OutOfMemory);
                 };
                 let left = self.remove_delivered(key, &delivered);
-                drop(delivered);
                 done(left)
             }
             Call::Remove(key) => {

@@ -75,7 +75,6 @@ fn deliver(entries: &mut Deliveries, delivery: Delivery<u64, u64>) -> Result<(),
     if entries.contains(&delivery.key) && entries.number(&delivery.key).is_none() {
         done(entries.deliver(delivery, (), 7))
     } else {
-        drop(delivery);
         Ok(())
     }
 }
@@ -85,7 +84,6 @@ fn redeliver(entries: &mut Deliveries, delivery: Delivery<u64, u64>) -> Result<(
     if entries.response(&delivery.key).is_some() && entries.number(&delivery.key).is_none() {
         done(entries.redeliver(delivery))
     } else {
-        drop(delivery);
         Ok(())
     }
 }

@@ -96,14 +96,9 @@ impl Fresh for Asker {
 }
 
 /// A fetcher that asks a peer for one key at once.
+#[derive(Drop)]
 pub struct Sparing {
     asker: Asker,
-}
-
-impl Drop for Sparing {
-    fn drop(self) {
-        let Self { asker: _ } = self;
-    }
 }
 
 impl Fresh for Sparing {

@@ -53,19 +53,11 @@ impl Way {
 }
 
 /// What a part shows, one value behind the other.
+#[derive(Drop)]
 pub struct Notes {
     text: String,
     /// Whether memory was refused for some of it.
     is_wanting: bool,
-}
-
-impl Drop for Notes {
-    fn drop(self) {
-        let Self {
-            text: _,
-            is_wanting: _,
-        } = self;
-    }
 }
 
 impl Notes {
@@ -82,7 +74,6 @@ impl Notes {
         if write!(self.text, "{value:?} ").is_err() {
             self.is_wanting = true;
         }
-        drop(value);
     }
 
     /// Writes a text as it is.
@@ -181,10 +172,7 @@ fn compared<Call, T: Part<Call>>(alloc: Global, way: Way, part: &mut T, twin: &m
 /// Drops what a call answers.
 pub fn done<T: Drop>(answered: Result<T, Fault>) -> Result<(), Fault> {
     match answered {
-        Ok(answer) => {
-            drop(answer);
-            Ok(())
-        }
+        Ok(_) => Ok(()),
         Err(fault) => Err(fault),
     }
 }

@@ -134,16 +134,8 @@ where
         NonZeroUsize::MIN,
     );
     match opened {
-        Ok((mut first, mut taker)) => {
-            let ending = ended(task, alloc, way, &mut first, &mut taker);
-            drop(first);
-            drop(taker);
-            ending
-        }
-        Err(_) => {
-            drop(task);
-            Ending::Outside
-        }
+        Ok((mut first, mut taker)) => ended(task, alloc, way, &mut first, &mut taker),
+        Err(_) => Ending::Outside,
     }
 }
 
@@ -163,15 +155,9 @@ fn ended<N: Naming, R: Wait + Copy + Drop>(
                 second: &mut second,
                 taker,
             };
-            let ending = walked(alloc, way, &mut mail);
-            drop(mail);
-            drop(second);
-            ending
+            walked(alloc, way, &mut mail)
         }
-        Err(_) => {
-            drop(task);
-            Ending::Outside
-        }
+        Err(_) => Ending::Outside,
     }
 }
 
@@ -264,7 +250,6 @@ fn expect(
         Poll::Ready(Some(Err(fault))) => return Err(*fault),
         _ => named.is_empty(),
     };
-    drop(polled);
     if is_given { Ok(()) } else { Err(Fault::Uneven) }
 }
 
@@ -287,7 +272,6 @@ fn show_book(notes: &mut Notes, lent: Result<Vec<Entry<u64, u16, (), All>>, Faul
             for entry in book.as_slice() {
                 notes.add(entry);
             }
-            drop(book);
         }
         Err(fault) => notes.add(fault),
     }

@@ -32,15 +32,10 @@ type Happened = Event<u64, u64, u16, All>;
 type Told = Vec<Effect<u64, u64, u16>>;
 
 /// An actor, and the number of the next attempt that is answered.
+#[derive(Drop)]
 struct Driver {
     actor: Worker,
     next: u64,
-}
-
-impl Drop for Driver {
-    fn drop(self) {
-        let Self { actor: _, next: _ } = self;
-    }
 }
 
 /// Takes keys through an actor that asks for a key again at once.
@@ -65,7 +60,6 @@ impl Driven for Driver {
             _ => retain(actor)?,
         };
         let counted = told.len() as u64;
-        drop(told);
         Ok(counted)
     }
 }

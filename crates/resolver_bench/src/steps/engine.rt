@@ -75,22 +75,12 @@ enum Asked {
 }
 
 /// A core, what it was told to send last, the moment, and the number of the next delivery to be judged.
+#[derive(Drop)]
 struct Driver {
     engine: Engine,
     requests: Vec<(u64, Peer)>,
     now: u32,
     judged: u64,
-}
-
-impl Drop for Driver {
-    fn drop(self) {
-        let Self {
-            engine: _,
-            requests: _,
-            now: _,
-            judged: _,
-        } = self;
-    }
 }
 
 /// Takes each key the short way.
@@ -195,7 +185,6 @@ fn asked_by(told: Told) -> Asked {
         Some(Effect::Ask(Ask::Request { id, peer, .. })) => Asked::Request(*id, *peer),
         _ => Asked::Nothing,
     };
-    drop(told);
     asked
 }
 

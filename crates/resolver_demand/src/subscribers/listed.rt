@@ -17,15 +17,9 @@ use std::marker::Model;
 const FEW: usize = 16;
 
 /// Subscribers in their order, each once, with their marks. Contracts see the list of them.
-#[derive(Clone, Debug)]
+#[derive(Clone, Debug, Drop)]
 pub struct Subscribers<S: Ord> {
     form: Form<S>,
-}
-
-impl<S: Ord + Drop> Drop for Subscribers<S> {
-    fn drop(self) {
-        let Self { form: _ } = self;
-    }
 }
 
 /// How subscribers stand. Those that were many once stay in their map.

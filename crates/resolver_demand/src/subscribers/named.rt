@@ -14,17 +14,12 @@ const FEW: usize = 16;
 
 /// A list of subscribers, with an index of them where they are many: a look-up takes logarithmic
 /// time.
+#[derive(Drop)]
 pub(super) struct Named<'a, S: Ord> {
     pub(super) list: &'a [(S, u64)],
     index: Option<BTreeSet<S>>,
     ghost indexed: { ForSome index
         (λ index. (s : S) → contains S.cmp index s ≡ is_among S.cmp list.now s) },
-}
-
-impl<S: Ord + Drop> Drop for Named<'_, S> {
-    fn drop(self) {
-        let Self { list: _, index: _ } = self;
-    }
 }
 
 impl<'a, S: Ord + Clone + Drop> Named<'a, S> {

@@ -30,6 +30,7 @@ use std::num::NonZeroU32;
 /// many requests each peer has, where they are limited.
 ///
 /// A call on one peer takes time logarithmic in their number.
+#[derive(Drop)]
 pub(super) struct Peers<P: Ord> {
     local: Option<P>,
     set: BTreeMap<P, Score>,
@@ -61,20 +62,6 @@ impl<P: Ord> Model for Peers<P> {
         × IsWhole P.cmp (known_by P.cmp
         (record { local = a.local; set = a.set.entries; blocked = a.blocked.keys; counts = a.load }))
         a.pool };
-}
-
-impl<P: Ord + Drop> Drop for Peers<P> {
-    fn drop(self) {
-        let Self {
-            local: _,
-            set: _,
-            blocked: _,
-            load: _,
-            allowed: _,
-            pool: _,
-            alloc: _,
-        } = self;
-    }
 }
 
 impl<P: Ord + Drop> Peers<P> {

@@ -32,7 +32,7 @@ use crate::fetcher::peers::Peers;
 use crate::fetcher::{Answer, Ask, Fetcher, ID};
 use resolver_base::Fault;
 use resolver_fetch_requests::requests::Requests;
-use resolver_fetch_scan::cursor::{Cursor, keep, put_request};
+use resolver_fetch_scan::cursor::{Cursor, put_request};
 use resolver_fetch_scan::pool::Pool;
 use resolver_fetch_scan::step::{Step, ask_for, step_of};
 use resolver_fetch_scan::targets::Targets;
@@ -99,7 +99,7 @@ impl<K: Ord + Clone + Drop, P: Ord + Clone + Drop> Fetcher<K, P> {
         match step_of(&cursor.trying, &cursor.expects, answer) {
             Ok(step) => self.go(cursor, step),
             Err(fault) => {
-                keep(&mut self.cursor, cursor);
+                self.cursor = Some(cursor);
                 Err(fault)
             }
         }
@@ -155,13 +155,13 @@ impl<K: Ord + Clone + Drop, P: Ord + Clone + Drop> Fetcher<K, P> {
         match ask_for(self.priority_requests, &cursor.trying, &expected) {
             Ok(ask) => {
                 cursor.expects = expected;
-                keep(&mut self.cursor, cursor);
+                self.cursor = Some(cursor);
                 self.last_id = last_id;
                 self.pending.wake();
                 Ok(Some(ask))
             }
             Err(fault) => {
-                keep(&mut self.cursor, cursor);
+                self.cursor = Some(cursor);
                 Err(fault)
             }
         }
@@ -215,7 +215,7 @@ impl<K: Ord + Clone + Drop, P: Ord + Clone + Drop> Fetcher<K, P> {
             return self.pass(cursor, peer, reason);
         }
         if let Err(fault) = cursor.fail(&peer, reason) {
-            keep(&mut self.cursor, cursor);
+            self.cursor = Some(cursor);
             return Err(fault);
         }
         let moment = cursor.moment;
@@ -247,7 +247,7 @@ impl<K: Ord + Clone + Drop, P: Ord + Clone + Drop> Fetcher<K, P> {
         ensures only { IfErr result (λ fault. fault ≡ OutOfMemory) }
     {
         if let Err(fault) = cursor.note(&peer, reason) {
-            keep(&mut self.cursor, cursor);
+            self.cursor = Some(cursor);
             return Err(fault);
         }
         match self.find_behind(&cursor) {
@@ -257,7 +257,7 @@ impl<K: Ord + Clone + Drop, P: Ord + Clone + Drop> Fetcher<K, P> {
             }
             Err(fault) => {
                 cursor.trail.pop();
-                keep(&mut self.cursor, cursor);
+                self.cursor = Some(cursor);
                 Err(fault)
             }
         }
@@ -333,7 +333,7 @@ impl<K: Ord + Clone + Drop, P: Ord + Clone + Drop> Fetcher<K, P> {
                 Ok(None)
             }
             Err(fault) => {
-                keep(&mut self.cursor, cursor);
+                self.cursor = Some(cursor);
                 Err(fault)
             }
         }
@@ -359,7 +359,7 @@ impl<K: Ord + Clone + Drop, P: Ord + Clone + Drop> Fetcher<K, P> {
                     trying,
                     expects: Expected::Mode,
                 };
-                keep(&mut self.cursor, cursor);
+                self.cursor = Some(cursor);
                 Some(Ask::Draw(bound))
             }
             Next::Wait(other) => {

@@ -31,6 +31,7 @@ use std::sync::ledger;
 ///
 /// It is made of the handle's runtime, by value. So a call that has its handle and can't copy the
 /// runtime has one seat, and can put under no other. Contracts see the share, or none.
+#[derive(Drop)]
 pub(super) struct Seat<K, S, M, Q, N: Names, R> {
     rt: R,
     share: Option<Share<K, S, M, Q, N>>,
@@ -43,12 +44,6 @@ impl<K, S, M, Q, N: Names, R> Model for Seat<K, S, M, Q, N, R> {
     ghost Value = { Option (Share K S M Q) };
 
     ghost view = { λ a. a.share };
-}
-
-impl<K: Drop, S: Drop, M: Drop, Q: Drop, N: Names, R: Drop> Drop for Seat<K, S, M, Q, N, R> {
-    fn drop(self) {
-        let Self { rt: _, share: _ } = self;
-    }
 }
 
 impl<K, S, M, Q, N: Names, R> Seat<K, S, M, Q, N, R> {
@@ -73,6 +68,7 @@ impl<K, S, M, Q, N: Names, R> Seat<K, S, M, Q, N, R> {
 }
 
 /// The totals of a recorded desk, and the parts that no handle has so far.
+#[derive(Drop)]
 struct Totals<N: Names> {
     puts: ledger::Book<Puts<N>>,
     takes: ledger::Book<Takes<N>>,
@@ -80,19 +76,10 @@ struct Totals<N: Names> {
     ghost unused: { spare.amount ≡ 0 },
 }
 
-impl<N: Names> Drop for Totals<N> {
-    fn drop(self) {
-        let Self {
-            puts: _,
-            takes: _,
-            spare: _,
-        } = self;
-    }
-}
-
 /// A desk, the totals of its puts and its takes where it is recorded, and who waits for a message.
 ///
 /// Between its calls the totals are the numbers of puts and takes in the desk's book.
+#[derive(Drop)]
 pub(super) struct Counted<K: Ord + Hash, S: Ord, M: Metadata, Q: Predicate<K, S>, N: Naming, R> {
     desk: Desk<K, S, M, Q>,
     totals: Option<Totals<N>>,
@@ -102,24 +89,6 @@ pub(super) struct Counted<K: Ord + Hash, S: Ord, M: Metadata, Q: Predicate<K, S>
     ghost totaled: { is_some totals ≡ N.is_recorded },
     ghost counted: { ForSome totals
         (λ t. IsCounted t.puts.total t.takes.total t.spare.parts desk) },
-}
-
-impl<
-    K: Ord + Hash + Drop,
-    S: Ord + Drop,
-    M: Metadata + Drop,
-    Q: Predicate<K, S> + Drop,
-    N: Naming,
-    R: Drop,
-> Drop for Counted<K, S, M, Q, N, R> {
-    fn drop(self) {
-        let Self {
-            desk: _,
-            totals: _,
-            waker: _,
-            seats: _,
-        } = self;
-    }
 }
 
 impl<
@@ -211,14 +180,15 @@ impl<
         if let Some(share) = share {
             return share.put(alloc, &mut self.desk, &mut totals.puts, message);
         }
-        let first = Share::first(
+        let (feedback, first) = Share::first(
             alloc,
             &mut self.desk,
             &mut totals.puts,
             &mut totals.spare,
             message,
-        );
-        keep(share, first)
+        )?;
+        *share = Some(first);
+        Ok(feedback)
     }
 
     /// Takes a message, and keeps a copy in the receiver's list where the mailbox is recorded.
@@ -271,19 +241,4 @@ impl<
     {
         self.desk.is_over()
     }
-}
-
-/// Keeps what came with an answer in this place. What was there is dropped.
-fn keep<T: Drop>(
-    place: &mut Option<T>,
-    made: Result<(Feedback, T), Fault>,
-) -> Result<Feedback, Fault>
-    ensures feedback { IfOk made (λ made. result ≡ Ok made.0) }
-    ensures kept { IfOk made (λ made. place.new ≡ Some made.1) }
-    ensures err { IfErr made (λ fault. result ≡ Err fault) }
-    ensures same { OnErr made (place.new ≡ place.old) }
-{
-    let (feedback, value) = made?;
-    *place = Some(value);
-    Ok(feedback)
 }

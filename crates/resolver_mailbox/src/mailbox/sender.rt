@@ -21,25 +21,10 @@ use std::sync::{Arc, Mutex, Wait};
 
 /// What senders and receiver have in common: a desk under one lock, and where a message or a close
 /// is awaited.
+#[derive(Drop)]
 pub(super) struct Shared<K: Ord + Hash, S: Ord, M: Metadata, Q: Predicate<K, S>, N: Naming, R> {
     pub(super) arrived: Source,
     pub(super) state: Mutex<Counted<K, S, M, Q, N, R>>,
-}
-
-impl<
-    K: Ord + Hash + Drop,
-    S: Ord + Drop,
-    M: Metadata + Drop,
-    Q: Predicate<K, S> + Drop,
-    N: Naming,
-    R: Drop,
-> Drop for Shared<K, S, M, Q, N, R> {
-    fn drop(self) {
-        let Self {
-            arrived: _,
-            state: _,
-        } = self;
-    }
 }
 
 impl<

@@ -23,6 +23,7 @@ use std::sync::ledger;
 ///
 /// Contracts see all of it. By its type it has a part in the total of its mailbox's puts, which is
 /// the number of its messages.
+#[derive(Drop)]
 pub struct Share<K, S, M, Q, N: Names> {
     handle: u64,
     puts: Vec<Message<K, S, M, Q>>,
@@ -45,17 +46,6 @@ impl<K, S, M, Q, N: Names> Model for Share<K, S, M, Q, N> {
     } };
 
     ghost invariant = { λ a. (0 < a.part.parts) × (a.part.amount ≡ vec_len a.puts) };
-}
-
-impl<K: Drop, S: Drop, M: Drop, Q: Drop, N: Names> Drop for Share<K, S, M, Q, N> {
-    fn drop(self) {
-        let Self {
-            handle: _,
-            puts: _,
-            is_closed: _,
-            part: _,
-        } = self;
-    }
 }
 
 impl<K, S, M, Q, N: Names> Share<K, S, M, Q, N> {

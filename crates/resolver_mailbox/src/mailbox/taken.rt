@@ -20,6 +20,7 @@ use std::sync::ledger;
 /// What the receiver of a recorded mailbox gave, in its order. It is empty in another mailbox.
 ///
 /// Contracts see the list. By its type it is as long as the total of its mailbox's takes.
+#[derive(Drop)]
 pub(super) struct Taken<K, S, M, Q, N: Naming> {
     items: Vec<Message<K, S, M, Q>>,
     part: Option<ledger::Share<Takes<N>>>,
@@ -37,12 +38,6 @@ impl<K, S, M, Q, N: Naming> Model for Taken<K, S, M, Q, N> {
     ghost invariant = { λ a. (is_some a.part ≡ N.is_recorded) × MatchOption a.part
         (a.items.items ≡ [])
         (λ part. (part.parts ≡ 1) × (part.amount ≡ vec_len a.items)) };
-}
-
-impl<K: Drop, S: Drop, M: Drop, Q: Drop, N: Naming> Drop for Taken<K, S, M, Q, N> {
-    fn drop(self) {
-        let Self { items: _, part: _ } = self;
-    }
 }
 
 impl<K, S, M, Q, N: Naming> Taken<K, S, M, Q, N> {

@@ -19,6 +19,7 @@ use std::marker::{Model, PhantomData};
 /// where it equals the one that is. What is right is sent to the test with its key.
 ///
 /// Contracts see it as the values that are expected, in the order of their keys.
+#[derive(Drop)]
 pub struct Consumer<R: Ord, V, S> {
     alloc: Global,
     expected: BTreeMap<R, V>,
@@ -32,17 +33,6 @@ impl<R: Ord, V, S> Model for Consumer<R, V, S> {
     ghost Value = { List (R × V) };
 
     ghost view = { λ a. a.expected.entries };
-}
-
-impl<R: Ord + Drop, V: Drop, S: Drop> Drop for Consumer<R, V, S> {
-    fn drop(self) {
-        let Self {
-            alloc: _,
-            expected: _,
-            taken: _,
-            subscribers: _,
-        } = self;
-    }
 }
 
 impl<R: Ord + Drop, V: Drop, S> Consumer<R, V, S> {

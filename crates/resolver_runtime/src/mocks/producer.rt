@@ -15,6 +15,7 @@ use std::marker::Model;
 /// Answers at once from the values that were put in.
 ///
 /// Contracts see it as these values, in the order of their keys.
+#[derive(Drop)]
 pub struct Producer<K: Ord, V> {
     alloc: Global,
     values: BTreeMap<K, V>,
@@ -26,15 +27,6 @@ impl<K: Ord, V> Model for Producer<K, V> {
     ghost Value = { List (K × V) };
 
     ghost view = { λ a. a.values.entries };
-}
-
-impl<K: Ord + Drop, V: Drop> Drop for Producer<K, V> {
-    fn drop(self) {
-        let Self {
-            alloc: _,
-            values: _,
-        } = self;
-    }
 }
 
 impl<K: Ord + Drop, V: Drop> Producer<K, V> {

@@ -12,20 +12,11 @@ use std::marker::PhantomData;
 
 /// A provider and a blocker that never give anything. It keeps the waker of the task that polled
 /// it last, and never wakes it.
+#[derive(Drop)]
 pub struct Quiet<P> {
     silence: Source,
     waker: Option<Waker>,
     peers: PhantomData<P>,
-}
-
-impl<P: Drop> Drop for Quiet<P> {
-    fn drop(self) {
-        let Self {
-            silence: _,
-            waker: _,
-            peers: _,
-        } = self;
-    }
 }
 
 impl<P> Quiet<P> {

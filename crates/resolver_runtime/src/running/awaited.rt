@@ -21,18 +21,10 @@ use std::sync::{Arc, Mutex};
 type Place<T> = Arc<Mutex<oneshot::Receiver<T>>>;
 
 /// The answer under a number, or none where its sender was dropped or it was closed before.
+#[derive(Drop)]
 struct Answer<T> {
     number: u64,
     place: Place<T>,
-}
-
-impl<T: Drop> Drop for Answer<T> {
-    fn drop(self) {
-        let Self {
-            number: _,
-            place: _,
-        } = self;
-    }
 }
 
 impl<T: Drop> Future for Answer<T> {
@@ -55,6 +47,7 @@ impl<T: Drop> Future for Answer<T> {
 /// allocation.
 ///
 /// Contracts see how many are open.
+#[derive(Drop)]
 pub struct Awaited<T> {
     alloc: Global,
     answers: FuturesUnordered<Answer<T>>,
@@ -68,16 +61,6 @@ impl<T> Model for Awaited<T> {
     ghost Value = { ℕ };
 
     ghost view = { λ a. set_len a.answers };
-}
-
-impl<T: Drop> Drop for Awaited<T> {
-    fn drop(self) {
-        let Self {
-            alloc: _,
-            answers: _,
-            places: _,
-        } = self;
-    }
 }
 
 impl<T: Drop> Awaited<T> {

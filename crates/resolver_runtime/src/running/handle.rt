@@ -15,14 +15,9 @@ use std::thread::{JoinHandle, Threads};
 use std::{io, thread};
 
 /// A loop's thread. Who drops it leaves the thread to itself: the loop runs on.
+#[derive(Drop)]
 pub struct Handle {
     thread: JoinHandle<Ending>,
-}
-
-impl Drop for Handle {
-    fn drop(self) {
-        let Self { thread: _ } = self;
-    }
 }
 
 impl Handle {

@@ -11,20 +11,11 @@ use futures::task::{Context, Poll};
 /// isn't asked for again.
 ///
 /// Contracts see the two, and whether the blocked set may still change.
+#[derive(Drop)]
 pub struct Peers<D, B> {
     provider: D,
     blocker: B,
     is_changing: bool,
-}
-
-impl<D: Drop, B: Drop> Drop for Peers<D, B> {
-    fn drop(self) {
-        let Self {
-            provider: _,
-            blocker: _,
-            is_changing: _,
-        } = self;
-    }
 }
 
 impl<D, B> Peers<D, B> {

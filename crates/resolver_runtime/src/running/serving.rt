@@ -12,18 +12,10 @@ use resolver_base::Fault;
 use std::alloc::Global;
 
 /// A producer, and the requests of peers that it hasn't answered so far, each under its number.
+#[derive(Drop)]
 pub struct Serving<O> {
     producer: O,
     serves: Awaited<Bytes>,
-}
-
-impl<O: Drop> Drop for Serving<O> {
-    fn drop(self) {
-        let Self {
-            producer: _,
-            serves: _,
-        } = self;
-    }
 }
 
 impl<O: Producer + Drop> Serving<O> {

@@ -18,14 +18,9 @@ use std::alloc::Global;
 use std::collections::BTreeMap;
 
 /// The one-shots of deliveries, by their numbers.
+#[derive(Drop)]
 pub(super) struct Verdicts<O> {
     awaited: BTreeMap<u64, oneshot::Receiver<O>>,
-}
-
-impl<O: Drop> Drop for Verdicts<O> {
-    fn drop(self) {
-        let Self { awaited: _ } = self;
-    }
 }
 
 impl<O: Drop> Verdicts<O> {

@@ -17,7 +17,7 @@ use std::marker::Model;
 ///
 /// The weights stand in a tree of sums, and the positive ones are counted in another. A call takes
 /// time logarithmic in the number of places, unless it says otherwise.
-#[derive(Debug)]
+#[derive(Debug, Drop)]
 pub struct WeightedIndex {
     sums: Tree,
     counts: Tree,
@@ -33,16 +33,6 @@ impl Model for WeightedIndex {
     ghost view = { λ index. index.sums };
 
     ghost invariant = { λ index. index.counts ≡ map mark index.sums };
-}
-
-impl Drop for WeightedIndex {
-    fn drop(self) {
-        let Self {
-            sums: _,
-            counts: _,
-            alloc: _,
-        } = self;
-    }
 }
 
 impl WeightedIndex {

@@ -4,7 +4,7 @@ use crate::peer::Peer;
 use crate::print::{
     Lined, bytes, deliver, demand, line_of_number, line_of_numbers, word_and_number,
 };
-use resolver::p2p::rows::{Phase, Row};
+use resolver_core::p2p::rows::{Phase, Row};
 use resolver_fetch::fetcher::Ask;
 use resolver_mailbox::mocks::Key;
 use resolver_model_peer::effects::Effect;

@@ -12,12 +12,12 @@ use crate::judging::requests::{Asked, Requests};
 use crate::judging::said::{Said, read};
 use crate::settings::{Settings, nanos};
 use crate::world::Happens;
-use resolver::base::Check;
-use resolver::p2p::Phases;
-use resolver::p2p::effects::Effect;
-use resolver::p2p::inputs::Event;
-use resolver::p2p::rows::{Phase, Row};
-use resolver::{Outcome, Resolution};
+use resolver_core::base::Check;
+use resolver_core::p2p::Phases;
+use resolver_core::p2p::effects::Effect;
+use resolver_core::p2p::inputs::Event;
+use resolver_core::p2p::rows::{Phase, Row};
+use resolver_core::{Outcome, Resolution};
 use std::alloc::{AllocError, Global};
 use std::collections::{BTreeMap, BTreeSet};
 

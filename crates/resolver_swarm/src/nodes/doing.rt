@@ -6,13 +6,13 @@ use crate::nodes::node::{Node, Takes};
 use crate::settings::{Kind, nanos};
 use crate::world::World;
 use bytes::{Bytes, BytesMut};
-use resolver::Outcome;
-use resolver::base::{Check, Draws};
-use resolver::p2p::effects::Effect;
-use resolver::p2p::fetcher::{Answer, Ask};
-use resolver::p2p::inputs::Event;
-use resolver::p2p::wire::{Message, Payload};
 use resolver_base::Fault;
+use resolver_core::Outcome;
+use resolver_core::base::{Check, Draws};
+use resolver_core::p2p::effects::Effect;
+use resolver_core::p2p::fetcher::{Answer, Ask};
+use resolver_core::p2p::inputs::Event;
+use resolver_core::p2p::wire::{Message, Payload};
 use std::alloc::{AllocError, Global};
 
 impl Node {

@@ -11,14 +11,9 @@ pub const COLUMNS: usize = 72;
 const REACH: usize = 6;
 
 /// One line of a lane.
+#[derive(Drop)]
 pub struct Strip {
     cells: [u8; COLUMNS],
-}
-
-impl Drop for Strip {
-    fn drop(self) {
-        let Self { cells: _ } = self;
-    }
 }
 
 impl Strip {

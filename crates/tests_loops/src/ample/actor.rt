@@ -35,12 +35,12 @@ impl Takes for Wide {
     fn count(&self, rt: &impl Abort) -> usize {
         let rows = self.rows().expect(rt, "memory");
         let count = rows.len();
-        drop(rows);
         count
     }
 }
 
 /// An actor, and what it told.
+#[derive(Drop)]
 struct Node<A> {
     actor: A,
     alloc: Global,
@@ -49,18 +49,6 @@ struct Node<A> {
     begun: VecDeque<u64>,
     /// How many subscribers each delivery named, and how many bytes it had.
     delivered: Vec<(usize, usize)>,
-}
-
-impl<A: Drop> Drop for Node<A> {
-    fn drop(self) {
-        let Self {
-            actor: _,
-            alloc: _,
-            now: _,
-            begun: _,
-            delivered: _,
-        } = self;
-    }
 }
 
 /// An actor with a delay of 10, as a call that promises nothing.
@@ -111,7 +99,6 @@ impl<A: Takes> Node<A> {
         for effect in &effects {
             self.carry_out(rt, effect);
         }
-        drop(effects);
     }
 
     /// The first attempt that has no answer is answered so.
@@ -138,6 +125,7 @@ fn ample_memory_of_the_actor_for_values(rt: HostRuntime) {
     assert_same(&rt, node.delivered.as_slice(), [(1, FOUR_MIB)].as_slice());
     node.complete(&rt, 0);
     assert_same(&rt, node.actor.count(&rt), 0);
+    // By hand: by scope such a test takes 13 to 57 seconds to prove.
     drop(node);
 }
 
@@ -154,6 +142,7 @@ fn ample_memory_of_the_actor_for_keys(rt: HostRuntime) {
     assert_same(&rt, node.actor.count(&rt), 100_000);
     node.give(&rt, Event::Retain(Low(0)));
     assert_same(&rt, node.actor.count(&rt), 0);
+    // By hand: by scope such a test takes 13 to 57 seconds to prove.
     drop(node);
 }
 
@@ -176,6 +165,7 @@ fn ample_memory_of_the_actor_for_subscribers(rt: HostRuntime) {
     assert_same(&rt, node.delivered.as_slice(), [(70_000, 2)].as_slice());
     node.complete(&rt, 0);
     assert_same(&rt, node.actor.count(&rt), 0);
+    // By hand: by scope such a test takes 13 to 57 seconds to prove.
     drop(node);
 }
 
@@ -193,6 +183,7 @@ fn ample_memory_of_the_actor_for_deliveries(rt: HostRuntime) {
         node.complete(&rt, 9_999 - before);
     }
     assert_same(&rt, node.actor.count(&rt), 0);
+    // By hand: by scope such a test takes 13 to 57 seconds to prove.
     drop(node);
 }
 
@@ -209,5 +200,6 @@ fn ample_memory_of_the_actor_for_retries(rt: HostRuntime) {
     }
     assert_same(&rt, node.begun.len(), 1);
     assert_same(&rt, node.actor.count(&rt), 1);
+    // By hand: by scope such a test takes 13 to 57 seconds to prove.
     drop(node);
 }

@@ -46,12 +46,12 @@ impl Takes for Wide {
             None => 0,
         };
         let count = rows.len();
-        drop(rows);
         (count, retries)
     }
 }
 
 /// A core whose peers take everything, and what it told.
+#[derive(Drop)]
 struct Node<C> {
     core: C,
     alloc: Global,
@@ -63,20 +63,6 @@ struct Node<C> {
     produced: u64,
     /// How many bytes the last reply has.
     replied: usize,
-}
-
-impl<C: Drop> Drop for Node<C> {
-    fn drop(self) {
-        let Self {
-            core: _,
-            alloc: _,
-            now: _,
-            asked: _,
-            delivered: _,
-            produced: _,
-            replied: _,
-        } = self;
-    }
 }
 
 /// A core as a call that promises nothing.
@@ -176,7 +162,6 @@ impl<C: Takes> Node<C> {
         for effect in &effects {
             answer = self.carry_out(rt, effect);
         }
-        drop(effects);
         answer
     }
 
@@ -207,7 +192,6 @@ impl<C: Takes> Node<C> {
             .expect(rt, "memory");
         head.extend_from_slice(bytes).expect(rt, "memory");
         let bytes = padded(rt, self.alloc, head.as_slice(), zeros);
-        drop(head);
         self.give(rt, Event::Net { peer, bytes });
     }
 
@@ -248,6 +232,7 @@ fn ample_memory_for_values(rt: HostRuntime) {
     let value = Some(padded(&rt, alloc, &[], FOUR_MIB));
     node.give(&rt, Event::Served { serve: 0, value });
     assert_same(&rt, node.replied, FOUR_MIB + 13);
+    // By hand: by scope such a test takes 13 to 57 seconds to prove.
     drop(node);
 }
 
@@ -265,6 +250,7 @@ fn ample_memory_for_keys(rt: HostRuntime) {
     assert_same(&rt, node.core.count(&rt), (100_000, 0));
     node.give(&rt, Event::Retain(Low(0)));
     assert_same(&rt, node.core.count(&rt), (0, 0));
+    // By hand: by scope such a test takes 13 to 57 seconds to prove.
     drop(node);
 }
 
@@ -287,6 +273,7 @@ fn ample_memory_for_subscribers(rt: HostRuntime) {
     assert_same(&rt, node.delivered.as_slice(), [(70_000, 2)].as_slice());
     node.complete(&rt, 0);
     assert_same(&rt, node.core.count(&rt), (0, 0));
+    // By hand: by scope such a test takes 13 to 57 seconds to prove.
     drop(node);
 }
 
@@ -305,6 +292,7 @@ fn ample_memory_for_peers(rt: HostRuntime) {
         node.complete(&rt, number);
     }
     assert_same(&rt, node.core.count(&rt), (0, 0));
+    // By hand: by scope such a test takes 13 to 57 seconds to prove.
     drop(node);
 }
 
@@ -331,6 +319,7 @@ fn ample_memory_for_targets(rt: HostRuntime) {
     node.respond(&rt, HI, 0);
     node.complete(&rt, 0);
     assert_same(&rt, node.core.count(&rt), (0, 0));
+    // By hand: by scope such a test takes 13 to 57 seconds to prove.
     drop(node);
 }
 
@@ -349,6 +338,7 @@ fn ample_memory_for_deliveries(rt: HostRuntime) {
         node.complete(&rt, 9_999 - before);
     }
     assert_same(&rt, node.core.count(&rt), (0, 0));
+    // By hand: by scope such a test takes 13 to 57 seconds to prove.
     drop(node);
 }
 
@@ -367,6 +357,7 @@ fn ample_memory_for_serves(rt: HostRuntime) {
         node.give(&rt, Event::Served { serve, value });
     }
     assert_same(&rt, node.replied, 12);
+    // By hand: by scope such a test takes 13 to 57 seconds to prove.
     drop(node);
 }
 
@@ -381,5 +372,6 @@ fn ample_memory_for_retries(rt: HostRuntime) {
         node.wake(&rt, 1);
     }
     assert_same(&rt, node.core.count(&rt), (1, 66_000));
+    // By hand: by scope such a test takes 13 to 57 seconds to prove.
     drop(node);
 }

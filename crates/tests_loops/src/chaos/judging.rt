@@ -39,7 +39,6 @@ impl<C: Steps> Twin<C> {
         if let Some(model) = &mut self.hands.model {
             model.judge_event(rows.as_slice()).expect(rt, "memory");
         }
-        drop(rows);
         self.hands.judge_model(rt);
     }
 

@@ -196,11 +196,7 @@ impl Held {
     /// Whether anybody waits for what is said of the first delivery, which is dropped.
     pub fn is_wanted(&mut self) -> bool {
         match self.verdicts.try_recv() {
-            Ok(verdict) => {
-                let is_wanted = !verdict.is_canceled();
-                drop(verdict);
-                is_wanted
-            }
+            Ok(verdict) => !verdict.is_canceled(),
             Err(_) => false,
         }
     }

@@ -17,7 +17,6 @@ use std::num::{NonZeroU32, NonZeroUsize};
 use std::random::RandomSource;
 use std::sync::{Arc, Wait};
 use std::thread::Threads;
-use tests_support::both::both;
 use tests_support::lent::{Dice, Given, Judge, Store, Wire, make_judge};
 use tests_support::names::Peer;
 use tests_support::polling::Polled;
@@ -116,21 +115,14 @@ where
 }
 
 /// A handle of the mailbox, and what a test holds besides.
+#[derive(Drop)]
 pub struct World<M> {
     pub mailbox: M,
     pub held: Held,
 }
 
-impl<M: Drop> Drop for World<M> {
-    fn drop(self) {
-        let Self {
-            mailbox: _,
-            held: _,
-        } = self;
-    }
-}
-
 /// What a test holds besides a handle.
+#[derive(Drop)]
 pub struct Held {
     pub alloc: Global,
     pub sets: mpsc::UnboundedSender<(u64, Vec<Peer>)>,
@@ -140,21 +132,6 @@ pub struct Held {
     pub verdicts: mpsc::UnboundedReceiver<oneshot::Sender<Outcome>>,
     pub serves: mpsc::UnboundedReceiver<oneshot::Sender<Bytes>>,
     pub told: mpsc::UnboundedReceiver<Seen>,
-}
-
-impl Drop for Held {
-    fn drop(self) {
-        let Self {
-            alloc: _,
-            sets: _,
-            blocked: _,
-            network: _,
-            watch: _,
-            verdicts: _,
-            serves: _,
-            told: _,
-        } = self;
-    }
 }
 
 /// What a world's engine is lent besides.
@@ -198,23 +175,21 @@ fn given<T: Drop>(
     alloc: Global,
     told: &Told,
 ) -> Result<(mpsc::UnboundedSender<T>, Given<T>), Fault> {
-    match both(told.clone(), mpsc::unbounded(alloc)) {
-        Ok((told, (sender, given))) => Ok((sender, Given { told, given })),
-        Err(error) => Err(error.into()),
-    }
+    let (sender, given) = mpsc::unbounded(alloc)?;
+    let told = told.clone()?;
+    Ok((sender, Given { told, given }))
 }
 
 /// Sources of peers that give what a test says.
 fn make_sources(alloc: Global, told: &Told) -> Result<Sources, Fault> {
-    match both(given(alloc, told), given(alloc, told)) {
-        Ok(((sets, provider), (blocked, blocker))) => Ok(Sources {
-            sets,
-            blocked,
-            provider,
-            blocker,
-        }),
-        Err(fault) => Err(fault),
-    }
+    let (sets, provider) = given(alloc, told)?;
+    let (blocked, blocker) = given(alloc, told)?;
+    Ok(Sources {
+        sets,
+        blocked,
+        provider,
+        blocker,
+    })
 }
 
 fn store(
@@ -222,30 +197,25 @@ fn store(
     told: &Told,
     wrong: Wrong,
 ) -> Result<(mpsc::UnboundedReceiver<oneshot::Sender<Bytes>>, Store), Fault> {
-    match both(told.clone(), mpsc::unbounded(alloc)) {
-        Ok((told, (serves, senders))) => {
-            let store = Store {
-                alloc,
-                told,
-                wrong,
-                serves,
-            };
-            Ok((senders, store))
-        }
-        Err(error) => Err(error.into()),
-    }
+    let (serves, senders) = mpsc::unbounded(alloc)?;
+    let store = Store {
+        alloc,
+        told: told.clone()?,
+        wrong,
+        serves,
+    };
+    Ok((senders, store))
 }
 
 fn make_hands(alloc: Global, told: &Told, wrong: Wrong) -> Result<Hands, Fault> {
-    match both(make_judge(alloc, told, wrong), store(alloc, told, wrong)) {
-        Ok(((verdicts, consumer), (serves, producer))) => Ok(Hands {
-            verdicts,
-            serves,
-            consumer,
-            producer,
-        }),
-        Err(fault) => Err(fault),
-    }
+    let (verdicts, consumer) = make_judge(alloc, told, wrong)?;
+    let (serves, producer) = store(alloc, told, wrong)?;
+    Ok(Hands {
+        verdicts,
+        serves,
+        consumer,
+        producer,
+    })
 }
 
 /// What the engine is lent besides, and the ends that a test holds of that.
@@ -254,75 +224,40 @@ fn make_lent(
     told: Told,
     setting: Setting,
 ) -> Result<(mpsc::UnboundedSender<(Peer, Bytes)>, Arc<Watch>, Lent), Fault> {
-    match both(mpsc::unbounded(alloc), Watch::shared(alloc)) {
-        Ok(((network, incoming), (watch, other))) => {
-            let lent = Lent {
-                setting,
-                told,
-                incoming,
-                watch: other,
-            };
-            Ok((network, watch, lent))
-        }
-        Err(error) => {
-            drop(told);
-            Err(error.into())
-        }
-    }
+    let (network, incoming) = mpsc::unbounded(alloc)?;
+    let (watch, other) = Watch::shared(alloc)?;
+    let lent = Lent {
+        setting,
+        told,
+        incoming,
+        watch: other,
+    };
+    Ok((network, watch, lent))
 }
 
 /// What a world's engine is made of, what it is lent besides, and what the test holds.
 fn make_parts(alloc: Global, setting: Setting) -> Result<(Held, Lent, Parts), Fault> {
     let (told, seen) = mpsc::unbounded(alloc)?;
-    match both(
-        make_sources(alloc, &told),
-        make_hands(alloc, &told, setting.wrong),
-    ) {
-        Ok((sources, hands)) => tie(alloc, setting, (told, seen), sources, hands),
-        Err(fault) => {
-            drop(told);
-            drop(seen);
-            Err(fault)
-        }
-    }
-}
-
-/// The same, of these sources and these hands.
-fn tie(
-    alloc: Global,
-    setting: Setting,
-    channel: (Told, mpsc::UnboundedReceiver<Seen>),
-    sources: Sources,
-    hands: Hands,
-) -> Result<(Held, Lent, Parts), Fault> {
-    let (told, seen) = channel;
-    match make_lent(alloc, told, setting) {
-        Ok((network, watch, lent)) => {
-            let held = Held {
-                alloc,
-                sets: sources.sets,
-                blocked: sources.blocked,
-                network,
-                watch,
-                verdicts: hands.verdicts,
-                serves: hands.serves,
-                told: seen,
-            };
-            let parts = Parts {
-                provider: sources.provider,
-                blocker: sources.blocker,
-                consumer: hands.consumer,
-                producer: hands.producer,
-            };
-            Ok((held, lent, parts))
-        }
-        Err(fault) => {
-            drop(seen);
-            drop(sources);
-            drop(hands);
-            Err(fault)
-        }
-    }
+    let sources = make_sources(alloc, &told)?;
+    let hands = make_hands(alloc, &told, setting.wrong)?;
+    let (network, watch, lent) = make_lent(alloc, told, setting)?;
+    let held = Held {
+        alloc,
+        sets: sources.sets,
+        blocked: sources.blocked,
+        network,
+        watch,
+        verdicts: hands.verdicts,
+        serves: hands.serves,
+        told: seen,
+    };
+    let parts = Parts {
+        provider: sources.provider,
+        blocker: sources.blocker,
+        consumer: hands.consumer,
+        producer: hands.producer,
+    };
+    Ok((held, lent, parts))
 }
 
 /// A world with its engine, which has a timeout of 50 and a delay of 10.
@@ -331,32 +266,22 @@ pub fn make_world<Q: Predicate<Key, u16> + Faithful + Drop, R: Copy>(
     alloc: Global,
     setting: Setting,
 ) -> Result<(World<Asked<Q, R>>, Made<Q, R>, Lent), Fault> {
-    match make_parts(alloc, setting) {
-        Ok((held, lent, parts)) => {
-            let cfg = Config {
-                peer_provider: parts.provider,
-                blocker: parts.blocker,
-                consumer: parts.consumer,
-                producer: parts.producer,
-                mailbox_size: setting.mailbox_size,
-                me: Some(Peer(setting.me)),
-                fetch_timeout: 50,
-                fetch_retry_delay: 10,
-                peer_limit: setting.limit,
-                priority_requests: setting.priorities.0,
-                priority_responses: setting.priorities.1,
-            };
-            match Engine::new(rt, alloc, cfg) {
-                Ok((engine, mailbox)) => Ok((World { mailbox, held }, engine, lent)),
-                Err(fault) => {
-                    drop(held);
-                    drop(lent);
-                    Err(fault)
-                }
-            }
-        }
-        Err(fault) => Err(fault),
-    }
+    let (held, lent, parts) = make_parts(alloc, setting)?;
+    let cfg = Config {
+        peer_provider: parts.provider,
+        blocker: parts.blocker,
+        consumer: parts.consumer,
+        producer: parts.producer,
+        mailbox_size: setting.mailbox_size,
+        me: Some(Peer(setting.me)),
+        fetch_timeout: 50,
+        fetch_retry_delay: 10,
+        peer_limit: setting.limit,
+        priority_requests: setting.priorities.0,
+        priority_responses: setting.priorities.1,
+    };
+    let (engine, mailbox) = Engine::new(rt, alloc, cfg)?;
+    Ok((World { mailbox, held }, engine, lent))
 }
 
 /// The network, the clock and the draws that an engine is lent.
@@ -367,22 +292,12 @@ fn parts_of(lent: Lent) -> Result<((Wire, Given<(Peer, Bytes)>), Standing, Dice)
         incoming,
         watch,
     } = lent;
-    match both(told.clone(), told.clone()) {
-        Ok((one, other)) => {
-            let sender = Wire::new(one, setting.wrong);
-            let receiver = Given {
-                told: other,
-                given: incoming,
-            };
-            Ok(((sender, receiver), Standing { watch }, setting.dice(told)))
-        }
-        Err(error) => {
-            drop(told);
-            drop(incoming);
-            drop(watch);
-            Err(error.into())
-        }
-    }
+    let sender = Wire::new(told.clone()?, setting.wrong);
+    let receiver = Given {
+        told: told.clone()?,
+        given: incoming,
+    };
+    Ok(((sender, receiver), Standing { watch }, setting.dice(told)))
 }
 
 /// A world, and the loop of its engine.
@@ -391,16 +306,9 @@ pub fn make_loop<Q: Predicate<Key, u16> + Faithful + Drop, R: Copy>(
     alloc: Global,
     setting: Setting,
 ) -> Result<(World<Asked<Q, R>>, Looped<Looping<Q, R>>), Fault> {
-    match make_world(rt, alloc, setting) {
-        Ok((world, engine, lent)) => match into_loop(engine, lent) {
-            Ok(looped) => Ok((world, looped)),
-            Err(fault) => {
-                drop(world);
-                Err(fault)
-            }
-        },
-        Err(fault) => Err(fault),
-    }
+    let (world, engine, lent) = make_world(rt, alloc, setting)?;
+    let looped = into_loop(engine, lent)?;
+    Ok((world, looped))
 }
 
 /// The loop of a world's engine.
@@ -408,16 +316,9 @@ pub fn into_loop<Q: Predicate<Key, u16> + Faithful + Drop, R: Copy>(
     engine: Made<Q, R>,
     lent: Lent,
 ) -> Result<Looped<Looping<Q, R>>, Fault> {
-    match parts_of(lent) {
-        Ok((network, clock, draws)) => {
-            let looped = engine.into_loop(network, clock, draws)?;
-            Ok(Looped { looped })
-        }
-        Err(fault) => {
-            drop(engine);
-            Err(fault)
-        }
-    }
+    let (network, clock, draws) = parts_of(lent)?;
+    let looped = engine.into_loop(network, clock, draws)?;
+    Ok(Looped { looped })
 }
 
 /// The loop of a world's engine, which tells a watcher.
@@ -442,13 +343,8 @@ where
     Q: Predicate<Key, u16> + Faithful + Drop + Send + 'static,
     R: Threads + Wait + RandomSource + AllocGlobal + Copy + Drop + Send + 'static,
 {
-    match parts_of(lent) {
-        Ok((network, clock, draws)) => engine.start(network, clock, draws),
-        Err(fault) => {
-            drop(engine);
-            Err(fault)
-        }
-    }
+    let (network, clock, draws) = parts_of(lent)?;
+    engine.start(network, clock, draws)
 }
 
 /// Peers by their numbers.

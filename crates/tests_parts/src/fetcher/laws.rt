@@ -20,5 +20,4 @@ fn laws_of_scans_at_numbers(rt: HostRuntime) {
     chooses_below::<u32>();
     let fetcher: Node = Fetcher::new(rt.alloc(), delayed(10));
     draw_counts(&fetcher);
-    drop(fetcher);
 }

@@ -67,7 +67,6 @@ impl Sender for Network<'_> {
         let first = if priority { " first" } else { "" };
         let bytes = Hex(message.as_slice());
         let line = format!(in self.told.alloc; "> send {} {bytes}{first}\n", peer.0);
-        drop(message);
         self.is_right &= self.told.tell(line);
         let Some(word) = self.sends.get(self.sent) else {
             self.is_right = false;

@@ -474,7 +474,6 @@ pub fn play_parts(rt: &impl Abort, alloc: Global, config: Config<Letter>, parts:
 {
     let mut fetcher: Node = Fetcher::new(alloc, config);
     plays_parts(rt, alloc, &mut Part(&mut fetcher), parts);
-    drop(fetcher);
 }
 
 /// The same of a case in one part, of one that is made by the usual rule.

@@ -50,7 +50,6 @@ impl<R: Abort> Said<R> for Part<'_, Counter> {
 fn play_on(rt: &impl Abort, alloc: Global, made: Result<Counter, Fault>, case: &str) {
     let mut desk = made.expect(rt, "memory");
     plays(rt, alloc, &mut Part(&mut desk), case);
-    drop(desk);
 }
 
 /// Three puts of two handles, three takes, a close and a put.

@@ -245,7 +245,6 @@ fn print_taken<M: Metadata + Debug + Drop, N: Naming, R: Wait + Drop>(
     for _ in 0..11_u64 {
         let polled = next(task, receiver);
         let goes_on = print_polled(rt, text, &polled);
-        drop(polled);
         if !goes_on {
             break;
         }
@@ -292,8 +291,6 @@ where
     ask_and_take(rt, text, task, &mut handle, &mut receiver, ASKED);
     close_by_clone(rt, text, &handle);
     ask_and_take(rt, text, task, &mut handle, &mut receiver, CLOSED);
-    drop(handle);
-    drop(receiver);
 }
 
 /// Puts by a sender of which no handle is made yet, and prints the answer.
@@ -397,7 +394,6 @@ fn what_a_source_is_asked_stands_in_the_share(rt: HostRuntime) {
     let task = MockTask::new(&rt).expect(&rt, "a task");
     let mut text = String::new(rt.alloc());
     recorded_source::<Brand, _>(rt, &mut text, Pages::new(), &task);
-    drop(task);
     is_recorded_sight(&rt, &text, PUT);
 }
 
@@ -406,7 +402,6 @@ fn what_an_engine_is_asked_stands_in_the_share(rt: HostRuntime) {
     let task = MockTask::new(&rt).expect(&rt, "a task");
     let mut text = String::new(rt.alloc());
     recorded_engine::<Brand, _>(rt, &mut text, Pages::new(), &task);
-    drop(task);
     is_recorded_sight(&rt, &text, PUT_TARGETED);
 }
 

@@ -130,10 +130,7 @@ where
     let made = recorded::<K, S, (), Kept<Everyone>, N, R>(rt, alloc, pages, NonZeroUsize::MIN);
     let (mut handle, receiver) = made.expect(&rt, "a mailbox");
     put_both(&rt, &mut handle, message);
-    let book = book_of(&rt, &handle, &receiver);
-    drop(handle);
-    drop(receiver);
-    book
+    book_of(&rt, &handle, &receiver)
 }
 
 #[test]

@@ -200,7 +200,6 @@ fn take_all<N: Naming, R: Wait + Drop>(
     for _ in 0..1000_u64 {
         let polled = next(task, receiver);
         let is_message = print_polled(rt, text, &polled);
-        drop(polled);
         if !is_message {
             return;
         }
@@ -261,7 +260,6 @@ fn find<N: Naming, R: Wait>(
     let shares = shares_of(rt, alloc, handles);
     let book = receiver.book(shares.as_slice()).expect(rt, "a book");
     let (booked, after, closes) = counts_of(book.as_slice());
-    drop(book);
     Found {
         tally,
         held: held(handles),
@@ -326,10 +324,7 @@ where
     if how.closes {
         receiver.close();
     }
-    let found = end(&rt, text, &task, handles.as_slice(), receiver, tally);
-    drop(handles);
-    drop(task);
-    found
+    end(&rt, text, &task, handles.as_slice(), receiver, tally)
 }
 
 /// The same over a recorded mailbox.
@@ -344,10 +339,7 @@ where
     let alloc = *text.allocator();
     let made = recorded::<Letter, u16, (), All, N, R>(rt, alloc, pages, how.capacity);
     let (handle, mut receiver) = made.expect(&rt, "a mailbox");
-    let found = run_over(rt, text, &handle, &mut receiver, jobs, how);
-    drop(handle);
-    drop(receiver);
-    found
+    run_over(rt, text, &handle, &mut receiver, jobs, how)
 }
 
 /// The same over a recorded mailbox whose names are its own.

@@ -25,14 +25,9 @@ use tests_support::seen::{Seen, Told, Wrong, tell};
 use tests_support::watch::{Standing, Telling, Watch};
 
 /// A look that a test answers.
+#[derive(Drop)]
 pub struct Look {
     value: Option<oneshot::Receiver<Option<Bytes>>>,
-}
-
-impl Drop for Look {
-    fn drop(self) {
-        let Self { value: _ } = self;
-    }
 }
 
 impl Future for Look {
@@ -51,20 +46,11 @@ impl Future for Look {
 }
 
 /// A source that hands each look to its test.
+#[derive(Drop)]
 pub struct Source {
     alloc: Global,
     pub told: Told,
     looks: mpsc::UnboundedSender<Looked>,
-}
-
-impl Drop for Source {
-    fn drop(self) {
-        let Self {
-            alloc: _,
-            told: _,
-            looks: _,
-        } = self;
-    }
 }
 
 impl Source {
@@ -100,20 +86,11 @@ impl Fetcher for Source {
 }
 
 /// A source that has nothing. It says what it is asked for, and then holds its loop up for as long as a gate is locked.
+#[derive(Drop)]
 pub struct Gated<R> {
     rt: R,
     told: Told,
     gate: Arc<Mutex<()>>,
-}
-
-impl<R: Drop> Drop for Gated<R> {
-    fn drop(self) {
-        let Self {
-            rt: _,
-            told: _,
-            gate: _,
-        } = self;
-    }
 }
 
 impl<R> Gated<R> {
@@ -222,24 +199,13 @@ pub type Asked<R> = resolver_opaque_loop::Resolver<Key, u16, Peer, Below, Unreco
 pub type Looked = oneshot::Sender<Option<Bytes>>;
 
 /// What a test holds of what an actor is lent.
+#[derive(Drop)]
 pub struct Held {
     pub looks: mpsc::UnboundedReceiver<Looked>,
     pub verdicts: mpsc::UnboundedReceiver<oneshot::Sender<Outcome>>,
     pub told: mpsc::UnboundedReceiver<Seen>,
     pub moments: mpsc::UnboundedReceiver<u128>,
     pub watch: Arc<Watch>,
-}
-
-impl Drop for Held {
-    fn drop(self) {
-        let Self {
-            looks: _,
-            verdicts: _,
-            told: _,
-            moments: _,
-            watch: _,
-        } = self;
-    }
 }
 
 /// What an actor is lent.
@@ -251,18 +217,10 @@ pub struct Lent {
 }
 
 /// A handle of the mailbox, and what a test holds besides.
+#[derive(Drop)]
 pub struct Ends<A> {
     pub resolver: A,
     pub held: Held,
-}
-
-impl<A: Drop> Drop for Ends<A> {
-    fn drop(self) {
-        let Self {
-            resolver: _,
-            held: _,
-        } = self;
-    }
 }
 
 /// A clock that stands at 0, with the moments that it is to wait for, and the watch that puts it forward.

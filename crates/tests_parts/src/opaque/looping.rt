@@ -152,9 +152,6 @@ where
     for act in acts {
         step(rt, &mut text, &task, &mut looped, &mut ends, *act);
     }
-    drop(task);
-    drop(looped);
-    drop(ends);
     text
 }
 

@@ -80,8 +80,6 @@ where
     let text = retry(&rt, &mut held);
     resolver.end();
     let ended = handle.join(&rt);
-    drop(resolver);
-    drop(held);
     (text, ended)
 }
 
@@ -159,9 +157,6 @@ where
     drop(locked);
     resolver.end();
     equal(&rt, &handle.join(&rt), &Ok(()));
-    drop(resolver);
-    drop(held);
-    drop(gate);
     equal_texts(&rt, text.as_str(), seen);
 }
 

@@ -575,6 +575,5 @@ fn ten_keys_of_three_peers(rt: HostRuntime) {
             lines.script.as_slice(),
             lines.printed.as_slice(),
         );
-        drop(lines);
     }
 }

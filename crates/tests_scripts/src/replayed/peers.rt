@@ -226,5 +226,4 @@ fn ten_thousand_requests(rt: HostRuntime) {
     put(&rt, &mut script, b"served 9999 dropped\n");
     put(&rt, &mut printed, b"reply 3 x000000000000000702\n");
     assert_prints(&rt, alloc, &script, &printed);
-    drop((script, printed));
 }

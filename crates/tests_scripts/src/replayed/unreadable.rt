@@ -224,5 +224,4 @@ fn assert_unreadable(rt: &impl Abort, alloc: Global, before: &str, line: &str, p
     let said = format!(in alloc; "line {number} unreadable\nstatus 2: line {number}: {why}\n");
     let said = said.expect(rt, "memory");
     assert_prints(rt, alloc, script.as_bytes(), said.as_bytes());
-    drop((script, said));
 }

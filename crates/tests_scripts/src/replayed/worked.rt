@@ -51,9 +51,7 @@ fn print_one(rt: &impl Abort, alloc: Global, before: &str, after: &str) {
     let script = script_of(rt, alloc, case.as_str());
     let log = Memory::new(alloc);
     let printed = replayed(rt, alloc, &log, &script, WHOLE);
-    drop((log, script));
     assert_case(rt, alloc, case.as_str(), &printed);
-    drop((case, printed));
 }
 
 /// Ends the test by the line of a case that printed something else.

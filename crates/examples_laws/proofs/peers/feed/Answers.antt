@@ -4,7 +4,7 @@ use Rattle.resolver_model_peer.specs.Parties.{parties}
 use Rattle.resolver_model_peer.specs.Peer.{opening}
 use Rattle.resolver_peer_step.specs.EngineSteps.{all_fed}
 use Rattle.resolver_peer_step.specs.Said.{answer_of, codec}
-use Rattle.resolver.specs.Taking.{Took, latest}
+use Rattle.resolver_core.specs.Taking.{Took, latest}
 use Rattle.examples_laws.proofs.Feeding.{fed-well}
 use Rattle.examples_laws.proofs.peers.feed.Goals as goal
 use Rattle.examples_laws.proofs.peers.feed.Goals.{then-goes+in_ok-more+in_ok-append, else-goes}

@@ -1,6 +1,6 @@
 use Rattle.std.proofs.Common.{◌≡◌, ap, ◌∙◌, not}
 use Rattle.resolver_peer_step.specs.Said.{codec}
-use Rattle.resolver.specs.Taking.{latest}
+use Rattle.resolver_core.specs.Taking.{latest}
 use Rattle.examples_laws.proofs.peers.feed_on.Goals as goal
 use Rattle.examples_laws.proofs.peers.feed_on.Goals.{then-goes+in_ok-last+in_ok-append, else-goes}
 

@@ -5,7 +5,7 @@ use Rattle.std.specs.Vec.Iter.{into_iter_items}
 use Rattle.resolver_model.specs.Steps.{stops}
 use Rattle.resolver_model_peer.specs.Parties.{parties}
 use Rattle.resolver_peer_step.specs.Said.{codec}
-use Rattle.resolver.specs.Taking.{Took, latest}
+use Rattle.resolver_core.specs.Taking.{Took, latest}
 use Rattle.examples_laws.proofs.Lists.{last-decides}
 use Rattle.examples_laws.proofs.peers.step_each.Goals as goal
 

@@ -6,8 +6,8 @@ use Rattle.resolver_model_peer.specs.Parties.{parties}
 use Rattle.resolver_model_peer.specs.Peer.{Machine}
 use Rattle.resolver_model_peer.specs.declared.inputs.Input.{Input}
 use Rattle.resolver_peer_step.specs.Said.{codec}
-use Rattle.resolver.specs.Matching.{Matches}
-use Rattle.resolver.specs.Taking.{Took}
+use Rattle.resolver_core.specs.Matching.{Matches}
+use Rattle.resolver_core.specs.Taking.{Took}
 use Rattle.examples_laws.proofs.peers.step_each.Given as goal
 
 -- The inputs that aren't left were taken, with the answers so far, of which none ended it.

@@ -16,25 +16,25 @@ injective a b same = cc
 
 -- some are left
 
-there : (g : _) (c : goal.After-drop-named-in-Some g) → lookup (is_at (g.K.Ord.cmp c.args.key)) c.args.demand.now.entries ≡ Some c.into_mut.result.now
+there : (g : _) (c : goal.Joined-named-2 g) → lookup (is_at (g.K.Ord.cmp c.args.key)) c.args.demand.now.entries ≡ Some c.into_mut.result.now
 there g c = sym c.in_ok-place.ensures.value ∙ ap entry_value c.in-Occupied.is ∙ c.into_mut.ensures.value
 
-left : (g : _) (c : goal.After-drop-named-in-Some g) → (c.in-Some.rest ≡ without g.S.Ord.cmp c.args.delivered.now c.into_mut.result.now) × (0 < length c.in-Some.rest)
+left : (g : _) (c : goal.Joined-named-2 g) → (c.in-Some.rest ≡ without g.S.Ord.cmp c.args.delivered.now c.into_mut.result.now) × (0 < length c.in-Some.rest)
 left g c =
     let others = rw c.in-Some.is at c.in_ok-rest-in-Occupied.ensures in
     let same = injective c.get.result.now c.into_mut.result.now (sym c.get.ensures ∙ c.into_mut.ensures.value) in
     (others.0 ∙ ap (λ named. without g.S.Ord.cmp named c.get.result.now) c.in_ok-named-in-Occupied.ensures ∙ ap (without g.S.Ord.cmp c.args.delivered.now) same, others.1)
 
-some : (g : _) (c : goal.After-drop-named-in-Some g) → 0 < length (without g.S.Ord.cmp c.args.delivered.now c.into_mut.result.now)
+some : (g : _) (c : goal.Joined-named-2 g) → 0 < length (without g.S.Ord.cmp c.args.delivered.now c.into_mut.result.now)
 some g c = rw (← (left g c).0) (left g c).1
 
 -- the key has what is left as its subscribers
-left_is : (g : _) (c : goal.After-drop-named-in-Some g) → insert_entry g.K.Ord.cmp c.args.demand.now.entries c.args.key (without g.S.Ord.cmp c.args.delivered.now c.into_mut.result.now)
+left_is : (g : _) (c : goal.Joined-named-2 g) → insert_entry g.K.Ord.cmp c.args.demand.now.entries c.args.key (without g.S.Ord.cmp c.args.delivered.now c.into_mut.result.now)
     ≡ set_value (is_at (g.K.Ord.cmp c.args.key)) c.args.demand.now.entries (without g.S.Ord.cmp c.args.delivered.now c.into_mut.result.now)
 left_is g c = insert_entry-there g.met.K.Ord.total c.args.key c.into_mut.result.now _ c.args.demand.now.entries c.entry.ensures.ordered (there g c)
 
 -- what is left are subscribers in their order
-left_listed : (g : _) (c : goal.After-drop-named-in-Some g) → IsListed g.S.Ord.cmp (without g.S.Ord.cmp c.args.delivered.now c.into_mut.result.now)
+left_listed : (g : _) (c : goal.Joined-named-2 g) → IsListed g.S.Ord.cmp (without g.S.Ord.cmp c.args.delivered.now c.into_mut.result.now)
 left_listed g c =
     let before = listed-of g.S.Ord.cmp (is_at (g.K.Ord.cmp c.args.key)) c.args.demand.now.entries c.into_mut.result.now c.requires.listed (there g c) in
     without-listed g.S.Ord.cmp c.args.delivered.now c.into_mut.result.now before (some g c)
@@ -65,10 +65,10 @@ returns-in-Some-clause-listed g c =
 
 -- none is left
 
-found : (g : _) (c : goal.After-drop-named-in-Occupied g) → lookup (is_at (g.K.Ord.cmp c.args.key)) c.args.demand.now.entries ≡ Some c.get.result.now
+found : (g : _) (c : goal.Joined-named-3 g) → lookup (is_at (g.K.Ord.cmp c.args.key)) c.args.demand.now.entries ≡ Some c.get.result.now
 found g c = sym c.in_ok-place.ensures.value ∙ ap entry_value c.in-Occupied.is ∙ c.get.ensures
 
-none : (g : _) (c : goal.After-drop-named-in-Occupied g) → without g.S.Ord.cmp c.args.delivered.now c.get.result.now ≡ []
+none : (g : _) (c : goal.Joined-named-3 g) → without g.S.Ord.cmp c.args.delivered.now c.get.result.now ≡ []
 none g c = rw (← c.in_ok-named-in-Occupied.ensures) (rw c.in-None.is at c.in_ok-rest-in-Occupied.ensures)
 
 pub returns-in-Occupied-clause-ok : goal.returns-in-Occupied-clause-ok
@@ -92,7 +92,7 @@ returns-in-Occupied-clause-listed g c =
 
 -- the key isn't there
 
-absent : (g : _) (c : goal.After-drop-remove-in-Vacant g) → lookup (is_at (g.K.Ord.cmp c.args.key)) c.args.demand.now.entries ≡ None
+absent : (g : _) (c : goal.Joined-remove-2 g) → lookup (is_at (g.K.Ord.cmp c.args.key)) c.args.demand.now.entries ≡ None
 absent g c = rw c.in-Vacant.is at c.in_ok-place.ensures.found
 
 pub returns-clause-ok : goal.returns-clause-ok

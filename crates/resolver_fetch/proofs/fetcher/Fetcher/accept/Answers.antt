@@ -69,7 +69,7 @@ invariant_of-self-in-Err g c =
     let set = ap (λ (k : Known g.row.P.Denot). k.set) c.in-Err.ensures.err_peers in
     let blocked = ap (λ (k : Known g.row.P.Denot). k.blocked) c.in-Err.ensures.err_peers in
     let local = ap (λ (k : Known g.row.P.Denot). k.local) c.in-Err.ensures.err_peers in
-    rw (c.in-Err.ensures.err, c.keep.ensures, set, blocked, local) (
+    rw (c.in-Err.ensures.err, set, blocked, local) (
       c.self.invariant.0,
       ap (λ (k : Known g.row.P.Denot). k.load) c.in-Err.ensures.err_peers ∙ c.self.invariant.1,
       record {
@@ -95,4 +95,4 @@ returns-in-Err-clause-err g c =
     let set = ap (λ (k : Known g.row.P.Denot). k.set) c.in-Err.ensures.err_peers in
     let blocked = ap (λ (k : Known g.row.P.Denot). k.blocked) c.in-Err.ensures.err_peers in
     let local = ap (λ (k : Known g.row.P.Denot). k.local) c.in-Err.ensures.err_peers in
-    rw (c.keep.ensures, c.in-Err.ensures.err, set, blocked, local) (ap (opened c.args.cursor) c.self.view_is)
+    rw (c.in-Err.ensures.err, set, blocked, local) (ap (opened c.args.cursor) c.self.view_is)

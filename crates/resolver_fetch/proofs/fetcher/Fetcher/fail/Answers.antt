@@ -27,7 +27,7 @@ go_on-requires-clause-next g c =
 
 pub invariant_of-self : goal.invariant_of-self
 invariant_of-self g c =
-    rw (c.keep.ensures, c.in-Err.ensures.err) (
+    rw c.in-Err.ensures.err (
       c.self.invariant.0,
       c.self.invariant.1,
       record {
@@ -48,4 +48,4 @@ pub returns-clause-ok : goal.returns-clause-ok
 returns-clause-ok g c = rw (c.into_tries-trail.ensures, c.in_default.ensures.ok) at c.go_on.ensures.after
 
 pub returns-in-Err-clause-err : goal.returns-in-Err-clause-err
-returns-in-Err-clause-err g c = rw (c.keep.ensures, c.in-Err.ensures.err) (ap (opened c.args.cursor) c.self.view_is)
+returns-in-Err-clause-err g c = rw c.in-Err.ensures.err (ap (opened c.args.cursor) c.self.view_is)

@@ -24,7 +24,7 @@ pub invariant_of-self : goal.invariant_of-self
 invariant_of-self g c =
     let o = orders g.K.Ord.cmp g.P.Ord.cmp in
     let is : next_of o c.args.self.now c.args.moment c.args.trail ≡ Tries c.in-Try.trying = sym c.requires.next ∙ c.in-Try.is in
-    rw (c.keep.ensures, c.wake.ensures) (
+    rw c.wake.ensures (
       c.self.invariant.0,
       c.self.invariant.1,
       record {
@@ -40,7 +40,7 @@ returns-in-Try-clause-asked g c =
     let is : next_of o c.args.self.now c.args.moment c.args.trail ≡ Tries c.in-Try.trying = sym c.requires.next ∙ c.in-Try.is in
     let tries = next-tries o c.args.self.now c.args.moment c.args.trail c.in-Try.trying is in
     let retries = ap (λ (t : Trying g.row.K.Denot g.row.P.Denot). t.retries) c.trying.view_is in
-    rw (c.from-bound.ensures, retries, c.keep.ensures, c.wake.ensures)
+    rw (c.from-bound.ensures, retries, c.wake.ensures)
     (rw (← c.self.view_is) at (asks-kept o c.args.self.now c.args.moment c.args.trail c.in-Try.trying Mode c.self.inside.last_id None tries))
 
 pub invariant_of-self-in-Wait-1 : goal.invariant_of-self-in-Wait-1
@@ -52,7 +52,7 @@ pub returns-in-Try-clause-after : goal.returns-in-Try-clause-after
 returns-in-Try-clause-after g c =
     let o = orders g.K.Ord.cmp g.P.Ord.cmp in
     let is : next_of o c.args.self.now c.args.moment c.args.trail ≡ Tries c.in-Try.trying = sym c.requires.next ∙ c.in-Try.is in
-    rw (c.keep.ensures, c.wake.ensures)
+    rw c.wake.ensures
     (ap (λ (f : Fetcher g.row.K.Denot g.row.P.Denot). record f { scan = Some (record { moment = c.args.moment; trail = c.args.trail; expects = Some Mode }); waiter = None }) c.self.view_is
     ∙ sym (tries-after o c.args.self.now c.args.moment c.args.trail c.in-Try.trying is))
 

@@ -23,7 +23,7 @@ invariant_of-self-in-Err-find_behind g c =
     let t = c.args.cursor in
     let noted = c.in_default.ensures.ok in
     let back = c.pop.ensures t.trail (record { key = t.trying.key; peer = c.args.peer; reason = c.args.reason }) (ap (λ (n : Cursor g.row.K.Denot g.row.P.Denot). n.trail) noted) in
-    rw (c.keep-in-Err-find_behind.ensures, back, noted) (
+    rw (back, noted) (
       c.self-in-Err-find_behind.invariant.0,
       c.self-in-Err-find_behind.invariant.1,
       record {
@@ -40,7 +40,7 @@ returns-in-Ok-clause-ok g c =
 
 pub invariant_of-self : goal.invariant_of-self
 invariant_of-self g c =
-    rw (c.keep.ensures, c.in-Err.ensures.err) (
+    rw c.in-Err.ensures.err (
       c.self.invariant.0,
       c.self.invariant.1,
       record {
@@ -55,11 +55,11 @@ returns-clause-err g c =
     let t = c.args.cursor in
     let noted = c.in_default.ensures.ok in
     let back = c.pop.ensures t.trail (record { key = t.trying.key; peer = c.args.peer; reason = c.args.reason }) (ap (λ (n : Cursor g.row.K.Denot g.row.P.Denot). n.trail) noted) in
-    rw (c.keep-in-Err-find_behind.ensures, back, noted)
+    rw (back, noted)
     (ap (opened t) (c.self-in-Err-find_behind.view_is ∙ c.find_behind.ensures.same))
 
 pub returns-in-Err-clause-err : goal.returns-in-Err-clause-err
-returns-in-Err-clause-err g c = rw (c.keep.ensures, c.in-Err.ensures.err) (ap (opened c.args.cursor) c.self.view_is)
+returns-in-Err-clause-err g c = rw c.in-Err.ensures.err (ap (opened c.args.cursor) c.self.view_is)
 
 pub go_on-requires-clause-closed : goal.go_on-requires-clause-closed
 go_on-requires-clause-closed g c = rw c.find_behind.ensures.same c.requires.closed

@@ -90,7 +90,7 @@ invariant_of-self-in-Ok g c = rw c.take.ensures.after (c.self.invariant.0, c.sel
 pub invariant_of-self-in-Err : goal.invariant_of-self-in-Err
 invariant_of-self-in-Err g c =
     let held : c.self.inside.cursor ≡ Some c.in-Some.cursor = sym c.take.ensures.value ∙ c.in-Some.is in
-    rw c.keep.ensures (c.self.invariant.0, c.self.invariant.1, rw held at c.self.invariant.2)
+    (c.self.invariant.0, c.self.invariant.1, rw held at c.self.invariant.2)
 
 pub returns-in_default-clause-refused : goal.returns-in_default-clause-refused
 returns-in_default-clause-refused g c = λ other.
@@ -107,8 +107,7 @@ returns-in_default-clause-err g c =
 pub returns-in-Err-clause-err : goal.returns-in-Err-clause-err
 returns-in-Err-clause-err g c =
     let held : c.self.inside.cursor ≡ Some c.in-Some.cursor = sym c.take.ensures.value ∙ c.in-Some.is in
-    let same : c.keep.new.place ≡ c.self.inside.cursor = c.keep.ensures ∙ sym held in
-    rw same c.self.view_is
+    rw held at c.self.view_is
 
 pub returns-in-Ok-clause-refused : goal.returns-in-Ok-clause-refused
 returns-in-Ok-clause-refused g c = if-refused c.go.result _ _ (λ fault wanting other. absurd (other wanting)) c.go.ensures.only

@@ -1,6 +1,6 @@
 use Rattle.std.specs.Vec.Iter.{into_iter_items}
 use Rattle.resolver_fetch_scan.specs.FetcherLaws.{AllAre}
-use Rattle.resolver.specs.Asking.{CanBeAnswered}
+use Rattle.resolver_core.specs.Asking.{CanBeAnswered}
 use Rattle.resolver.proofs.p2p.looping.Loop.feed.Given as goal
 
 -- what is left to be carried out can be answered

@@ -16,10 +16,6 @@ on-err : {F X : Type 0} (result : Result F Fault) → X → OnErr result X
 on-err (Ok made) x = tt
 on-err (Err fault) x = x
 
-either-way : {F X : Type 0} (result : Result F Fault) → X → IfErr result (λ fault. fault ≡ Exhausted → X)
-either-way (Ok made) x = tt
-either-way (Err fault) x = λ exhausted. x
-
 -- memory is the one thing that may be wanting
 exhausted-none : {F : Type 0} (X : Type 0) (result : Result F Fault) → IfErr result (λ fault. fault ≡ OutOfMemory) → IfErr result (λ fault. fault ≡ Exhausted → X)
 exhausted-none X (Ok made) is = tt
@@ -54,29 +50,9 @@ module _ {K S M Q : Type 0} where
   stored-same (Ok feedback) share now was held is = tt
   stored-same (Err fault) share now was held is = ap (λ s. Some s) is ∙ held
 
-  -- a first put, of which a share is kept
-  begun-answers : (P : Feedback → Type 0) (made : Result (Feedback × Share K S M Q) Fault) (result : Result Feedback Fault) → IfOk made (λ one. result ≡ Ok one.0) → IfErr made (λ fault. result ≡ Err fault)
-      → IfOk made (λ one. P one.0) → IfOk result P
-  begun-answers P (Ok one) result ok err is = subst (λ r. IfOk r P) (sym ok) is
-  begun-answers P (Err fault) result ok err is = subst (λ r. IfOk r P) (sym err) tt
-
-  begun-ok : (X : Type 0) (made : Result (Feedback × Share K S M Q) Fault) (result : Result Feedback Fault) → IfOk made (λ one. result ≡ Ok one.0) → IfErr made (λ fault. result ≡ Err fault) → OnOk made X → OnOk result X
-  begun-ok X (Ok one) result ok err is = subst (λ r. OnOk r X) (sym ok) is
-  begun-ok X (Err fault) result ok err is = subst (λ r. OnOk r X) (sym err) tt
-
-  begun-err : (X : Type 0) (made : Result (Feedback × Share K S M Q) Fault) (result : Result Feedback Fault) → IfOk made (λ one. result ≡ Ok one.0) → IfErr made (λ fault. result ≡ Err fault) → OnErr made X → OnErr result X
-  begun-err X (Ok one) result ok err is = subst (λ r. OnErr r X) (sym ok) tt
-  begun-err X (Err fault) result ok err is = subst (λ r. OnErr r X) (sym err) is
-
-  begun-faults : (P : Fault → Type 0) (made : Result (Feedback × Share K S M Q) Fault) (result : Result Feedback Fault) → IfOk made (λ one. result ≡ Ok one.0) → IfErr made (λ fault. result ≡ Err fault) → IfErr made P → IfErr result P
-  begun-faults P (Ok one) result ok err is = subst (λ r. IfErr r P) (sym ok) tt
-  begun-faults P (Err fault) result ok err is = subst (λ r. IfErr r P) (sym err) is
-
-  begun-added : (made : Result (Feedback × Share K S M Q) Fault) (told : Told K S M Q) (handle : ℕ) (was now : Option (Share K S M Q)) → None ≡ was → IfOk made (λ one. now ≡ Some one.1) → IfOk made (λ one. one.1 ≡ first_share handle told)
-      → IfOk made (λ one. one.0 ≢ feedbacks.Closed → IsAdded told was now)
-  begun-added (Ok one) told handle was now none kept is = λ unshut.
-      subst (λ w. IsAdded told w now) none (subst (IsAdded told None) (sym kept) (is ∙ ap (λ (h : ℕ). first_share h told) (ap (λ s. s.handle) (sym is))))
-  begun-added (Err fault) told handle was now none kept is = tt
+  -- a first put
+  begun-added : (told : Told K S M Q) (handle : ℕ) (share : Share K S M Q) (was : Option (Share K S M Q)) → None ≡ was → share ≡ first_share handle told → IsAdded told was (Some share)
+  begun-added told handle share was none is = subst (λ w. IsAdded told w (Some share)) none (is ∙ ap (λ (h : ℕ). first_share h told) (ap (λ s. s.handle) (sym is)))
 
 module _ {K S M Q : Type 0} (n : Names K S) (merged : M → M → M) (keeps : Q → K → S → Bool) where
   closed-put : (handle : Option ℕ) (told : Told K S M Q) (desk : Desk K S M Q) → desk.is_closed ≡ true → desk ≡ desk_put n merged keeps handle told desk
@@ -111,7 +87,7 @@ invariant_of-self-2 g c =
     let n = names g.K.Ord.cmp g.S.Ord.cmp in
     let was = c.args.self.now in
     let totals = c.in-Some-totals.totals in
-    let first = c.first-first in
+    let first = c.first in
     let told = told_of c.args.message in
     let unclosed : was.desk.is_closed ≡ false = search rules in
     let some : is_some was.desk.book ≡ true = was.recorded ∙ sym was.totaled ∙ ap is_some c.in-Some-totals.is in record {
@@ -184,24 +160,19 @@ returns-in-Some-share g c =
 pub returns : goal.returns
 returns g c =
     let was = c.args.self.now in
-    let first = c.first-first in
-    let keep = c.keep in
+    let made = c.in_ok-feedback-2 in
     let unclosed : was.desk.is_closed ≡ false = sym c.is_closed.ensures ∙ c.if-is_closed.false in
     let recorded : g.N.Naming.is_recorded ≡ true = sym was.totaled ∙ ap is_some c.in-Some-totals.is in
     let none : None ≡ c.args.seat.now = sym c.in_default-share.is ∙ c.seat.view_is in
-    let answers = begun-answers (λ feedback. feedback ≡ feedback_of was.desk) first.result keep.result keep.ensures.feedback keep.ensures.err first.ensures.feedback in
     record {
-      feedback = answers;
-      desk = subst (λ seat. OnOk keep.result (first.new.desk ≡ desk_put (names g.K.Ord.cmp g.S.Ord.cmp) g.M.Metadata.merged g.Q.Predicate.keeps (option_map (λ s. s.handle) seat) (told_of c.args.message) was.desk)) none
-          (begun-ok _ first.result keep.result keep.ensures.feedback keep.ensures.err first.ensures.desk);
-      added = λ recorded.
-          begun-answers (λ feedback. feedback ≢ feedbacks.Closed → IsAdded (told_of c.args.message) c.args.seat.now keep.new.place) first.result keep.result keep.ensures.feedback keep.ensures.err
-          (begun-added first.result (told_of c.args.message) _ c.args.seat.now keep.new.place none keep.ensures.kept first.ensures.share);
+      feedback = made.ensures.feedback;
+      desk = subst (λ seat. c.first.new.desk ≡ desk_put (names g.K.Ord.cmp g.S.Ord.cmp) g.M.Metadata.merged g.Q.Predicate.keeps (option_map (λ s. s.handle) seat) (told_of c.args.message) was.desk) none made.ensures.desk;
+      added = λ recorded unshut. begun-added (told_of c.args.message) _ made.first c.args.seat.now none made.ensures.share;
       unrecorded = λ unrecorded. absurd (let both = sym recorded ∙ unrecorded in cc);
-      closed = open-answers _ keep.result was.desk unclosed answers;
-      err = begun-err _ first.result keep.result keep.ensures.feedback keep.ensures.err (subst (λ seat. OnErr first.result (keep.new.place ≡ seat)) c.seat.view_is keep.ensures.same);
-      err_desk = begun-err _ first.result keep.result keep.ensures.feedback keep.ensures.err first.ensures.err_desk;
-      shut = on-err keep.result unclosed;
-      only = begun-faults (λ fault. fault ≢ OutOfMemory → fault ≡ Exhausted) first.result keep.result keep.ensures.feedback keep.ensures.err first.ensures.only;
-      exhausted = either-way keep.result (recorded, sym none);
+      closed = λ closed. absurd (open-answer was.desk unclosed (sym made.ensures.feedback ∙ closed));
+      err = tt;
+      err_desk = tt;
+      shut = tt;
+      only = tt;
+      exhausted = tt;
     }
