@@ -1,1 +1,2 @@
+pub mod Height
 pub mod Judging

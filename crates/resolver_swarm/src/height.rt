@@ -2,6 +2,7 @@
 
 ghost use Rattle.std.specs.Prelude.{◌≡◌, ◌*◌, ◌+◌, List, [], ◌∷◌, None, Some, refl};
 ghost use Rattle.std.proofs.Common.{rules};
+ghost use Rattle.resolver_swarm.specs.Height.{number_of};
 
 use bytes::BytesMut;
 use resolver_base::{Faithful, Span};
@@ -24,7 +25,9 @@ impl Height {
     }
 
     /// The number of the key.
-    pub fn number(self) -> u16 {
+    pub fn number(self) -> u16
+        ensures { result ≡ number_of self }
+    {
         u16::from_be_bytes([self.high, self.low])
     }
 }

@@ -1,10 +1,11 @@
 //! A model of a node's core.
 
-ghost use Rattle.std.specs.Prelude.{◌≡◌, ◌≢◌, ◌↔◌, ◌+◌, IsTrue, IsSome, IfSome, false, length, None, Some};
+ghost use Rattle.std.specs.Prelude.{◌≡◌, ◌↔◌, ◌+◌, IsTrue, IsSome, IfSome, OnOk, false, None, Some};
 ghost use Rattle.std.specs.Ordering.{nat_cmp};
 ghost use Rattle.std.specs.BTreeMap.{get};
-ghost use Rattle.std.specs.BTreeSet.{contains};
-ghost use Rattle.resolver_swarm.specs.Judging.{IsLater, IsNoted, first_found};
+ghost use Rattle.std.specs.Bool.{OnFalse, OnTrue};
+ghost use Rattle.std.specs.Option.{option_copied};
+ghost use Rattle.resolver_swarm.specs.Judging.{AreCounted, AreRowsOf, ComplainsUnless, HasWork, HaveRequests, IsAnswer, IsAwake, IsEligible, IsLater, IsListed, IsNoted, IsTold, IsUnjudged, MayRequest, clear_of, deadline_of, first_deadline, first_found};
 
 use crate::height::Height;
 use crate::judging::complaint::Complaint;
@@ -31,8 +32,8 @@ pub struct Judge {
     pub index: Option<u64>,
     pub peers: BTreeSet<u16>,
     pub blocked: BTreeSet<u16>,
-    /// The keys that were fetched and not retired.
-    pub demand: BTreeSet<Height>,
+    /// The numbers of the keys that were fetched and not retired.
+    pub demand: BTreeSet<u16>,
     /// The requests without an answer.
     pub asked: Requests,
     /// The keys of the deliveries without a verdict, by their numbers. A node gives a verdict at once, so they are few.
@@ -93,9 +94,9 @@ impl Judge {
 
     /// Something is wrong unless this holds.
     fn expect(&mut self, holds: bool, complaint: Complaint)
-        ensures judged { self.new.complaint ≡ None → IsTrue holds }
+        ensures judged { ComplainsUnless self.old.complaint self.new.complaint
+            (IsTrue holds) }
         ensures found { self.new ≡ record self.old { complaint = self.new.complaint } }
-        ensures stays { IsSome self.old.complaint → self.new.complaint ≡ self.old.complaint }
     {
         if !holds {
             self.complain(complaint);
@@ -111,7 +112,7 @@ impl Judge {
         match event {
             Event::Fetch(items) => {
                 for item in items {
-                    self.demand.insert(item.key)?;
+                    self.demand.insert(item.key.number())?;
                     self.touched.push(item.key)?;
                 }
             }
@@ -154,7 +155,7 @@ impl Judge {
             return Ok(());
         };
         if is_retiring(outcome) {
-            self.demand.remove(&key);
+            self.demand.remove(&key.number());
         }
         Ok(self.touched.push(key)?)
     }
@@ -191,9 +192,7 @@ impl Judge {
     /// Whether a peer may be asked: it is of the last set, neither the node itself nor blocked, and has fewer requests
     /// than it may have.
     pub fn is_eligible(&self, peer: u16) -> bool
-        ensures listed { IsTrue result → IsTrue (contains nat_cmp self.entry.now.peers peer) }
-        ensures other { IsTrue result → peer ≢ self.entry.now.me }
-        ensures unblocked { IsTrue result → contains nat_cmp self.entry.now.blocked peer ≡ false }
+        ensures { IsTrue result ↔ IsEligible self.entry.now peer }
     {
         self.peers.contains(&peer)
             && peer != self.me
@@ -203,11 +202,9 @@ impl Judge {
 
     /// A peer is looked at, which says this.
     pub fn note_check(&mut self, peer: u16, check: Check)
-        ensures listed { self.new.complaint ≡ None
-            → IsTrue (contains nat_cmp self.old.peers peer) }
-        ensures other { self.new.complaint ≡ None → peer ≢ self.old.me }
-        ensures unblocked { self.new.complaint ≡ None
-            → contains nat_cmp self.old.blocked peer ≡ false }
+        ensures judged { ComplainsUnless self.old.complaint self.new.complaint
+            (IsEligible self.old peer) }
+        ensures clear { self.new.clear ≡ clear_of peer check }
     {
         self.clear = match check {
             Check::Clear => Some(peer),
@@ -219,9 +216,9 @@ impl Judge {
 
     /// Whether a key may be asked for under this id: it is wanted, neither asked for nor judged, and the id is free.
     fn may_request(&self, key: Height, id: u64) -> bool
-        ensures { IsTrue result → get nat_cmp self.entry.now.asked.by_id id ≡ None }
+        ensures { IsTrue result ↔ MayRequest self.entry.now key id }
     {
-        self.demand.contains(&key)
+        self.demand.contains(&key.number())
             && !self.asked.has_key(key)
             && !self.is_judged(key)
             && self.asked.get(id).is_none()
@@ -235,12 +232,11 @@ impl Judge {
         id: u64,
         is_accepted: bool,
     ) -> Result<(), AllocError>
-        ensures listed { self.new.complaint ≡ None
-            → IsTrue (contains nat_cmp self.old.peers peer) }
-        ensures other { self.new.complaint ≡ None → peer ≢ self.old.me }
-        ensures unblocked { self.new.complaint ≡ None
-            → contains nat_cmp self.old.blocked peer ≡ false }
-        ensures free { self.new.complaint ≡ None → get nat_cmp self.old.asked.by_id id ≡ None }
+        ensures judged { ComplainsUnless self.old.complaint self.new.complaint
+            (IsEligible self.old peer × (self.old.clear ≡ Some peer) × MayRequest self.old key id) }
+        ensures noted { OnOk result (OnTrue is_accepted (get nat_cmp self.new.asked.by_id id
+            ≡ Some (record { key = key; peer = peer; deadline = deadline_of self.old }))) }
+        ensures refused { OnFalse is_accepted (self.new.asked ≡ self.old.asked) }
     {
         let is_eligible = self.is_eligible(peer) && self.clear == Some(peer);
         self.expect(is_eligible, Complaint::Ineligible);
@@ -259,7 +255,10 @@ impl Judge {
     }
 
     /// The core tells this.
-    pub fn note_effect(&mut self, effect: &Effect<Height, u16, u16>) -> Result<(), AllocError> {
+    pub fn note_effect(&mut self, effect: &Effect<Height, u16, u16>) -> Result<(), AllocError>
+        ensures judged { ComplainsUnless self.old.complaint self.new.complaint
+            (IsTold self.old effect.now) }
+    {
         match effect {
             Effect::Deliver {
                 number,
@@ -282,7 +281,15 @@ impl Judge {
     }
 
     /// A key's value is handed out: it is what the asked peer answered just now.
-    fn note_delivery(&mut self, number: u64, key: Height) -> Result<(), AllocError> {
+    fn note_delivery(&mut self, number: u64, key: Height) -> Result<(), AllocError>
+        ensures judged { ComplainsUnless self.old.complaint self.new.complaint
+            (IsAnswer self.old.answered key) }
+        ensures used { self.new.answered ≡ None }
+        ensures sender { OnOk result (IfSome self.old.answered (λ asked.
+            get nat_cmp self.new.senders number ≡ Some asked.peer)) }
+        ensures known { OnOk result (IfSome self.old.answered (λ _.
+            get nat_cmp self.new.judged number ≡ Some key)) }
+    {
         let answered = self.answered.take();
         let is_answer = answered.is_some_and(|asked| asked.key == key);
         self.expect(is_answer, Complaint::Delivery);
@@ -295,8 +302,8 @@ impl Judge {
 
     /// A response earns its sender a credit or a block, and nothing after that.
     fn note_earning(&mut self, response: u64, peer: u16)
-        ensures judged { self.new.complaint ≡ None
-            → get nat_cmp self.old.senders response ≡ Some peer }
+        ensures judged { ComplainsUnless self.old.complaint self.new.complaint
+            (get nat_cmp self.old.senders response ≡ Some peer) }
         ensures once { get nat_cmp self.new.senders response ≡ None }
     {
         let is_right = self.senders.remove(&response) == Some(peer);
@@ -305,11 +312,8 @@ impl Judge {
 
     /// What the core counts once an event is over: how many keys are demanded, asked for and judged.
     pub fn note_phases(&mut self, phases: Phases)
-        ensures counted { self.new.complaint ≡ None
-            → phases.waiting + phases.asked + phases.judged ≡ length self.old.demand.keys }
-        ensures asked { self.new.complaint ≡ None
-            → phases.asked ≡ length self.old.asked.by_id.entries }
-        ensures judged { self.new.complaint ≡ None → phases.judged ≡ length self.old.judged.entries }
+        ensures judged { ComplainsUnless self.old.complaint self.new.complaint
+            (AreCounted self.old phases × (self.old.answered ≡ None)) }
     {
         self.unseen = self.unseen.saturating_add(1);
         let is_demand = count_of(phases) == self.demand.len() as u128;
@@ -325,13 +329,10 @@ impl Judge {
     /// What the core lists of a key once an event is over, if it lists it: whether it is demanded, and what is done for
     /// it.
     pub fn note_row(&mut self, key: Height, row: Option<&Row<Height, u16, u16>>)
-        ensures named { self.new.complaint ≡ None → IfSome row.entry (λ row. row.now.key ≡ key) }
-        ensures noted { self.new.complaint ≡ None → IfSome row.entry (λ row. IsNoted
-            (get nat_cmp self.old.asked.by_id) (get nat_cmp self.old.judged)
-            row.now.key row.now.phase) }
-        ensures stays { IsSome self.old.complaint → self.new.complaint ≡ self.old.complaint }
+        ensures judged { ComplainsUnless self.old.complaint self.new.complaint
+            (IsListed self.old key (option_copied row.entry)) }
     {
-        let is_demand = row.is_some() == self.demand.contains(&key);
+        let is_demand = row.is_some() == self.demand.contains(&key.number());
         self.expect(is_demand, Complaint::Demand);
         let is_known = match row {
             Some(row) => row.key == key && self.is_known(row),
@@ -347,7 +348,10 @@ impl Judge {
     }
 
     /// What the core lists once an event is over: the demand, and the open requests.
-    pub fn note_rows(&mut self, rows: &[Row<Height, u16, u16>]) {
+    pub fn note_rows(&mut self, rows: &[Row<Height, u16, u16>])
+        ensures judged { ComplainsUnless self.old.complaint self.new.complaint
+            (AreRowsOf self.old.demand.keys rows.now × HaveRequests self.old rows.now) }
+    {
         self.unseen = 0;
         let is_demand = self.has_demand(rows);
         self.expect(is_demand, Complaint::Demand);
@@ -356,16 +360,20 @@ impl Judge {
     }
 
     /// Whether the rows are the demanded keys, in their order.
-    fn has_demand(&self, rows: &[Row<Height, u16, u16>]) -> bool {
+    fn has_demand(&self, rows: &[Row<Height, u16, u16>]) -> bool
+        ensures { IsTrue result ↔ AreRowsOf self.entry.now.demand.keys rows.now }
+    {
         rows.len() == self.demand.len()
             && rows
                 .iter()
                 .zip(self.demand.iter())
-                .all(|(row, key)| row.key == *key)
+                .all(|(row, number)| row.key.number() == *number)
     }
 
     /// Whether the rows have the open requests.
-    fn has_requests(&self, rows: &[Row<Height, u16, u16>]) -> bool {
+    fn has_requests(&self, rows: &[Row<Height, u16, u16>]) -> bool
+        ensures { IsTrue result ↔ HaveRequests self.entry.now rows.now }
+    {
         let asked = rows
             .iter()
             .filter(|row| matches!(row.phase, Phase::Asked { .. }));
@@ -374,9 +382,8 @@ impl Judge {
 
     /// Whether what is done for a row's key is what the requests and the deliveries say.
     fn is_known(&self, row: &Row<Height, u16, u16>) -> bool
-        ensures { IsTrue result → IsNoted
-            (get nat_cmp self.entry.now.asked.by_id) (get nat_cmp self.entry.now.judged)
-            row.now.key row.now.phase }
+        ensures { IsTrue result ↔ IsNoted
+            self.entry.now.asked self.entry.now.judged row.now.key row.now.phase }
     {
         match &row.phase {
             Phase::Waiting { .. } => !self.asked.has_key(row.key) && !self.is_judged(row.key),
@@ -393,26 +400,34 @@ impl Judge {
     }
 
     /// Whether a key's delivery has no verdict.
-    fn is_judged(&self, key: Height) -> bool {
+    fn is_judged(&self, key: Height) -> bool
+        ensures { (result ≡ false) ↔ IsUnjudged self.entry.now.judged key }
+    {
         self.judged.values().any(|other| *other == key)
     }
 
     /// When the time of the first request is over.
-    fn next_deadline(&self) -> Option<u128> {
+    fn next_deadline(&self) -> Option<u128>
+        ensures { result ≡ first_deadline self.entry.now.asked.deadlines.keys }
+    {
         self.asked.first().map(|(deadline, _)| deadline)
     }
 
     /// Whether there is a key that waits and a peer that may be asked. It goes through the peers, and only where nothing
     /// will wake the node.
-    fn has_work(&self) -> bool {
+    fn has_work(&self) -> bool
+        ensures { IsTrue result ↔ HasWork self.entry.now }
+    {
         let busy = self.asked.len().saturating_add(self.judged.len());
         self.demand.len() > busy && self.peers.iter().any(|peer| self.is_eligible(*peer))
     }
 
     /// What the core waits for, once all that is due was fed.
     pub fn note_waits(&mut self, active: Option<u128>, pending: Option<u128>)
-        ensures judged { self.new.complaint ≡ None
-            → IsLater self.old.now active × IsLater self.old.now pending }
+        ensures judged { ComplainsUnless self.old.complaint self.new.complaint
+            ((active ≡ first_deadline self.old.asked.deadlines.keys)
+            × IsLater self.old.now active × IsLater self.old.now pending
+            × IsAwake self.old pending) }
     {
         let is_timed = active == self.next_deadline();
         self.expect(is_timed, Complaint::Deadline);

@@ -1,8 +1,11 @@
 //! The requests of a node that have no answer.
 
-ghost use Rattle.std.specs.Prelude.{◌≡◌, length, None, Some, OnOk};
+ghost use Rattle.std.specs.Prelude.{◌≡◌, ◌+◌, ◌-◌, ◌^◌, min, true, false, length, slice_get, None, Some, OnOk, IfSome};
 ghost use Rattle.std.specs.Ordering.{nat_cmp};
 ghost use Rattle.std.specs.BTreeMap.{get};
+ghost use Rattle.std.specs.BTreeSet.{Updates, contains};
+ghost use Rattle.resolver_swarm.specs.Height.{number_of};
+ghost use Rattle.resolver_swarm.specs.Judging.{load_of};
 
 use crate::height::Height;
 use std::alloc::{AllocError, Global};
@@ -23,7 +26,8 @@ pub struct Requests {
     by_id: BTreeMap<u64, Asked>,
     /// Their deadlines, each with the id of its request.
     deadlines: BTreeSet<(u128, u64)>,
-    keys: BTreeSet<Height>,
+    /// The numbers of their keys.
+    keys: BTreeSet<u16>,
     /// How many each peer has that was asked.
     loads: BTreeMap<u16, u64>,
 }
@@ -59,27 +63,37 @@ impl Requests {
     }
 
     /// Whether a key is asked for.
-    pub fn has_key(&self, key: Height) -> bool {
-        self.keys.contains(&key)
+    pub fn has_key(&self, key: Height) -> bool
+        ensures { result ≡ contains nat_cmp self.now.keys (number_of key) }
+    {
+        self.keys.contains(&key.number())
     }
 
     /// How many a peer has.
-    pub fn load(&self, peer: u16) -> u64 {
+    pub fn load(&self, peer: u16) -> u64
+        ensures { result ≡ load_of self.now.loads peer }
+    {
         self.loads.get(&peer).copied().unwrap_or(0)
     }
 
     /// When the time of the first one is over, and its id. Of equal moments the smaller id is first.
-    pub fn first(&self) -> Option<(u128, u64)> {
+    pub fn first(&self) -> Option<(u128, u64)>
+        ensures { result ≡ slice_get self.now.deadlines.keys 0 }
+    {
         self.deadlines.first().copied()
     }
 
     /// A request is sent under this id.
     pub fn put(&mut self, id: u64, asked: Asked) -> Result<(), AllocError>
-        ensures { OnOk result (get nat_cmp self.new.by_id id ≡ Some asked) }
+        ensures put { OnOk result (get nat_cmp self.new.by_id id ≡ Some asked) }
+        ensures keys { OnOk result
+            (Updates nat_cmp self.old.keys self.new.keys (number_of asked.key) true) }
+        ensures load { OnOk result (load_of self.new.loads asked.peer
+            ≡ min (load_of self.old.loads asked.peer + 1) (2 ^ 64 - 1)) }
     {
         self.by_id.insert(id, asked)?;
         self.deadlines.insert((asked.deadline, id))?;
-        self.keys.insert(asked.key)?;
+        self.keys.insert(asked.key.number())?;
         let load = self.load(asked.peer).saturating_add(1);
         self.loads.insert(asked.peer, load)?;
         Ok(())
@@ -89,17 +103,23 @@ impl Requests {
     pub fn remove(&mut self, id: u64) -> Option<Asked>
         ensures removed { result ≡ get nat_cmp self.old.by_id id }
         ensures ended { get nat_cmp self.new.by_id id ≡ None }
+        ensures keys { IfSome result (λ asked.
+            Updates nat_cmp self.old.keys self.new.keys (number_of asked.key) false) }
+        ensures load { IfSome result (λ asked. load_of self.new.loads asked.peer
+            ≡ load_of self.old.loads asked.peer - 1) }
     {
         let asked = self.by_id.remove(&id)?;
         self.deadlines.remove(&(asked.deadline, id));
-        self.keys.remove(&asked.key);
+        self.keys.remove(&asked.key.number());
         self.unload(asked.peer);
         Some(asked)
     }
 
     /// A peer has one less.
     fn unload(&mut self, peer: u16)
-        ensures { self.new.by_id ≡ self.old.by_id }
+        ensures requests { self.new.by_id ≡ self.old.by_id }
+        ensures keys { self.new.keys ≡ self.old.keys }
+        ensures load { load_of self.new.loads peer ≡ load_of self.old.loads peer - 1 }
     {
         let left = self.load(peer).saturating_sub(1);
         match self.loads.get_mut(&peer) {
