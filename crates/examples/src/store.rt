@@ -6,10 +6,10 @@ ghost use Rattle.std.specs.Prelude.{◌==◌, not};
 ghost use Rattle.std.proofs.Common.{rules};
 
 use anyhow::Result;
-use resolver_core::base::{Moment, NonEmptyVec, Predicate};
-use resolver_core::ingress::FetchKey;
-use resolver_core::opaque::{Actor, Effect, Event, Input};
-use resolver_core::{Delivery, Outcome};
+use resolver_actor::base::{Moment, NonEmptyVec, Predicate};
+use resolver_actor::ingress::FetchKey;
+use resolver_actor::opaque::{Actor, Effect, Event, Input};
+use resolver_actor::{Delivery, Outcome};
 use std::alloc::Global;
 use std::mem;
 

@@ -10,11 +10,11 @@ ghost use Rattle.resolver_model_opaque.specs.OpaqueInputs.{input_of};
 ghost use Rattle.resolver_model_opaque.specs.OpaqueLaws.{HasDemand};
 ghost use Rattle.resolver_model_opaque.specs.OpaqueSteps.{Runs, answer_of};
 
-use resolver_core::base::{Faithful, Fault, Predicate};
-use resolver_core::opaque::laws::{
+use resolver_actor::base::{Faithful, Fault, Predicate};
+use resolver_actor::opaque::laws::{
     opaque_inputs_are_lawful, opaque_keeps_demand, opaque_runs_join,
 };
-use resolver_core::opaque::{Actor, Effect, Input};
+use resolver_actor::opaque::{Actor, Effect, Input};
 use std::alloc::Global;
 
 /// An actor's answer to one input.

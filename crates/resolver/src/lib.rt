@@ -6,7 +6,8 @@
 //! `p2p::Engine` is such a core with all that its loop will poll.
 #![tactic(auto)]
 
-pub use resolver_core::{Delivery, Fetch, Outcome, Resolution, laws, names, subscribers};
+pub use resolver_actor::opaque::laws;
+pub use resolver_core::{Delivery, Fetch, Outcome, Resolution, names, subscribers};
 pub use resolver_mailbox::mailbox;
 pub use resolver_runtime::{Consumer, Ending, Handle, Resolver, TargetedResolver};
 

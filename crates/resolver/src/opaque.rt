@@ -4,7 +4,7 @@
 //! a handle of the mailbox of its loop, which `init` runs over a `Fetcher` in a thread; `open` gives the loop
 //! itself. `init_watched` and `open_watched` do the same with a watcher, which is told what the loop takes and does.
 
-pub use resolver_core::opaque::{Actor, Effect, Event, Input, Phase, Row, laws};
+pub use resolver_actor::opaque::{Actor, Effect, Event, Input, Phase, Row, laws};
 use resolver_mailbox::mailbox::Unrecorded;
 pub use resolver_opaque_loop::{
     Config, Fetcher, Loop, Resolver, init, init_watched, open, open_watched,

@@ -1,18 +1,12 @@
-//! The machines of a resolver, without a loop: each takes one input at a time and answers with effects. They hold no
-//! clock, no socket and no thread.
+//! The machine that fetches from peers, without a loop: it takes one input at a time and answers with effects. It
+//! holds no clock, no socket and no thread.
 //!
-//! `p2p::Core` fetches from peers, and `opaque::Actor` from one opaque source. Who feeds them by hand, in a program
-//! with a loop of its own, needs this crate alone; `resolver` has all of it, with the loops.
+//! Who feeds `p2p::Core` by hand, in a program with a loop of its own, needs this crate alone; `resolver` has it with
+//! its loop.
 #![tactic(auto)]
 
-pub use resolver_demand::subscribers;
-pub use resolver_opaque_actor::laws;
-pub use resolver_types::{Delivery, Fetch, Outcome, Resolution};
+pub use resolver_values::{
+    Delivery, Fetch, Outcome, Resolution, base, delivery, ingress, names, node, subscribers,
+};
 
-pub mod base;
-pub mod delivery;
-pub mod ingress;
-pub mod names;
-pub mod node;
-pub mod opaque;
 pub mod p2p;

@@ -3,7 +3,7 @@
 use crate::cause::Cause;
 use crate::states::{of_peers, of_source};
 use bytes::Bytes;
-use resolver_core::opaque;
+use resolver_actor::opaque;
 use resolver_core::p2p::effects::Effect;
 use resolver_core::p2p::fetcher::Ask;
 use resolver_mailbox::mocks::Key;

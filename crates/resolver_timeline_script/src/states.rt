@@ -1,6 +1,6 @@
 //! What is done for the keys that are wanted, after a step.
 
-use resolver_core::opaque;
+use resolver_actor::opaque;
 use resolver_core::p2p::rows;
 use resolver_script::endings::Fault;
 use resolver_script::opaque::Opaque;
