@@ -11,6 +11,7 @@ use Rattle.std.specs.Map.{keys_of, lookup}
 use Rattle.std.specs.Map.Calls.{RetainsPairs}
 use Rattle.std.proofs.lemmas.Map.Entries.{option_filter}
 use Rattle.std.proofs.lemmas.Map.Keys.{sorted_head, sorted_tail}
+use Rattle.std.proofs.lemmas.Option.{same_Some}
 use Rattle.std.specs.BTreeMap.{is_at}
 use Rattle.std.specs.Ordering.{is_eq, nat_cmp}
 use Rattle.std.specs.declared.cmp.Ordering.{Ordering}
@@ -19,7 +20,7 @@ use Rattle.resolver_priority_set.specs.Priorities.{listed}
 use Rattle.resolver_fetch_requests.specs.declared.requests.request.Request.{Request}
 use Rattle.resolver_fetch_requests.specs.Ids.{is_held}
 use Rattle.resolver_fetch_requests.specs.Requests.{AreNamed, ids_of, is_asked, is_for, is_for_if, request_for, request_of}
-use Rattle.resolver_fetch_requests.proofs.Soonest.{behind, past-head}
+use Rattle.resolver_fetch_requests.proofs.Soonest.{at-head, behind, past-head}
 
 module _ {K X : Type 0} {by_key : K → K → Ordering} (o : IsTotalOrder by_key) where
   -- equal keys name the same
@@ -33,9 +34,6 @@ module _ {K X : Type 0} {by_key : K → K → Ordering} (o : IsTotalOrder by_key
 pub none-is : {X : Type 0} (x : Option X) → is_some x ≡ false → x ≡ None
 none-is None is = refl
 none-is (Some x) is = cc
-
-some-same : {X : Type 0} (x y : X) → Some x ≡ Some y → x ≡ y
-some-same x y e = cc
 
 module _ {K P : Type 0} {by_key : K → K → Ordering} (o : IsTotalOrder by_key) where
   -- a request for another key is put, and its key names it
@@ -99,7 +97,7 @@ module _ {K P : Type 0} {by_key : K → K → Ordering} (o : IsTotalOrder by_key
   kept-name new None q is = absurd cc
   kept-name new (Some p) q is = at (is_held new p) refl is where
     at : (b : Bool) → is_held new p ≡ b → cond b (Some p) None ≡ Some q → (Some p ≡ Some q) × (is_held new q ≡ true)
-    at true held is = (is, let same : p ≡ q = some-same p q is in sym (ap (is_held new) same) ∙ held)
+    at true held is = (is, let same : p ≡ q = same_Some p q is in sym (ap (is_held new) same) ∙ held)
     at false held is = absurd cc
 
   kept-for : (k : K) (q : ℕ) (old now : Option (Request K P)) → ((r : Request K P) → now ≡ Some r → old ≡ Some r) → is_some now ≡ true
@@ -122,12 +120,7 @@ module _ {K P : Type 0} {by_key : K → K → Ordering} (o : IsTotalOrder by_key
         kept-for k q (request_of old q) (request_of new q) (found q) kept.1 (are.held k q kept.0);
   }
 
--- an id that isn't held is not taken out
-pub gone-same : {K P : Type 0} (id : ℕ) (old new : List (ℕ × Request K P)) → request_of old id ≡ None
-    → ((q : ℕ) → request_of new q ≡ cond (is_at (nat_cmp id) q) None (request_of old q)) → (q : ℕ) → request_of new q ≡ request_of old q
-gone-same id old new none updates q = let after = updates q in grind (arith, common_steps, nat_tests, after, none)
-
--- nor is a key that names nothing
+-- a key that names nothing, and is put and taken out, names nothing
 pub name-gone : {K : Type 0} {by_key : K → K → Ordering} → IsTotalOrder by_key → (key : K) (names put next : List (K × ℕ)) (id : ℕ) → lookup (is_at (by_key key)) names ≡ None
     → ((k : K) → lookup (is_at (by_key k)) put ≡ cond (is_at (by_key key) k) (Some id) (lookup (is_at (by_key k)) names))
     → ((k : K) → lookup (is_at (by_key k)) next ≡ cond (is_at (by_key key) k) None (lookup (is_at (by_key k)) put))
@@ -144,9 +137,6 @@ module _ {K P : Type 0} where
       → (q : ℕ) (s : Request K P) → request_of es q ≡ Some s → request_of (e ∷ es) q ≡ Some s
   lifted e es sorted q s there =
       past-head e es q (λ x. absurd (omega (arith, x, behind e.0 es (sorted_head nat_cmp e.0 (keys_of es) sorted) q s there))) ∙ there
-
-  at-head : (e : ℕ × Request K P) (es : List (ℕ × Request K P)) → request_of (e ∷ es) e.0 ≡ Some e.1
-  at-head e es = grind (arith, nat_tests, common_steps)
 
 false-unless : (b : Bool) → (b ≡ true → ⊥) → b ≡ false
 false-unless true never = absurd (never refl)
@@ -173,7 +163,7 @@ module _ {K P : Type 0} (by_key : K → K → Ordering) (key : K) where
         split : (b : Bool) → (e.0 == id) ≡ b → (request_of es id ≡ Some r → filter (is_for by_key key) es ≡ (id, r) ∷ []) → filter (is_for by_key key) (e ∷ es) ≡ (id, r) ∷ []
         split true same behind_it =
             let is : e.0 ≡ id = eqb-true e.0 id same in
-            let request : e.1 ≡ r = some-same e.1 r (sym (at-head e es) ∙ ap (request_of (e ∷ es)) is ∙ there) in
+            let request : e.1 ≡ r = same_Some e.1 r (sym (at-head e es) ∙ ap (request_of (e ∷ es)) is ∙ there) in
             let here : is_for by_key key e ≡ true = ap (λ (x : Request K P). is_eq (by_key key x.key)) request ∙ for_key in
             let rest = none-for es (sorted_tail nat_cmp e.0 (keys_of es) sorted) (λ q s later. false-unless (is_eq (by_key key s.key)) (λ for_too.
             let twice : q ≡ id = once q s (lifted e es sorted q s later) for_too in
@@ -210,7 +200,7 @@ module _ {K P : Type 0} {by_key : K → K → Ordering} (o : IsTotalOrder by_key
   filter-one key id r name there =
       let for_key : is_eq (by_key key r.key) ≡ true = sym (ap (is_for_if by_key key id) there) ∙ are.held key id name in
       one-for by_key key id r asked sorted there for_key (λ q s at for_too.
-      some-same q id (sym (are.named q s at) ∙ sym (lookup-same o key s.key names ((Equal-is (by_key key s.key)).0 for_too)) ∙ name))
+      same_Some q id (sym (are.named q s at) ∙ sym (lookup-same o key s.key names ((Equal-is (by_key key s.key)).0 for_too)) ∙ name))
 
   -- what a key names is held
   pub held-for : (key : K) (id : ℕ) → lookup (is_at (by_key key)) names ≡ Some id → request_of asked id ≡ None → ⊥

@@ -1,53 +1,45 @@
 -- The request whose time is over first.
-use Rattle.std.proofs.Common.{◌≡◌, ◌≢◌, refl, ap, subst, ◌∙◌, sym, ℕ, ◌<◌, Bool, true, false, ◌==◌, List, [], ◌∷◌, Option, None, Some, if◌then◌else◌, option_map, arith}
-use Rattle.std.specs.Prelude.{nat_le, option_and_then}
+use Rattle.std.proofs.Common.{◌≡◌, ◌≢◌, refl, ap, subst, ◌∙◌, sym, ℕ, ◌<◌, ◌≤◌, Bool, true, false, ◌==◌, List, [], ◌∷◌, length, Option, None, Some, if◌then◌else◌, option_map, arith}
+use Rattle.std.specs.Prelude.{nat_le, option_and_then, slice_get}
 use Rattle.std.proofs.lemmas.Grind.{common_steps}
 use Rattle.std.proofs.lemmas.Bool.{eqb-true, eqb-false}
 use Rattle.std.proofs.lemmas.Bool.Decides.{nat_tests}
+use Rattle.std.proofs.lemmas.List.Elements.{recursion_from_All}
 use Rattle.std.proofs.lemmas.Map.Keys.{sorted_head, sorted_tail}
-use Rattle.std.specs.List.{AllByRecursion}
+use Rattle.std.proofs.lemmas.Option.{same_Some}
+use Rattle.std.specs.BTreeMap.Range.{IsLeBy}
+use Rattle.std.specs.List.{All, AllByRecursion}
 use Rattle.std.specs.List.Sorted.{IsStrictlySortedBy}
 use Rattle.std.specs.Map.{keys_of}
-use Rattle.std.specs.Ordering.{is_lt, nat_cmp}
+use Rattle.std.specs.Ordering.{is_gt, is_lt, nat_cmp}
 use Rattle.std.specs.declared.cmp.Ordering.{Ordering}
 use Rattle.std.specs.declared.cmp.Ordering.TheVariants.{Less}
 use Rattle.resolver_priority_set.specs.Priorities.{listed, pair_order, priorities_of}
 use Rattle.resolver_fetch_requests.specs.declared.requests.request.Request.{Request}
-use Rattle.resolver_fetch_requests.specs.Requests.{AreTimed, if_overdue, is_sooner, sooner, soonest, request_of, taken_overdue, taken_soonest, without_request}
+use Rattle.resolver_fetch_requests.specs.Deadlines.{AreInOrder, AreListed, times_of}
+use Rattle.resolver_fetch_requests.specs.Requests.{if_overdue, is_sooner, sooner, soonest, request_of, taken_overdue, taken_soonest, without_request}
 
--- the only item of a list
-only : {X : Type 0} (x y : X) → x ∷ [] ≡ y ∷ [] → x ≡ y
-only x y e = cc
-
-some-only : {X : Type 0} (x y : X) → Some x ≡ Some y → x ≡ y
-some-only x y e = cc
+-- a list of no length
+pub nil : {X : Type 0} (xs : List X) → (0 < length xs → ⊥) → xs ≡ []
+nil [] none = refl
+nil (x ∷ xs) none = absurd (none (omega arith))
 
 abbrev pub by_deadline : ℕ × ℕ → ℕ × ℕ → Ordering
 by_deadline = pair_order nat_cmp nat_cmp
 
--- two pairs are not both before one another
-not-back : (p q : ℕ × ℕ) → by_deadline p q ≡ Less → is_lt (by_deadline q p) ≡ false
-not-back p q before = grind (arith, nat_tests, before)
-
-not-itself : (p : ℕ × ℕ) → is_lt (by_deadline p p) ≡ false
-not-itself p = grind (arith, nat_tests)
-
--- no pair of these is before this one
-abbrev NoneBefore : ℕ × ℕ → List (ℕ × ℕ) → Type 0
-NoneBefore p [] = Unit {0}
-NoneBefore p (q ∷ qs) = (is_lt (by_deadline q p) ≡ false) × NoneBefore p qs
-
-all-after : (p : ℕ × ℕ) (qs : List (ℕ × ℕ)) → AllByRecursion (λ q. by_deadline p q ≡ Less) qs → NoneBefore p qs
-all-after p [] all = tt
-all-after p (q ∷ qs) all = (not-back p q all.0, all-after p qs all.1)
-
-none-before : (p : ℕ × ℕ) (ds : List (ℕ × ℕ)) → NoneBefore p ds
+-- where a pair is no later than these, none of them is before it
+none-before : (p : ℕ × ℕ) (ds : List (ℕ × ℕ)) → AllByRecursion (λ d. is_gt (by_deadline p d) ≡ false) ds
     → (id deadline : ℕ) → priorities_of nat_cmp ds id ≡ deadline ∷ [] → is_lt (by_deadline (deadline, id) p) ≡ false
 none-before p [] all id deadline here = absurd cc
 none-before p (d ∷ ds) all id deadline here =
     let rest = none-before p ds all.1 id deadline in
     let first = all.0 in
     grind (arith, nat_tests, common_steps, rest, first, here)
+
+-- the time that is listed first is that of its id
+time-first : (p d : ℕ × ℕ) (ds : List (ℕ × ℕ)) (time : Option ℕ) → Some d ≡ Some p → priorities_of nat_cmp (d ∷ ds) p.1 ≡ listed time → time ≡ Some p.0
+time-first p d ds None is here = let same : d ≡ p = same_Some d p is in absurd (grind (arith, nat_tests, common_steps, same, here))
+time-first p d ds (Some t) is here = let same : d ≡ p = same_Some d p is in grind (arith, nat_tests, common_steps, same, here)
 
 module _ {K P : Type 0} where
   -- of two requests, one is sooner
@@ -60,7 +52,7 @@ module _ {K P : Type 0} where
   behind k [] all j q there = absurd cc
   behind k (x ∷ xs) all j q there = let rest = behind k xs all.1 j q in let first = all.0 in grind (arith, nat_tests, common_steps, rest, first, there)
 
-  at-head : (x : ℕ × Request K P) (xs : List (ℕ × Request K P)) → request_of (x ∷ xs) x.0 ≡ Some x.1
+  pub at-head : (x : ℕ × Request K P) (xs : List (ℕ × Request K P)) → request_of (x ∷ xs) x.0 ≡ Some x.1
   at-head x xs = grind (arith, nat_tests, common_steps)
 
   pub past-head : (x : ℕ × Request K P) (xs : List (ℕ × Request K P)) (j : ℕ) → x.0 ≢ j → request_of (x ∷ xs) j ≡ request_of xs j
@@ -75,13 +67,14 @@ module _ {K P : Type 0} where
     pick true = past-head x xs y.0 (later y refl).1 ∙ (later y refl).0
     pick false = at-head x xs
 
-  found : (xs : List (ℕ × Request K P)) → IsStrictlySortedBy nat_cmp (keys_of xs) → (y : ℕ × Request K P) → soonest xs ≡ Some y → request_of xs y.0 ≡ Some y.1
+  -- and found by its id
+  pub found : (xs : List (ℕ × Request K P)) → IsStrictlySortedBy nat_cmp (keys_of xs) → (y : ℕ × Request K P) → soonest xs ≡ Some y → request_of xs y.0 ≡ Some y.1
   found [] sorted y is = absurd cc
   found (x ∷ xs) sorted y is =
       let apart : (z : ℕ × Request K P) → soonest xs ≡ Some z → (request_of xs z.0 ≡ Some z.1) × (x.0 ≢ z.0) = λ z at.
       let there : request_of xs z.0 ≡ Some z.1 = found xs (sorted_tail nat_cmp x.0 (keys_of xs) sorted) z at in
       (there, λ e. absurd (omega (arith, behind x.0 xs (sorted_head nat_cmp x.0 (keys_of xs) sorted) z.0 z.1 there, e))) in
-      subst (λ z. request_of (x ∷ xs) z.0 ≡ Some z.1) (some-only (sooner x (soonest xs)) y is) (found-with x xs (soonest xs) apart)
+      subst (λ z. request_of (x ∷ xs) z.0 ≡ Some z.1) (same_Some (sooner x (soonest xs)) y is) (found-with x xs (soonest xs) apart)
 
   -- the request that no other is sooner than
   best : (xs : List (ℕ × Request K P)) → IsStrictlySortedBy nat_cmp (keys_of xs) → (m : ℕ × Request K P) → request_of xs m.0 ≡ Some m.1
@@ -107,7 +100,7 @@ module _ {K P : Type 0} where
         → Some (sooner x (soonest xs)) ≡ Some m
     split true same again =
         let e : x.0 ≡ m.0 = eqb-true x.0 m.0 same in
-        let value : x.1 ≡ m.1 = some-only x.1 m.1 (sym (at-head x xs) ∙ ap (request_of (x ∷ xs)) e ∙ there) in
+        let value : x.1 ≡ m.1 = same_Some x.1 m.1 (sym (at-head x xs) ∙ ap (request_of (x ∷ xs)) e ∙ there) in
         let here : m ≡ x = (λ i. (sym e i, sym value i)) in
         ap Some (first (soonest xs) refl here)
     split false other again =
@@ -116,39 +109,51 @@ module _ {K P : Type 0} where
         let later : is_sooner m x ≡ true = sooner-apart x m (least x.0 x.1 (at-head x xs)) e in
         rw (is, later) refl
 
-  -- the first pair is that of the soonest request
-  timed-first : (asked : List (ℕ × Request K P)) (p : ℕ × ℕ) (ds : List (ℕ × ℕ)) (found : Option (Request K P)) → request_of asked p.1 ≡ found
-      → AreTimed asked (p ∷ ds) → IsStrictlySortedBy by_deadline (p ∷ ds)
-      → (r : Request K P) × (soonest asked ≡ Some (p.1, r)) × (r.deadline ≡ p.0)
-  timed-first asked p ds None is timed sorted = let here = timed.same p.1 in absurd (grind (arith, nat_tests, common_steps, here, is))
-  timed-first asked p ds (Some r) is timed sorted =
-      let here = timed.same p.1 in
-      let deadline : r.deadline ≡ p.0 = grind (arith, nat_tests, common_steps, here, is) in
-      let before : NoneBefore p (p ∷ ds) = (not-itself p, all-after p ds (sorted_head by_deadline p ds sorted)) in
-      let least : (j : ℕ) (q : Request K P) → request_of asked j ≡ Some q → is_sooner (j, q) (p.1, r) ≡ false = λ j q at.
-      let no_sooner : is_lt (by_deadline (q.deadline, j) p) ≡ false = none-before p (p ∷ ds) before j q.deadline (timed.same j ∙ ap (λ o. listed (option_map (λ (s : Request K P). s.deadline) o)) at) in
-      rw deadline no_sooner in
-      (r, best asked timed.ids (p.1, r) is least, deadline)
+  -- a time is that of a request
+  pub request-at : (found : Option (Request K P)) (time : ℕ) → option_map (λ (r : Request K P). r.deadline) found ≡ Some time → (r : Request K P) × (found ≡ Some r) × (r.deadline ≡ time)
+  request-at None time at = absurd cc
+  request-at (Some r) time at = (r, refl, same_Some r.deadline time at)
 
-  pub soonest-first : (asked : List (ℕ × Request K P)) (p : ℕ × ℕ) (ds : List (ℕ × ℕ)) → AreTimed asked (p ∷ ds) → IsStrictlySortedBy by_deadline (p ∷ ds)
-      → (r : Request K P) × (soonest asked ≡ Some (p.1, r)) × (r.deadline ≡ p.0)
-  soonest-first asked p ds timed sorted = timed-first asked p ds (request_of asked p.1) refl timed sorted
+  -- no id is smaller than the first
+  first-least : (x : ℕ × Request K P) (xs : List (ℕ × Request K P)) → IsStrictlySortedBy nat_cmp (keys_of (x ∷ xs)) → (j : ℕ) (q : Request K P) → request_of (x ∷ xs) j ≡ Some q → x.0 ≤ j
+  first-least x xs sorted j q at = split (x.0 == j) refl where
+    split : (b : Bool) → (x.0 == j) ≡ b → x.0 ≤ j
+    split true same = let e : x.0 ≡ j = eqb-true x.0 j same in omega arith
+    split false other =
+        let e : x.0 ≢ j = eqb-false x.0 j other in
+        let behind_it : x.0 < j = behind x.0 xs (sorted_head nat_cmp x.0 (keys_of xs) sorted) j q (sym (past-head x xs j e) ∙ at) in
+        omega arith
 
-  -- without pairs there are no requests
-  pub soonest-none : (asked : List (ℕ × Request K P)) → AreTimed asked [] → soonest asked ≡ None
-  soonest-none [] timed = refl
-  soonest-none (x ∷ xs) timed = let here = timed.same x.0 in let there = at-head x xs in absurd (grind (arith, nat_tests, common_steps, here, there))
+  not-sooner : (q r : ℕ × Request K P) → r.0 ≤ q.0 → r.1.deadline ≤ q.1.deadline → is_sooner q r ≡ false
+  not-sooner q r ids deadlines = grind (arith, nat_tests, ids, deadlines)
 
-  -- what is first by its deadline
-  pub first-timed : (asked : List (ℕ × Request K P)) (p : ℕ × ℕ) (ds : List (ℕ × ℕ)) → AreTimed asked (p ∷ ds) → IsStrictlySortedBy by_deadline (p ∷ ds)
+  -- where the deadlines come in the order of the ids, the first request is the soonest
+  pub soonest-in_order : (asked : List (ℕ × Request K P)) (last latest : ℕ) (x : ℕ × Request K P) → IsStrictlySortedBy nat_cmp (keys_of asked) → AreInOrder (times_of asked) last latest
+      → slice_get asked 0 ≡ Some x → soonest asked ≡ Some x
+  soonest-in_order [] last latest x sorted order first = absurd cc
+  soonest-in_order (y ∷ ys) last latest x sorted order first =
+      best (y ∷ ys) sorted y (at-head y ys) (λ j q at.
+      let ids : y.0 ≤ j = first-least y ys sorted j q at in
+      let rising = order.rising y.0 j y.1.deadline q.deadline (ap (option_map (λ (r : Request K P). r.deadline)) (at-head y ys)) (ap (option_map (λ (r : Request K P). r.deadline)) at) ids in
+      not-sooner (j, q) y ids rising)
+      ∙ first
+
+  -- where they are listed, the first pair is that of the soonest request
+  pub soonest-listed : (asked : List (ℕ × Request K P)) (ds : List (ℕ × ℕ)) (p : ℕ × ℕ) → IsStrictlySortedBy nat_cmp (keys_of asked) → AreListed (times_of asked) ds
+      → slice_get ds 0 ≡ Some p → All (IsLeBy by_deadline p) ds
       → ◌≡◌ {A = Option (ℕ × ℕ)} (Some (p.1, p.0)) (option_map (λ r. (r.0, r.1.deadline)) (soonest asked))
-  first-timed asked p ds timed sorted =
-      let first = soonest-first asked p ds timed sorted in
-      rw first.1 (ap (λ (d : ℕ). Some (p.1, d)) (sym first.2))
+  soonest-listed asked [] p sorted are first all = absurd cc
+  soonest-listed asked (d ∷ ds) p sorted are first all =
+      let here = request-at (request_of asked p.1) p.0 (time-first p d ds (times_of asked p.1) first (are p.1)) in
+      let is : soonest asked ≡ Some (p.1, here.0) = best asked sorted (p.1, here.0) here.1 (λ j q at.
+      let stands : priorities_of nat_cmp (d ∷ ds) j ≡ q.deadline ∷ [] = are j ∙ ap (λ (o : Option (Request K P)). listed (option_map (λ (s : Request K P). s.deadline) o)) at in
+      rw here.2 (none-before p (d ∷ ds) (recursion_from_All (IsLeBy by_deadline p) (d ∷ ds) all) j q.deadline stands)) in
+      rw is (ap (λ (t : ℕ). Some (p.1, t)) (sym here.2))
 
-  -- the soonest is found by its id
-  pub soonest-found : (asked : List (ℕ × Request K P)) (ds : List (ℕ × ℕ)) → AreTimed asked ds → (r : ℕ × Request K P) → soonest asked ≡ Some r → request_of asked r.0 ≡ Some r.1
-  soonest-found asked ds timed r is = found asked timed.ids r is
+  -- where nothing is listed there is no request
+  pub soonest-none : (asked : List (ℕ × Request K P)) → AreListed (times_of asked) [] → soonest asked ≡ None
+  soonest-none [] are = refl
+  soonest-none (x ∷ xs) are = let here = are x.0 in let there = at-head x xs in absurd (grind (arith, nat_tests, common_steps, here, there))
 
   -- what the first request's id takes out, where its time is over
   taken-with : (asked : List (ℕ × Request K P)) (now id deadline : ℕ) (first : Option (ℕ × Request K P))
@@ -157,7 +162,7 @@ module _ {K P : Type 0} where
       → ◌≡◌ {A = Option (Request K P) × List (ℕ × Request K P)} (request_of asked id, without_request id asked) (taken_soonest asked (option_and_then (if_overdue now) first))
   taken-with asked now id deadline None is found over = absurd cc
   taken-with asked now id deadline (Some r) is found over =
-      let both : ◌≡◌ {A = ℕ × ℕ} (id, deadline) (r.0, r.1.deadline) = some-only {X = ℕ × ℕ} (id, deadline) (r.0, r.1.deadline) is in
+      let both : ◌≡◌ {A = ℕ × ℕ} (id, deadline) (r.0, r.1.deadline) = same_Some {A = ℕ × ℕ} (id, deadline) (r.0, r.1.deadline) is in
       let same : id ≡ r.0 = ap (λ (x : ℕ × ℕ). x.0) both in
       let end : deadline ≡ r.1.deadline = ap (λ (x : ℕ × ℕ). x.1) both in
       let due : nat_le r.1.deadline now ≡ true = ap (λ (d : ℕ). nat_le d now) (sym end) ∙ over in

@@ -1,8 +1,9 @@
--- Requests by their ids, and their ids by deadline.
-use Rattle.std.proofs.Common.{◌≡◌, refl, ap, ◌∙◌, sym, ℕ, Bool, true, false, List, [], ◌∷◌, Option, None, Some, cond, option_map, is_some, arith}
+-- When the time of each request is over, in the order of the ids or listed.
+use Rattle.std.proofs.Common.{◌≡◌, refl, ap, subst, ◌∙◌, sym, ℕ, ◌<◌, Bool, true, false, List, [], ◌∷◌, ◌++◌, Option, None, Some, cond, option_map, is_some, arith}
 use Rattle.std.proofs.lemmas.Grind.{common_steps}
 use Rattle.std.proofs.lemmas.Bool.Decides.{nat_tests}
 use Rattle.std.proofs.lemmas.Cmp.{nat_cmp_total, tied_itself}
+use Rattle.std.specs.List.{AllByRecursion}
 use Rattle.std.specs.List.Sorted.{IsStrictlySortedBy}
 use Rattle.std.specs.Map.{keys_of}
 use Rattle.std.specs.Map.Calls.{RetainsPairs}
@@ -11,78 +12,45 @@ use Rattle.std.specs.BTreeMap.{is_at}
 use Rattle.std.specs.BTreeSet.{insert_key}
 use Rattle.std.specs.Set.{remove_key}
 use Rattle.std.specs.Ordering.{is_eq, nat_cmp}
+use Rattle.std.specs.declared.cmp.Ordering.TheVariants.{Less}
 use Rattle.resolver_priority_set.specs.Priorities.{listed, priorities_of, retained, without}
 use Rattle.resolver_priority_set.proofs.Priorities.{priorities-insert, priorities-without, remove_key-without}
 use Rattle.resolver_fetch_requests.specs.declared.requests.request.Request.{Request}
-use Rattle.resolver_fetch_requests.specs.Requests.{AreTimed, request_of}
-use Rattle.resolver_fetch_requests.proofs.Soonest.{behind, by_deadline, past-head}
+use Rattle.resolver_fetch_requests.specs.declared.requests.deadlines.Deadlines.{Deadlines}
+use Rattle.resolver_fetch_requests.specs.Deadlines.{AreListed, AreTimed, IsPart, times_of, with_time, without_time}
+use Rattle.resolver_fetch_requests.specs.Requests.{request_of}
+use Rattle.resolver_fetch_requests.proofs.Soonest.{at-head, behind, by_deadline, past-head, request-at}
 
--- the pair of an id that stands once is taken out
-taken-out : (id deadline : ℕ) (ds : List (ℕ × ℕ)) → priorities_of nat_cmp ds id ≡ deadline ∷ []
-    → remove_key (is_at (by_deadline (deadline, id))) ds ≡ without nat_cmp id ds
-taken-out id deadline ds stands =
-    remove_key-without nat_cmp_total nat_cmp_total id id deadline deadline ds (tied_itself nat_cmp_total id) (tied_itself nat_cmp_total deadline) stands
+-- the same times
+pub timed-same : (times others : ℕ → Option ℕ) (deadlines : Deadlines) → ((q : ℕ) → others q ≡ times q) → AreTimed times deadlines → AreTimed others deadlines
+timed-same times others deadlines same timed = subst (λ (ts : ℕ → Option ℕ). AreTimed ts deadlines) (λ i q. sym (same q) i) timed
 
-module _ {K P : Type 0} where
-  -- a request's id stands once, at its deadline
-  timed-at-id : (id : ℕ) (r : Request K P) (asked : List (ℕ × Request K P)) (ds : List (ℕ × ℕ)) → AreTimed asked ds → request_of asked id ≡ Some r
-      → priorities_of nat_cmp ds id ≡ r.deadline ∷ []
-  timed-at-id id r asked ds timed there = timed.same id ∙ ap (λ o. listed (option_map (λ (s : Request K P). s.deadline) o)) there
+-- a time that is put is there
+pub time-here : (times : ℕ → Option ℕ) (id time : ℕ) → with_time times id time id ≡ Some time
+time-here times id time = ap (λ is. cond (is_eq is) (Some time) (times id)) (tied_itself nat_cmp_total id)
 
-  -- an id without a request doesn't stand there
-  timed-at-none : (id : ℕ) (asked : List (ℕ × Request K P)) (ds : List (ℕ × ℕ)) → AreTimed asked ds → request_of asked id ≡ None → priorities_of nat_cmp ds id ≡ []
-  timed-at-none id asked ds timed none = timed.same id ∙ ap (λ o. listed (option_map (λ (s : Request K P). s.deadline) o)) none
+-- a time that was put and is taken out
+pub time-back : (times : ℕ → Option ℕ) (id time : ℕ) → times id ≡ None → (q : ℕ) → times q ≡ without_time (with_time times id time) id q
+time-back times id time none q = grind (arith, nat_tests, common_steps, none)
 
-  -- the same requests are found
-  pub timed-same : (old new : List (ℕ × Request K P)) (ds : List (ℕ × ℕ)) → AreTimed old ds → IsStrictlySortedBy nat_cmp (keys_of new)
-      → ((q : ℕ) → request_of new q ≡ request_of old q) → AreTimed new ds
-  timed-same old new ds timed sorted updates = record {
-    ids = sorted;
-    same = λ q. timed.same q ∙ ap (λ o. listed (option_map (λ (s : Request K P). s.deadline) o)) (sym (updates q));
-  }
+-- a time is listed
+pub listed-put : (times : ℕ → Option ℕ) (id time : ℕ) (ds : List (ℕ × ℕ)) → AreListed times ds → times id ≡ None
+    → AreListed (with_time times id time) (insert_key by_deadline ds (time, id))
+listed-put times id time ds are none q =
+    let put = priorities-insert nat_cmp_total nat_cmp_total (time, id) q ds (are id ∙ ap listed none) in
+    let before = are q in
+    grind (arith, common_steps, put, before)
 
-  -- a request with a new id is put
-  pub timed-put : (id : ℕ) (r : Request K P) (old new : List (ℕ × Request K P)) (ds : List (ℕ × ℕ)) → AreTimed old ds → IsStrictlySortedBy nat_cmp (keys_of new)
-      → request_of old id ≡ None → ((q : ℕ) → request_of new q ≡ cond (is_at (nat_cmp id) q) (Some r) (request_of old q))
-      → AreTimed new (insert_key by_deadline ds (r.deadline, id))
-  timed-put id r old new ds timed sorted none updates = record {
-    ids = sorted;
-    same = λ q.
-        let put = priorities-insert nat_cmp_total nat_cmp_total (r.deadline, id) q ds (timed-at-none id old ds timed none) in
-        let before = timed.same q in
-        let after = updates q in
-        grind (arith, common_steps, put, before, after);
-  }
-
-  -- a request is taken out
-  pub timed-without : (id : ℕ) (r : Request K P) (old new : List (ℕ × Request K P)) (ds : List (ℕ × ℕ)) → AreTimed old ds → IsStrictlySortedBy nat_cmp (keys_of new)
-      → request_of old id ≡ Some r → ((q : ℕ) → request_of new q ≡ cond (is_at (nat_cmp id) q) None (request_of old q))
-      → AreTimed new (remove_key (is_at (by_deadline (r.deadline, id))) ds)
-  timed-without id r old new ds timed sorted there updates = record {
-    ids = sorted;
-    same = λ q.
-        let out = ap (λ left. priorities_of nat_cmp left q) (taken-out id r.deadline ds (timed-at-id id r old ds timed there)) in
-        let others = priorities-without nat_cmp_total id q ds in
-        let before = timed.same q in
-        let after = updates q in
-        grind (arith, common_steps, out, others, before, after);
-  }
-
-  -- a request that could not be put is taken out again
-  pub timed-back : (id deadline : ℕ) (old : List (ℕ × Request K P)) (ds : List (ℕ × ℕ)) → AreTimed old ds → request_of old id ≡ None
-      → AreTimed old (remove_key (is_at (by_deadline (deadline, id))) (insert_key by_deadline ds (deadline, id)))
-  timed-back id deadline old ds timed none = record {
-    ids = timed.ids;
-    same = λ q.
-        let gone = timed-at-none id old ds timed none in
-        let put = priorities-insert nat_cmp_total nat_cmp_total (deadline, id) q ds gone in
-        let stands : priorities_of nat_cmp (insert_key by_deadline ds (deadline, id)) id ≡ deadline ∷ [] =
-        priorities-insert nat_cmp_total nat_cmp_total (deadline, id) id ds gone ∙ ap (λ is. cond (is_eq is) (deadline ∷ []) (priorities_of nat_cmp ds id)) (tied_itself nat_cmp_total id) in
-        let out = ap (λ left. priorities_of nat_cmp left q) (taken-out id deadline (insert_key by_deadline ds (deadline, id)) stands) in
-        let others = priorities-without nat_cmp_total id q (insert_key by_deadline ds (deadline, id)) in
-        let before = timed.same q in
-        grind (arith, common_steps, nat_tests, out, others, put, before, gone);
-  }
+-- a time is listed no more
+pub listed-without : (times : ℕ → Option ℕ) (id time : ℕ) (ds : List (ℕ × ℕ)) → AreListed times ds → times id ≡ Some time
+    → AreListed (without_time times id) (remove_key (is_at (by_deadline (time, id))) ds)
+listed-without times id time ds are there q =
+    let gone : remove_key (is_at (by_deadline (time, id))) ds ≡ without nat_cmp id ds =
+    remove_key-without nat_cmp_total nat_cmp_total id id time time ds (tied_itself nat_cmp_total id) (tied_itself nat_cmp_total time) (are id ∙ ap listed there) in
+    let out = ap (λ left. priorities_of nat_cmp left q) gone in
+    let others = priorities-without nat_cmp_total id q ds in
+    let before = are q in
+    grind (arith, common_steps, out, others, before)
 
 -- the pairs whose ids pass
 priorities-retained : (test : ℕ → Bool) (q : ℕ) (ds : List (ℕ × ℕ)) → priorities_of nat_cmp (retained test ds) q ≡ cond (test q) (priorities_of nat_cmp ds q) []
@@ -92,23 +60,70 @@ priorities-retained test q (d ∷ ds) =
     let same : q ≡ d.1 → test d.1 ≡ test q = λ e. ap test (sym e) in
     grind (arith, nat_tests, common_steps, rest, same)
 
-module _ {K P : Type 0} where
-  timed-at : (test : Bool) (new old : Option (Request K P)) (ds kept : List ℕ) → kept ≡ cond test ds [] → ds ≡ listed (option_map (λ r. r.deadline) old) → test ≡ is_some new
-      → ((r : Request K P) → new ≡ Some r → old ≡ Some r) → kept ≡ listed (option_map (λ r. r.deadline) new)
-  timed-at true None old ds kept is timed has found = absurd cc
-  timed-at false None old ds kept is timed has found = is
-  timed-at true (Some r) old ds kept is timed has found = is ∙ timed ∙ ap (λ o. listed (option_map (λ (s : Request K P). s.deadline) o)) (found r refl)
-  timed-at false (Some r) old ds kept is timed has found = absurd cc
+left-at : (test : Bool) (part whole : Option ℕ) (before kept : List ℕ) → kept ≡ cond test before [] → before ≡ listed whole → test ≡ is_some part
+    → ((time : ℕ) → part ≡ Some time → whole ≡ Some time) → kept ≡ listed part
+left-at true None whole before kept is are has found = absurd cc
+left-at false None whole before kept is are has found = is
+left-at true (Some time) whole before kept is are has found = is ∙ are ∙ ap listed (found time refl)
+left-at false (Some time) whole before kept is are has found = absurd cc
 
-  -- some requests are kept, as they were, and so are their ids
-  pub timed-retained : (old new : List (ℕ × Request K P)) (ds : List (ℕ × ℕ)) → AreTimed old ds → IsStrictlySortedBy nat_cmp (keys_of new)
-      → ((q : ℕ) (r : Request K P) → request_of new q ≡ Some r → request_of old q ≡ Some r)
-      → AreTimed new (retained (λ id. is_some (request_of new id)) ds)
-  timed-retained old new ds timed sorted found = record {
-    ids = sorted;
-    same = λ q. timed-at (is_some (request_of new q)) (request_of new q) (request_of old q) (priorities_of nat_cmp ds q) _
-        (priorities-retained (λ id. is_some (request_of new id)) q ds) (timed.same q) refl (found q);
-  }
+-- some of the times stay listed
+pub listed-part : (test : ℕ → Bool) (part whole : ℕ → Option ℕ) (ds : List (ℕ × ℕ)) → ((id : ℕ) → test id ≡ is_some (part id)) → IsPart part whole
+    → AreListed whole ds → AreListed part (retained test ds)
+listed-part test part whole ds has found are q = left-at (test q) (part q) (whole q) (priorities_of nat_cmp ds q) _ (priorities-retained test q ds) (are q) (has q) (found q)
+
+-- where one is last among one at most, none is before it
+front-none : (ts : List ℕ) (t : ℕ) (one : Option ℕ) → ts ++ t ∷ [] ≡ listed one → ts ≡ []
+front-none [] t one is = refl
+front-none (u ∷ []) t None is = absurd cc
+front-none (u ∷ []) t (Some v) is = absurd cc
+front-none (u ∷ w ∷ us) t None is = absurd cc
+front-none (u ∷ w ∷ us) t (Some v) is = absurd cc
+
+module _ {K P : Type 0} where
+  -- a request is put, and its time
+  pub times-put : (id : ℕ) (r : Request K P) (old new : List (ℕ × Request K P)) → ((q : ℕ) → request_of new q ≡ cond (is_at (nat_cmp id) q) (Some r) (request_of old q))
+      → (q : ℕ) → times_of new q ≡ with_time (times_of old) id r.deadline q
+  times-put id r old new updates q = let after = updates q in grind (arith, common_steps, after)
+
+  -- a request is taken out, and its time
+  pub times-without : (id : ℕ) (old new : List (ℕ × Request K P)) → ((q : ℕ) → request_of new q ≡ cond (is_at (nat_cmp id) q) None (request_of old q))
+      → (q : ℕ) → times_of new q ≡ without_time (times_of old) id q
+  times-without id old new updates q = let after = updates q in grind (arith, common_steps, after)
+
+  -- some of the requests have some of the times
+  pub times-part : (old new : List (ℕ × Request K P)) → ((q : ℕ) (r : Request K P) → request_of new q ≡ Some r → request_of old q ≡ Some r) → IsPart (times_of new) (times_of old)
+  times-part old new found q time at =
+      let here = request-at (request_of new q) time at in
+      ap (option_map (λ (r : Request K P). r.deadline)) (found q here.0 here.1) ∙ ap (λ (t : ℕ). Some t) here.2
+
+  held-time : (found : Option (Request K P)) → is_some found ≡ is_some (option_map (λ (r : Request K P). r.deadline) found)
+  held-time None = refl
+  held-time (Some r) = refl
+
+  -- an id that is held has a time
+  pub has-time : (asked : List (ℕ × Request K P)) (id : ℕ) → is_some (request_of asked id) ≡ is_some (times_of asked id)
+  has-time asked id = held-time (request_of asked id)
+
+  -- what is listed so far, with the times of the rest, is all
+  abbrev pub AreAll : (whole : ℕ → Option ℕ) (ds : List (ℕ × ℕ)) (rest : List (ℕ × Request K P)) → Type 0
+  AreAll whole ds rest = (q : ℕ) → priorities_of nat_cmp ds q ++ listed (times_of rest q) ≡ listed (whole q)
+
+  none-behind : (k : ℕ) (xs : List (ℕ × Request K P)) → AllByRecursion (λ y. nat_cmp k y ≡ Less) (keys_of xs) → request_of xs k ≡ None
+  none-behind k xs all = at (request_of xs k) refl where
+    at : (found : Option (Request K P)) → request_of xs k ≡ found → request_of xs k ≡ None
+    at None is = is
+    at (Some r) is = let later : k < k = behind k xs all k r is in absurd (omega arith)
+
+  -- one more is listed
+  pub all-put : (whole : ℕ → Option ℕ) (ds : List (ℕ × ℕ)) (x : ℕ × Request K P) (rest : List (ℕ × Request K P)) → IsStrictlySortedBy nat_cmp (keys_of (x ∷ rest))
+      → AreAll whole ds (x ∷ rest) → AreAll whole (insert_key by_deadline ds (x.1.deadline, x.0)) rest
+  all-put whole ds x rest sorted are q =
+      let none : priorities_of nat_cmp ds x.0 ≡ [] = front-none (priorities_of nat_cmp ds x.0) x.1.deadline (whole x.0) (ap (λ (o : Option (Request K P)). priorities_of nat_cmp ds x.0 ++ listed (option_map (λ (s : Request K P). s.deadline) o)) (sym (at-head x rest)) ∙ are x.0) in
+      let put = priorities-insert nat_cmp_total nat_cmp_total (x.1.deadline, x.0) q ds none in
+      let gone : request_of rest x.0 ≡ None = none-behind x.0 rest (sorted_head nat_cmp x.0 (keys_of rest) sorted) in
+      let before = are q in
+      grind (arith, nat_tests, common_steps, none, put, gone, before)
 
   -- what a test that changes nothing keeps is found as before
   pub kept-found : {F : Type 0} (T : F → ℕ → Request K P → Bool → Request K P → F → Type 0)

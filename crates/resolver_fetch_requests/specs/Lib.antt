@@ -1,3 +1,4 @@
 pub mod Requests
 pub mod Ids
 pub mod Loads
+pub mod Deadlines

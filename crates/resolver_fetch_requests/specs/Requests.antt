@@ -1,13 +1,11 @@
 -- Requests that were sent and have no answer so far, by their ids.
-use Rattle.std.specs.Prelude.{◌≡◌, ℕ, Bool, true, false, nat_le, option_map, List, [], ◌∷◌, length, Option, None, Some, option_and_then, map, filter, find, if◌then◌else◌}
+use Rattle.std.specs.Prelude.{◌≡◌, ℕ, Bool, true, false, nat_le, List, [], ◌∷◌, length, Option, None, Some, option_and_then, map, filter, find, if◌then◌else◌}
 use Rattle.std.specs.List.{list_any}
 use Rattle.std.specs.Option.{option_map_or}
 use Rattle.std.specs.Ordering.{nat_cmp, is_eq, is_lt, ordering_then}
 use Rattle.std.specs.declared.cmp.Ordering.{Ordering}
 use Rattle.std.specs.BTreeMap.{insert_entry, is_at}
-use Rattle.std.specs.Map.{keys_of, lookup, remove_entry}
-use Rattle.std.specs.List.Sorted.{IsStrictlySortedBy}
-use Rattle.resolver_priority_set.specs.Priorities.{listed, priorities_of}
+use Rattle.std.specs.Map.{lookup, remove_entry}
 use Rattle.resolver_fetch_requests.specs.declared.requests.request.Request.{Request}
 
 module _ {K P : Type 0} where
@@ -90,11 +88,6 @@ module _ {K P : Type 0} where
   -- the request that a message answers is taken out
   abbrev pub taken_matching : (P → P → Ordering) → List (ℕ × Request K P) → (id : ℕ) → P → Option (Request K P) × List (ℕ × Request K P)
   taken_matching by_peer asked id peer = taken_if asked id (matching by_peer asked id peer)
-
--- The ids are kept by their deadlines too: each id of a request, and no other, with the deadline of its request.
-pub record AreTimed {K P : Type 0} (asked : List (ℕ × Request K P)) (deadlines : List (ℕ × ℕ)) : Type 0 where
-  pub ids : IsStrictlySortedBy nat_cmp (keys_of asked)
-  pub same : (id : ℕ) → priorities_of nat_cmp deadlines id ≡ listed (option_map (λ r. r.deadline) (request_of asked id))
 
 -- The ids are kept by the keys too: each request is named by its key, and what a key names is the request for it.
 pub record AreNamed {K P : Type 0} (by_key : K → K → Ordering) (asked : List (ℕ × Request K P)) (names : List (K × ℕ)) : Type 0 where

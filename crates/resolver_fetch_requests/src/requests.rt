@@ -1,5 +1,6 @@
 //! The requests without an answer, by their ids, by when their time is over, and by their keys.
 
+mod deadlines;
 pub mod request;
 
 ghost use Rattle.std.specs.Prelude.{◌≡◌, ◌≤◌, ◌<◌, ◌^◌, ℕ, Bool, false, None, Some, [], filter, length, IfErr, IfSome, OnErr, OnOk};
@@ -14,11 +15,12 @@ ghost use Rattle.resolver_fetch_requests.specs.declared.requests.request.Request
 ghost use Rattle.resolver_fetch_requests.specs.Ids.{is_held, next_id};
 ghost use Rattle.resolver_fetch_requests.specs.Requests.{IsTaken, ids_of, is_asked, request_for, request_of, soonest, taken_matching, taken_overdue, without_request};
 
+use deadlines::Deadlines;
 pub use request::{ID, Request};
 use resolver_base::Fault;
 use std::alloc::Global;
+use std::collections::BTreeMap;
 use std::collections::btree_map::Iter;
-use std::collections::{BTreeMap, BTreeSet};
 use std::marker::Model;
 
 /// The requests without an answer, by their ids. Contracts see them as a list in that order.
@@ -27,23 +29,22 @@ use std::marker::Model;
 #[derive(Drop)]
 pub struct Requests<K: Ord, P> {
     by_id: BTreeMap<ID, Request<K, P>>,
-    /// The deadlines with the same ids, in order.
-    deadlines: BTreeSet<(u128, ID)>,
+    deadlines: Deadlines,
     /// The same ids, by the keys that are asked for.
     by_key: BTreeMap<K, ID>,
+    alloc: Global,
 }
 
 impl<K: Ord, P> Model for Requests<K, P> {
     ghost use Rattle.std.specs.Prelude.{List, ℕ};
     ghost use Rattle.resolver_fetch_requests.specs.declared.requests.request.Request.{Request};
-    ghost use Rattle.resolver_fetch_requests.specs.Requests.{AreNamed, AreTimed};
+    ghost use Rattle.resolver_fetch_requests.specs.Deadlines.{AreKept};
 
     ghost Value = { List (ℕ × Request K P) };
 
     ghost view = { λ a. a.by_id.entries };
 
-    ghost invariant = { λ a. AreTimed a.by_id.entries a.deadlines.keys
-        × AreNamed K.cmp a.by_id.entries a.by_key.entries };
+    ghost invariant = { λ a. AreKept K.cmp a.by_id.entries a.deadlines a.by_key.entries };
 }
 
 impl<K: Ord + Drop, P: Drop> Requests<K, P> {
@@ -53,8 +54,9 @@ impl<K: Ord + Drop, P: Drop> Requests<K, P> {
     {
         Requests {
             by_id: BTreeMap::new(alloc),
-            deadlines: BTreeSet::new(alloc),
+            deadlines: Deadlines::new(),
             by_key: BTreeMap::new(alloc),
+            alloc,
         }
     }
 
@@ -93,7 +95,9 @@ impl<K: Ord + Drop, P: Drop> Requests<K, P> {
 
     /// Puts a request at its place. Where memory is refused, nothing changes.
     ///
-    /// The key is cloned; clones are to equal their sources.
+    /// The key is cloned; clones are to equal their sources. While ids and deadlines go up, no list
+    /// of the deadlines is kept. The first that doesn't go up has those of all requests listed, in
+    /// their number times its logarithm, and until no request is left each has its deadline listed.
     pub fn insert(&mut self, id: ID, request: Request<K, P>) -> Result<(), Fault>
     where
         K: Clone,
@@ -106,12 +110,13 @@ impl<K: Ord + Drop, P: Drop> Requests<K, P> {
     {
         let key = request.key.clone()?;
         self.by_key.insert(key, id)?;
-        if let Err(refused) = self.deadlines.insert((request.deadline, id)) {
+        let deadline = request.deadline;
+        if let Err(fault) = self.deadlines.put(self.alloc, &self.by_id, id, deadline) {
             self.by_key.remove(&request.key);
-            return Err(refused.into());
+            return Err(fault);
         }
         if let Err(refused) = self.by_id.insert(id, request) {
-            self.deadlines.remove(&(refused.value.1.deadline, id));
+            self.deadlines.remove(id, deadline);
             self.by_key.remove(&refused.value.1.key);
             return Err(Fault::OutOfMemory);
         }
@@ -124,7 +129,7 @@ impl<K: Ord + Drop, P: Drop> Requests<K, P> {
         ensures after { self.new ≡ without_request id self.old }
     {
         let request = self.by_id.remove(&id)?;
-        self.deadlines.remove(&(request.deadline, id));
+        self.deadlines.remove(id, request.deadline);
         self.by_key.remove(&request.key);
         Some(request)
     }
@@ -146,7 +151,7 @@ impl<K: Ord + Drop, P: Drop> Requests<K, P> {
             { keeps(&keep, &request.key) },
         );
         let by_id = &self.by_id;
-        self.deadlines.retain(|pair| by_id.contains_key(&pair.1));
+        self.deadlines.retain(by_id);
         self.by_key.retain(|_, id| by_id.contains_key(&*id));
     }
 
@@ -201,8 +206,7 @@ impl<K: Ord + Drop, P: Drop> Requests<K, P> {
         ensures found { (r : ℕ × Request K P) → soonest self.now ≡ Some r
             → request_of self.now r.0 ≡ Some r.1 }
     {
-        let (deadline, id) = self.deadlines.iter().next()?;
-        Some((*id, *deadline))
+        self.deadlines.first(&self.by_id)
     }
 }
 

@@ -183,3 +183,73 @@ asked-for 6
 > Some((6, 20))";
     play_each(&rt, rt.alloc(), CASE);
 }
+
+#[test]
+fn whose_time_is_over_first_in_whatever_order_deadlines_come(rt: HostRuntime) {
+    const CASES: &str = "# they go up with the ids
+insert 1 10
+insert 2 10
+insert 3 20
+left
+> (3, Some(10))
+remove 1
+> true
+left
+> (2, Some(10))
+overdue 20
+> Some(Request { key: Letter(2), peer: Letter(4), start: 0, deadline: 10 })
+overdue 20
+> Some(Request { key: Letter(3), peer: Letter(4), start: 0, deadline: 20 })
+overdue 20
+> None
+
+# a moment goes back
+insert 1 30
+insert 2 20
+insert 3 25
+left
+> (3, Some(20))
+overdue 30
+> Some(Request { key: Letter(2), peer: Letter(4), start: 0, deadline: 20 })
+insert 6 5
+left
+> (3, Some(5))
+keep-not-six
+left
+> (2, Some(25))
+overdue 30
+> Some(Request { key: Letter(3), peer: Letter(4), start: 0, deadline: 25 })
+overdue 30
+> Some(Request { key: Letter(1), peer: Letter(4), start: 0, deadline: 30 })
+overdue 30
+> None
+
+# an id is less than the last
+insert 9 10
+insert 1 10
+left
+> (2, Some(10))
+overdue 10
+> Some(Request { key: Letter(1), peer: Letter(4), start: 0, deadline: 10 })
+overdue 10
+> Some(Request { key: Letter(9), peer: Letter(4), start: 0, deadline: 10 })
+
+# nothing is held any more
+insert 2 20
+insert 1 10
+remove 2
+> true
+remove 1
+> true
+left
+> (0, None)
+insert 3 40
+insert 4 50
+left
+> (2, Some(40))
+overdue 50
+> Some(Request { key: Letter(3), peer: Letter(4), start: 0, deadline: 40 })
+left
+> (1, Some(50))";
+    play_each(&rt, rt.alloc(), CASES);
+}

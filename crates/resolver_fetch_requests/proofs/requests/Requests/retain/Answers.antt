@@ -1,8 +1,6 @@
-use Rattle.std.proofs.Common.{◌≡◌, ◌∙◌, ap, filter, is_some, rules}
-use Rattle.std.proofs.lemmas.Fn.{filter_same}
+use Rattle.std.proofs.Common.{◌≡◌, ◌∙◌, ap, filter, rules}
 use Rattle.std.proofs.lemmas.Map.Made.{filter_same_pairs}
-use Rattle.resolver_priority_set.specs.Priorities.{retained}
-use Rattle.resolver_fetch_requests.specs.Requests.{request_of}
+use Rattle.resolver_fetch_requests.specs.Deadlines.{times_of}
 use Rattle.std.proofs.lemmas.Cmp.{eq_by_cmp_equiv}
 use Rattle.std.proofs.lemmas.Map.Keys.{IsDistinct-from_sorted}
 use Rattle.std.proofs.lemmas.Map.Entries.{lookup-filter-values}
@@ -10,22 +8,21 @@ use Rattle.std.specs.BTreeMap.{is_at}
 use Rattle.std.specs.Map.{lookup}
 use Rattle.resolver_fetch_requests.specs.Ids.{is_held}
 use Rattle.resolver_fetch_requests.proofs.Names.{fewer-retained, named-retained, none-retained}
-use Rattle.resolver_fetch_requests.proofs.Timed.{timed-retained, kept-found}
+use Rattle.resolver_fetch_requests.proofs.Timed.{kept-found, times-part}
 use Rattle.resolver_fetch_requests.proofs.requests.Requests.retain.Goals as goal
 
 pub invariant_of-self : goal.invariant_of-self
 invariant_of-self g c =
-    let found = kept-found _ (λ f k v b w f' t. search rules) _ c.self.inside.by_id.entries c.retain.new.self.entries c.self.invariant.0.ids c.retain.ensures.filtered in
-    let ids : c.retain-2.new.self.keys ≡ retained (λ id. is_some (request_of c.retain.new.self.entries id)) c.self.inside.deadlines.keys =
-    filter_same _ _ _ (λ x b f' k. search rules) _ _ c.retain-2.ensures.filtered in
+    let found = kept-found _ (λ f k v b w f' t. search rules) _ c.self.inside.by_id.entries c.retain.new.self.entries c.self.invariant.ids c.retain.ensures.filtered in
     let names : c.retain-3.new.self.entries ≡ filter (λ e. is_held c.retain.new.self.entries e.1) c.self.inside.by_key.entries =
     filter_same_pairs _ (λ e. is_held c.retain.new.self.entries e.1) _ (λ k v b w f' t. (search rules, search rules, search rules)) _ _ c.retain-3.ensures.filtered in
-    rw ids (
-      timed-retained c.self.inside.by_id.entries c.retain.new.self.entries c.self.inside.deadlines.keys c.self.invariant.0 c.retain.ensures.ordered found,
-      named-retained g.met.K.Ord.total c.self.inside.by_id.entries c.retain.new.self.entries c.self.inside.by_key.entries _ c.self.invariant.1 found (λ k.
+    record {
+      ids = c.retain.ensures.ordered;
+      timed = c.retain-2.ensures (times_of c.self.inside.by_id.entries) c.self.invariant.timed (times-part c.self.inside.by_id.entries c.retain.new.self.entries found);
+      named = named-retained g.met.K.Ord.total c.self.inside.by_id.entries c.retain.new.self.entries c.self.inside.by_key.entries _ c.self.invariant.named found (λ k.
           ap (lookup (is_at (g.K.Ord.cmp k))) names
-          ∙ lookup-filter-values (eq_by_cmp_equiv g.met.K.Ord.total) (is_held c.retain.new.self.entries) k c.self.inside.by_key.entries (IsDistinct-from_sorted g.K.Ord.cmp _ c.retain-3.ensures.was_ordered)),
-    )
+          ∙ lookup-filter-values (eq_by_cmp_equiv g.met.K.Ord.total) (is_held c.retain.new.self.entries) k c.self.inside.by_key.entries (IsDistinct-from_sorted g.K.Ord.cmp _ c.retain-3.ensures.was_ordered));
+    }
 
 pub returns-clause-kept : goal.returns-clause-kept
 returns-clause-kept g c = λ test pure.
