@@ -26,6 +26,7 @@ use resolver_metrics::metrics::{Metrics, raise};
 use resolver_model::ruling::{Ruling, rule_on};
 use resolver_model_peer::effects::Effect;
 use resolver_model_peer::handed::hand_out_again;
+use resolver_model_peer::inflight::Start;
 use resolver_model_peer::named::Source;
 use resolver_types::{Delivery, Outcome, Resolution};
 
@@ -77,7 +78,6 @@ impl<K: Ord + Clone + Drop, P: Ord + Clone + Drop, S: Ord + Clone + Drop> Parts<
         if canceled {
             return Ok(());
         }
-        self.count_complete(now, &delivery.key, outcome, metrics);
         self.rule(
             now,
             delivery,
@@ -119,9 +119,12 @@ impl<K: Ord + Clone + Drop, P: Ord + Clone + Drop, S: Ord + Clone + Drop> Parts<
                 let rest = self.demand.remove_delivered(&key, &subscribers)?;
                 let Some(subscribers) = rest else {
                     count_retired(&mut metrics.fetch, accepted, outcome);
-                    self.forget(&key);
+                    if let Some(start) = self.forget(&key) {
+                        measure_complete(&start, now, outcome, metrics);
+                    }
                     return Ok(());
                 };
+                self.count_complete(now, &key, outcome, metrics);
                 let delivery = Delivery { key, subscribers };
                 hand_out_again(&mut self.entries, delivery, accepted, effects)
             }
@@ -138,7 +141,7 @@ impl<K: Ord + Clone + Drop, P: Ord + Clone + Drop, S: Ord + Clone + Drop> Parts<
         }
     }
 
-    /// Measures the time from a key's first fetch to its first `Complete`, and notes that it was.
+    /// Measures the time from the first fetch of a key that stays to its first `Complete`, and notes that it was.
     fn count_complete(
         &mut self,
         now: u128,
@@ -148,22 +151,17 @@ impl<K: Ord + Clone + Drop, P: Ord + Clone + Drop, S: Ord + Clone + Drop> Parts<
     )
         ensures { self.new ≡ self.old }
     {
-        if outcome != Some(Outcome::Resolved(Resolution::Complete)) {
-            return;
-        }
         let Some(start) = self.entries.state(key) else {
             return;
         };
-        let Some(elapsed) = start.uncounted_until(now) else {
-            return;
-        };
-        let counted = start.counted();
-        metrics.fetch_duration.measure(elapsed);
-        self.entries.set_state(key, counted);
+        if measure_complete(start, now, outcome, metrics) {
+            let counted = start.counted();
+            self.entries.set_state(key, counted);
+        }
     }
 
-    /// Nothing is done for a key any more.
-    fn forget(&mut self, key: &K)
+    /// Nothing is done for a key any more. Answers when it was fetched first.
+    fn forget(&mut self, key: &K) -> Option<Start>
         requires closed { is_some self.old.fetcher.scan ≡ false }
         requires not_waiting { has_item K.cmp self.old.fetcher.waiting key.now ≡ false }
         requires not_asked { is_asked K.cmp self.old.fetcher.asked key.now ≡ false }
@@ -172,9 +170,29 @@ impl<K: Ord + Clone + Drop, P: Ord + Clone + Drop, S: Ord + Clone + Drop> Parts<
           fetcher = calls.clear (orders K.cmp P.cmp) key.now self.old.fetcher;
         } }
     {
-        self.entries.remove(key);
+        let entry = self.entries.take(key);
         self.fetcher.clear(key);
+        Some(entry?.state)
     }
+}
+
+/// Measures the time from a key's first fetch to its first `Complete`, and answers whether this outcome is that one.
+fn measure_complete(
+    start: &Start,
+    now: u128,
+    outcome: Option<Outcome>,
+    metrics: &mut Metrics,
+) -> bool
+    ensures { metrics.new.fetch ≡ metrics.old.fetch }
+{
+    if outcome != Some(Outcome::Resolved(Resolution::Complete)) {
+        return false;
+    }
+    let Some(elapsed) = start.uncounted_until(now) else {
+        return false;
+    };
+    metrics.fetch_duration.measure(elapsed);
+    true
 }
 
 /// Says what a response earned its peer, if it was not said before: a credit, or that it is to be

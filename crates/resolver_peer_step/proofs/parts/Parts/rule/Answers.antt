@@ -1,4 +1,4 @@
-use Rattle.std.proofs.Common.{◌≡◌, refl, ap, sym, ◌∙◌, subst, Option, Some, rules}
+use Rattle.std.proofs.Common.{◌≡◌, refl, ap, sym, ◌∙◌, Option, Some, rules}
 use Rattle.std.specs.Prelude.{IsSome}
 use Rattle.resolver_model_peer.specs.Parties.{parties}
 use Rattle.resolver_peer_step.specs.declared.parts.Parts.{Parts}
@@ -29,12 +29,12 @@ returns-in_default g c = λ said m h of closed.
 pub hand_out_again-requires-clause-cached : goal.hand_out_again-requires-clause-cached
 hand_out_again-requires-clause-cached g c =
     let t = c.requires.tied in
-    some-is _ _ (ruled-cached (parties g.K.Ord.cmp g.S.Ord.cmp g.P.Ord.cmp) g.met.K.Ord.total c.args.self.now t.0 t.1 t.3 c.args.delivery c.args.accepted t.2)
+    rw c.count_complete.ensures (some-is _ _ (ruled-cached (parties g.K.Ord.cmp g.S.Ord.cmp g.P.Ord.cmp) g.met.K.Ord.total c.args.self.now t.0 t.1 t.3 c.args.delivery c.args.accepted t.2))
 
 pub hand_out_again-requires-clause-idle : goal.hand_out_again-requires-clause-idle
 hand_out_again-requires-clause-idle g c =
     let t = c.requires.tied in
-    ruled-idle (parties g.K.Ord.cmp g.S.Ord.cmp g.P.Ord.cmp) g.met.K.Ord.total c.args.self.now t.0 t.1 t.3 c.args.delivery c.args.accepted t.2
+    rw c.count_complete.ensures (ruled-idle (parties g.K.Ord.cmp g.S.Ord.cmp g.P.Ord.cmp) g.met.K.Ord.total c.args.self.now t.0 t.1 t.3 c.args.delivery c.args.accepted t.2)
 
 pub add_retry-requires-clause-not_waiting : goal.add_retry-requires-clause-not_waiting
 add_retry-requires-clause-not_waiting g c =
@@ -58,9 +58,10 @@ forget-requires-in-Retire-clause-not_asked g c =
 
 pub returns-in-Some : goal.returns-in-Some
 returns-in-Some g c = λ said m h of closed.
-    rest-goes (parties g.K.Ord.cmp g.S.Ord.cmp g.P.Ord.cmp) g.met.K.Ord.total said c.args.self.now m h closed c.args.delivery c.args.accepted of c.args.outcome c.args.now c.in-Serve.accepted c.in-Serve.ensures
+    rw c.count_complete.ensures (rest-goes (parties g.K.Ord.cmp g.S.Ord.cmp g.P.Ord.cmp) g.met.K.Ord.total said c.args.self.now m h closed c.args.delivery c.args.accepted of c.args.outcome c.args.now c.in-Serve.accepted c.in-Serve.ensures
     c.in-Some.subscribers (sym c.in-Some.is ∙ c.in_ok-rest-in-Serve.ensures.rest) c.args.effects.now.items _ _ c.hand_out_again.result
-    c.in_ok-rest-in-Serve.ensures.ok c.hand_out_again.ensures.ok c.hand_out_again.ensures.told c.hand_out_again.ensures.room c.hand_out_again.ensures.only refl
+    c.in_ok-rest-in-Serve.ensures.ok (rw c.count_complete.ensures at c.hand_out_again.ensures.ok) (rw c.count_complete.ensures at c.hand_out_again.ensures.told)
+    (rw c.count_complete.ensures at c.hand_out_again.ensures.room) (rw c.count_complete.ensures at c.hand_out_again.ensures.only) refl)
 
 pub returns-in-Retry : goal.returns-in-Retry
 returns-in-Retry g c = λ said m h of closed.

@@ -1,12 +1,11 @@
-use Rattle.std.proofs.Common.{◌≡◌, refl, ap, sym, ◌∙◌, subst, ◌++◌, true, false}
-use Rattle.std.specs.Prelude.{is_some, not}
+use Rattle.std.proofs.Common.{refl, ap, sym, ◌∙◌, subst, ◌++◌}
+use Rattle.std.specs.Prelude.{not}
 use Rattle.resolver_types.specs.declared.delivery.Delivery.{Delivery}
 use Rattle.resolver_model.specs.Verdicts.{ruling}
 use Rattle.resolver_model_peer.specs.Parties.{parties, orders_of}
 use Rattle.resolver_model_peer.specs.Peer.{Open, ruled}
-use Rattle.resolver_peer_step.specs.declared.parts.Parts.{Parts}
 use Rattle.resolver_peer_step.specs.Going.{Goes}
-use Rattle.resolver_peer_step.specs.Ruled.{IsClosed, Names, earned, paid}
+use Rattle.resolver_peer_step.specs.Ruled.{Names, earned, paid}
 use Rattle.resolver_peer_step.proofs.Fails.{over}
 use Rattle.resolver_peer_step.proofs.Verdicts.{aborted-goes, accounted, dead-goes, handed, live-goes, live-tied, opened, opened-some, paid-closed}
 use Rattle.resolver_model_peer.proofs.Refusals.{done, refused-with}
@@ -49,13 +48,10 @@ rule-requires-clause-tied g c =
       (accounted a o c.args.self.now m is c.args.number x.begun x.found c.args.outcome).machine,
       handed a o c.args.self.now m is c.args.number x.begun x.found,
       record { named = sym (ap (λ (d : Delivery g.row.K.Denot g.row.S.Denot). d.key) x.delivery); handed = sym (ap (λ (d : Delivery g.row.K.Denot g.row.S.Denot). d.subscribers) x.delivery); flag = sym x.flag },
-      subst
-          (λ e. IsClosed a e (accounted a o c.args.self.now m is c.args.number x.begun x.found c.args.outcome).machine (handed a o c.args.self.now m is c.args.number x.begun x.found))
-          (sym c.count_complete.ensures)
-          (live-tied a o c.args.self.now m is c.args.number x.begun x.found c.args.outcome scan _ x.shut
+      live-tied a o c.args.self.now m is c.args.number x.begun x.found c.args.outcome scan _ x.shut
           (c.in_ok-account.ensures.ok ∙ ap (λ source. paid (orders_of a) source done.previously_accepted c.args.outcome c.args.self.now.fetcher) x.context
           ∙ ap (λ flag. paid (orders_of a) x.begun.context flag c.args.outcome c.args.self.now.fetcher) x.flag)
-          refl (x.live ∙ ap not c.if-canceled.false)),
+          refl (x.live ∙ ap not c.if-canceled.false),
     )
 
 pub returns-clause-goes : goal.returns-clause-goes
@@ -81,8 +77,7 @@ returns-clause-goes g c = λ said m is.
       flag = ap (λ (h : Open g.row.K.Denot g.row.S.Denot g.row.P.Denot). h.accepted) same ∙ sym x.flag;
     } in
     subst (λ flag. Goes a said (ruled a d c.args.now h closed.row closed.judging.value (ruling flag c.args.outcome)) c.account.new.effects.items c.rule.new.effects.items c.rule.new.self c.rule.result) (sym of.flag)
-    (subst (λ e. (closed : IsClosed a e d h) → Goes a said (ruled a d c.args.now h closed.row closed.judging.value (ruling done.previously_accepted c.args.outcome)) c.account.new.effects.items c.rule.new.effects.items c.rule.new.self c.rule.result)
-    c.count_complete.ensures (λ closed. c.rule.ensures said d h of closed) closed))
+    (c.rule.ensures said d h of closed))
 
 pub returns-clause-memory : goal.returns-clause-memory
 returns-clause-memory g c = λ wanting m is.
@@ -101,5 +96,4 @@ returns-in_err-account-clause-goes g c = λ said m is. rw (refused-with c.from_r
 pub rule-requires-clause-closed : goal.rule-requires-clause-closed
 rule-requires-clause-closed g c =
     let a = parties g.K.Ord.cmp g.S.Ord.cmp g.P.Ord.cmp in
-    let scan : is_some c.account.new.fetcher.scan ≡ false = rw c.in_ok-account.ensures.ok (paid-closed a c.in-Ok.completion.context c.in-Ok.completion.previously_accepted c.args.outcome c.args.self.now.fetcher c.requires.closed) in
-    ap (λ (e : Parts g.row.K.Denot g.row.P.Denot g.row.S.Denot). is_some e.fetcher.scan) c.count_complete.ensures ∙ scan
+    rw c.in_ok-account.ensures.ok (paid-closed a c.in-Ok.completion.context c.in-Ok.completion.previously_accepted c.args.outcome c.args.self.now.fetcher c.requires.closed)
