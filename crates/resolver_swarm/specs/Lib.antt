@@ -1,2 +1,4 @@
+pub mod Having
 pub mod Height
 pub mod Judging
+pub mod Keeping

@@ -19,7 +19,9 @@ pub struct Height {
 
 impl Height {
     /// The key of this number.
-    pub fn of(number: u16) -> Height {
+    pub fn of(number: u16) -> Height
+        ensures { number_of result ≡ number }
+    {
         let [high, low] = number.to_be_bytes();
         Height { high, low }
     }

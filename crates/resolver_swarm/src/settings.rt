@@ -1,6 +1,8 @@
 //! What a run is made of.
 
-ghost use Rattle.std.specs.Prelude.{◌≡◌, ◌*◌};
+ghost use Rattle.std.specs.Prelude.{◌≡◌, ◌*◌, ◌+◌, ◌<◌, ◌≤◌, ◌↔◌};
+ghost use Rattle.resolver_swarm.specs.Having.{Lies};
+ghost use Rattle.resolver_swarm.specs.declared.settings.Kind.TheVariants.{Source, Liar, Fellow};
 
 use crate::words::{WORDS, Word};
 
@@ -158,13 +160,21 @@ impl Settings {
     }
 
     /// What the node of this name is.
-    pub fn kind(&self, name: u16) -> Kind {
-        let slow = self.sources.saturating_add(self.slow);
-        if name < self.sources {
+    pub fn kind(&self, name: u16) -> Kind
+        ensures source { (result ≡ Source) ↔ (name < self.now.sources) }
+        ensures liar { (result ≡ Liar) ↔ Lies self.now name }
+        ensures fellow { (result ≡ Fellow)
+            ↔ (self.now.sources + self.now.slow + self.now.liars ≤ name) }
+    {
+        let place = u32::from(name);
+        let sources = u32::from(self.sources);
+        let slow = sources + u32::from(self.slow);
+        let liars = slow + u32::from(self.liars);
+        if place < sources {
             Kind::Source
-        } else if name < slow {
+        } else if place < slow {
             Kind::Slow
-        } else if name < slow.saturating_add(self.liars) {
+        } else if place < liars {
             Kind::Liar
         } else {
             Kind::Fellow

@@ -1,5 +1,10 @@
 //! A run of many nodes.
 
+ghost use Rattle.std.specs.Prelude.{◌≡◌, ◌↔◌, IfSome, None};
+ghost use Rattle.resolver_swarm.specs.Having.{AreShared, IsBehind, IsLacking, IsShared};
+ghost use Rattle.resolver_swarm.specs.Height.{number_of};
+ghost use Rattle.resolver_swarm.specs.Judging.{ComplainsUnless};
+
 use crate::height::Height;
 use crate::judging::complaint::Complaint;
 use crate::nodes::node::Node;
@@ -178,24 +183,44 @@ impl Swarm {
         Ok(())
     }
 
-    /// Nothing more happens: whoever lacks a key that an honest peer has is wrong.
-    fn judge_end(&mut self) {
-        for number in 0..self.world.settings.keys {
-            let key = Height::of(number);
-            if self.nodes.iter().any(|node| node.has(key)) {
-                self.judge_key(key);
-            }
+    /// Nothing more happens: a fellow is wrong that lacks a key which some node has. No liar has one.
+    fn judge_end(&mut self)
+        ensures judged { ComplainsUnless self.old.broken self.new.broken
+            (AreShared self.old.nodes.items self.old.world.settings.keys) }
+        ensures named { self.old.broken ≡ None → IfSome self.new.broken
+            (λ found. IsBehind self.old.nodes.items self.old.world.settings.keys found.0) }
+        ensures found { self.new ≡ record self.old { broken = self.new.broken } }
+    {
+        if let Some(name) = self.find_lacking() {
+            self.broken = self.broken.or(Some((name, Complaint::Lacking)));
         }
     }
 
-    /// Whoever lacks this key is wrong.
-    fn judge_key(&mut self, key: Height) {
-        for node in self.nodes.iter_mut() {
-            if node.kind == Kind::Fellow && !node.has(key) {
-                node.judge.complain(Complaint::Lacking);
-                self.broken = Some((node.name, Complaint::Lacking));
+    /// A fellow that lacks a key which some node has: of the first such key the first.
+    fn find_lacking(&self) -> Option<u16>
+        ensures shared { (result ≡ None)
+            ↔ AreShared self.now.nodes.items self.now.world.settings.keys }
+        ensures behind { IfSome result
+            (IsBehind self.now.nodes.items self.now.world.settings.keys) }
+    {
+        for number in 0..self.world.settings.keys {
+            if let Some(name) = self.find_without(Height::of(number)) {
+                return Some(name);
             }
         }
+        None
+    }
+
+    /// The first fellow that lacks this key, if some node has it.
+    fn find_without(&self, key: Height) -> Option<u16>
+        ensures shared { (result ≡ None) ↔ IsShared self.now.nodes.items (number_of key) }
+        ensures lacking { IfSome result (IsLacking self.now.nodes.items (number_of key)) }
+    {
+        if !self.nodes.iter().any(|node| node.has(key)) {
+            return None;
+        }
+        let lacking = self.nodes.iter().find(|node| node.lacks(key))?;
+        Some(lacking.name)
     }
 
     /// Goes on until another tenth of all keys was found right, and says how far the run is; or to its end.

@@ -2,9 +2,10 @@
 
 ghost use Rattle.std.specs.Prelude.{◌≡◌, ◌↔◌, ◌+◌, IsTrue, IsSome, IfSome, OnOk, false, None, Some};
 ghost use Rattle.std.specs.Ordering.{nat_cmp};
-ghost use Rattle.std.specs.BTreeMap.{get};
+ghost use Rattle.std.specs.BTreeMap.{Updates, get};
 ghost use Rattle.std.specs.Bool.{OnFalse, OnTrue};
 ghost use Rattle.std.specs.Option.{option_copied};
+ghost use Rattle.resolver_swarm.specs.Keeping.{AreThose, Follows, Hears, IsAnswered, IsRuled, Joins, Replaces, TimesOut, answer_in, retires, said_in, sent_to};
 ghost use Rattle.resolver_swarm.specs.Judging.{AreCounted, AreRowsOf, ComplainsUnless, HasWork, HaveRequests, IsAnswer, IsAwake, IsEligible, IsLater, IsListed, IsNoted, IsTold, IsUnjudged, MayRequest, clear_of, deadline_of, first_deadline, first_found};
 
 use crate::height::Height;
@@ -13,7 +14,8 @@ use crate::judging::requests::{Asked, Requests};
 use crate::judging::said::{Said, read};
 use crate::settings::{Settings, nanos};
 use crate::world::Happens;
-use resolver_core::base::Check;
+use resolver_core::base::{Check, NonEmptyVec};
+use resolver_core::ingress::FetchKey;
 use resolver_core::p2p::Phases;
 use resolver_core::p2p::effects::Effect;
 use resolver_core::p2p::inputs::Event;
@@ -81,7 +83,7 @@ impl Judge {
     }
 
     /// Something is wrong.
-    pub fn complain(&mut self, complaint: Complaint)
+    fn complain(&mut self, complaint: Complaint)
         ensures found { self.new
             ≡ record self.old { complaint = first_found self.old.complaint complaint } }
         ensures some { IsSome self.new.complaint }
@@ -93,7 +95,7 @@ impl Judge {
     }
 
     /// Something is wrong unless this holds.
-    fn expect(&mut self, holds: bool, complaint: Complaint)
+    pub(crate) fn expect(&mut self, holds: bool, complaint: Complaint)
         ensures judged { ComplainsUnless self.old.complaint self.new.complaint
             (IsTrue holds) }
         ensures found { self.new ≡ record self.old { complaint = self.new.complaint } }
@@ -104,30 +106,72 @@ impl Judge {
     }
 
     /// The core takes an event.
-    pub fn take(&mut self, now: u128, event: &Happens) -> Result<(), AllocError> {
+    pub fn take(&mut self, now: u128, event: &Happens) -> Result<(), AllocError>
+        ensures moment { self.new.now ≡ now }
+        ensures silent { self.new.complaint ≡ self.old.complaint }
+        ensures unchecked { self.new.clear ≡ None }
+        ensures senders { self.new.senders ≡ self.old.senders }
+        ensures taken { OnOk result (Follows event.now self.old self.new) }
+    {
         self.now = now;
         self.answered = None;
         self.clear = None;
         self.touched.clear();
+        self.follow(event)
+    }
+
+    /// Follows an event, by what it says.
+    fn follow(&mut self, event: &Happens) -> Result<(), AllocError>
+        requires { self.old.answered ≡ None }
+        ensures rest { self.new ≡ record self.old {
+          index = self.new.index;
+          peers = self.new.peers;
+          blocked = self.new.blocked;
+          demand = self.new.demand;
+          asked = self.new.asked;
+          judged = self.new.judged;
+          answered = self.new.answered;
+          touched = self.new.touched;
+        } }
+        ensures taken { OnOk result (Follows event.now self.old self.new) }
+    {
         match event {
-            Event::Fetch(items) => {
-                for item in items {
-                    self.demand.insert(item.key.number())?;
-                    self.touched.push(item.key)?;
-                }
-            }
-            Event::PeerSet { index, peers } => self.set_peers(*index, peers.as_slice())?,
-            Event::Blocked(peers) => replace(&mut self.blocked, peers.as_slice())?,
-            Event::ActiveDue => self.time_out()?,
-            Event::Verdict { number, outcome } => self.rule(*number, *outcome)?,
-            Event::Net { peer, bytes } => self.receive(*peer, bytes.as_slice())?,
-            Event::Retain(_) | Event::PendingDue | Event::Served { .. } | Event::End => {}
+            Event::Fetch(items) => self.want(items.as_slice()),
+            Event::PeerSet { index, peers } => self.set_peers(*index, peers.as_slice()),
+            Event::Blocked(peers) => replace(&mut self.blocked, peers.as_slice()),
+            Event::ActiveDue => self.time_out(),
+            Event::Verdict { number, outcome } => self.rule(*number, *outcome),
+            Event::Net { peer, bytes } => self.receive(*peer, bytes.as_slice()),
+            Event::Retain(_) | Event::PendingDue | Event::Served { .. } | Event::End => Ok(()),
+        }
+    }
+
+    /// The keys of these items are demanded, beside those that were.
+    fn want(
+        &mut self,
+        items: &[FetchKey<Height, u16, Option<NonEmptyVec<u16>>>],
+    ) -> Result<(), AllocError>
+        ensures demand { OnOk result (Joins items.now self.old.demand self.new.demand) }
+        ensures rest { self.new ≡ record self.old {
+          demand = self.new.demand;
+          touched = self.new.touched;
+        } }
+    {
+        for item in items {
+            self.demand.insert(item.key.number())?;
+            self.touched.push(item.key)?;
         }
         Ok(())
     }
 
     /// A set takes the place of the last one where its index is greater.
-    fn set_peers(&mut self, index: u64, peers: &[u16]) -> Result<(), AllocError> {
+    fn set_peers(&mut self, index: u64, peers: &[u16]) -> Result<(), AllocError>
+        ensures set { OnOk result (Replaces index peers.now self.old self.new) }
+        ensures rest { self.new ≡ record self.old {
+          index = self.new.index;
+          peers = self.new.peers;
+        } }
+    {
         if self.index.is_some_and(|last| index <= last) {
             return Ok(());
         }
@@ -136,7 +180,13 @@ impl Judge {
     }
 
     /// The time of a request is over: of the first one, by its deadline and then by its id.
-    fn time_out(&mut self) -> Result<(), AllocError> {
+    fn time_out(&mut self) -> Result<(), AllocError>
+        ensures over { TimesOut self.old.now self.old.asked self.new.asked }
+        ensures rest { self.new ≡ record self.old {
+          asked = self.new.asked;
+          touched = self.new.touched;
+        } }
+    {
         let Some((deadline, id)) = self.asked.first() else {
             return Ok(());
         };
@@ -150,7 +200,16 @@ impl Judge {
     }
 
     /// A verdict: a key that is complete, or that is let go, is retired.
-    fn rule(&mut self, number: u64, outcome: Option<Outcome>) -> Result<(), AllocError> {
+    fn rule(&mut self, number: u64, outcome: Option<Outcome>) -> Result<(), AllocError>
+        ensures judged { Updates nat_cmp self.old.judged self.new.judged number None }
+        ensures ruled { IsRuled outcome
+            (get nat_cmp self.old.judged number) self.old.demand self.new.demand }
+        ensures rest { self.new ≡ record self.old {
+          judged = self.new.judged;
+          demand = self.new.demand;
+          touched = self.new.touched;
+        } }
+    {
         let Some(key) = self.judged.remove(&number) else {
             return Ok(());
         };
@@ -161,26 +220,50 @@ impl Judge {
     }
 
     /// A message of a peer ends the request that it answers.
-    fn receive(&mut self, peer: u16, bytes: &[u8]) -> Result<(), AllocError> {
-        let ended = match read(bytes) {
-            Some(Said::Response { id }) => {
-                self.answered = self.end_request(id, peer);
-                self.answered
-            }
-            Some(Said::Missing { id }) => self.end_request(id, peer),
-            Some(Said::Request) | None => None,
+    fn receive(&mut self, peer: u16, bytes: &[u8]) -> Result<(), AllocError>
+        requires { self.old.answered ≡ None }
+        ensures answered { self.new.answered ≡ answer_in peer (said_in bytes.now) self.old.asked }
+        ensures heard { Hears peer (said_in bytes.now) self.old.asked self.new.asked }
+        ensures rest { self.new ≡ record self.old {
+          asked = self.new.asked;
+          answered = self.new.answered;
+          touched = self.new.touched;
+        } }
+    {
+        let Some(said) = read(bytes) else {
+            return Ok(());
         };
-        if let Some(asked) = ended {
+        if let Some(asked) = self.hear(peer, said) {
             self.touched.push(asked.key)?;
         }
         Ok(())
     }
 
+    /// What a peer says ends the request that it answers. That request, if there is one.
+    fn hear(&mut self, peer: u16, said: Said) -> Option<Asked>
+        requires { self.old.answered ≡ None }
+        ensures answered { self.new.answered ≡ answer_in peer (Some said) self.old.asked }
+        ensures heard { Hears peer (Some said) self.old.asked self.new.asked }
+        ensures rest { self.new ≡ record self.old {
+          asked = self.new.asked;
+          answered = self.new.answered;
+        } }
+    {
+        match said {
+            Said::Request => None,
+            Said::Response { id } => {
+                self.answered = self.end_request(id, peer);
+                self.answered
+            }
+            Said::Missing { id } => self.end_request(id, peer),
+        }
+    }
+
     /// Ends the request of this id, if this peer was asked.
     fn end_request(&mut self, id: u64, peer: u16) -> Option<Asked>
-        ensures asked { IfSome result (λ asked. get nat_cmp self.old.asked.by_id id ≡ Some asked) }
-        ensures peer { IfSome result (λ asked. asked.peer ≡ peer) }
-        ensures ended { IfSome result (λ _. get nat_cmp self.new.asked.by_id id ≡ None) }
+        ensures asked { result ≡ sent_to peer (get nat_cmp self.old.asked.by_id id) }
+        ensures ended { IsAnswered peer id self.old.asked self.new.asked }
+        ensures rest { self.new ≡ record self.old { asked = self.new.asked } }
     {
         let asked = self.asked.get(id)?;
         if asked.peer != peer {
@@ -456,15 +539,22 @@ fn is_later(now: u128, wake: Option<u128>) -> bool
 }
 
 /// Whether a verdict retires its key, where one subscriber wants it.
-fn is_retiring(outcome: Option<Outcome>) -> bool {
-    matches!(
-        outcome,
-        None | Some(Outcome::Resolved(Resolution::Complete) | Outcome::Ignored)
-    )
+fn is_retiring(outcome: Option<Outcome>) -> bool
+    ensures { result ≡ retires outcome }
+{
+    match outcome {
+        Some(Outcome::Resolved(resolution)) => matches!(resolution, Resolution::Complete),
+        Some(Outcome::Invalid) => false,
+        Some(Outcome::Unresolved) => false,
+        Some(Outcome::Ignored) => true,
+        None => true,
+    }
 }
 
 /// These peers take the place of others.
-fn replace(set: &mut BTreeSet<u16>, peers: &[u16]) -> Result<(), AllocError> {
+fn replace(set: &mut BTreeSet<u16>, peers: &[u16]) -> Result<(), AllocError>
+    ensures { OnOk result (AreThose peers.now set.new) }
+{
     set.clear();
     for peer in peers {
         set.insert(*peer)?;

@@ -6,6 +6,7 @@ ghost use Rattle.std.specs.BTreeMap.{get};
 ghost use Rattle.std.specs.BTreeSet.{Updates, contains};
 ghost use Rattle.resolver_swarm.specs.Height.{number_of};
 ghost use Rattle.resolver_swarm.specs.Judging.{load_of};
+ghost use Rattle.resolver_swarm.specs.Keeping.{Ends};
 
 use crate::height::Height;
 use std::alloc::{AllocError, Global};
@@ -102,7 +103,7 @@ impl Requests {
     /// The request of this id ends, if there is one.
     pub fn remove(&mut self, id: u64) -> Option<Asked>
         ensures removed { result ≡ get nat_cmp self.old.by_id id }
-        ensures ended { get nat_cmp self.new.by_id id ≡ None }
+        ensures ended { Ends id self.old self.new }
         ensures keys { IfSome result (λ asked.
             Updates nat_cmp self.old.keys self.new.keys (number_of asked.key) false) }
         ensures load { IfSome result (λ asked. load_of self.new.loads asked.peer

@@ -1,5 +1,8 @@
 //! What a message says, by the grammar of messages.
 
+ghost use Rattle.std.specs.Prelude.{◌≡◌};
+ghost use Rattle.resolver_swarm.specs.Keeping.{said_in};
+
 /// What a message says. Those of a run are whole, so this is told by the tag.
 #[derive(Clone, Copy, Debug, PartialEq, Eq)]
 pub enum Said {
@@ -12,7 +15,9 @@ pub enum Said {
 }
 
 /// What these bytes say: an id of eight bytes, a tag, and what belongs to the tag.
-pub fn read(bytes: &[u8]) -> Option<Said> {
+pub fn read(bytes: &[u8]) -> Option<Said>
+    ensures { result ≡ said_in bytes.now }
+{
     let [a, b, c, d, e, f, g, h, tag, ..] = bytes else {
         return None;
     };

@@ -1,5 +1,10 @@
 //! What a node does of what its core tells.
 
+ghost use Rattle.std.specs.Prelude.{◌≡◌, OnOk};
+ghost use Rattle.std.specs.List.{Contains};
+ghost use Rattle.resolver_swarm.specs.Having.{Lies};
+ghost use Rattle.resolver_swarm.specs.Judging.{ComplainsUnless};
+
 use crate::height::Height;
 use crate::judging::complaint::Complaint;
 use crate::nodes::node::{Node, Takes};
@@ -119,13 +124,19 @@ impl Node {
         Ok(())
     }
 
-    /// Blocks a peer. Each wrong response asks for that, so a peer may be blocked already.
-    fn block(&mut self, world: &mut World, peer: u16) -> Result<(), Fault> {
+    /// Blocks a peer, which is to be a liar. Each wrong response asks for that, so a peer may be blocked already.
+    fn block(&mut self, world: &mut World, peer: u16) -> Result<(), Fault>
+        ensures judged { ComplainsUnless
+            self.old.judge.complaint self.new.judge.complaint
+            (Lies world.old.settings peer) }
+        ensures found { self.new.judge
+            ≡ record self.old.judge { complaint = self.new.judge.complaint } }
+        ensures blocked { OnOk result (Contains self.new.blocked.items peer) }
+    {
+        let is_liar = world.settings.kind(peer) == Kind::Liar;
+        self.judge.expect(is_liar, Complaint::Blocked);
         if self.blocked.contains(&peer) {
             return Ok(());
-        }
-        if world.settings.kind(peer) != Kind::Liar {
-            self.judge.complain(Complaint::Blocked);
         }
         self.blocked.push(peer)?;
         world.counts.note_blocking(self.count)?;

@@ -1,5 +1,9 @@
 //! A node of the swarm.
 
+ghost use Rattle.std.specs.Prelude.{◌≡◌, ◌↔◌, IsTrue, false};
+ghost use Rattle.resolver_swarm.specs.Having.{Has, IsServed, Lacks};
+ghost use Rattle.resolver_swarm.specs.Height.{number_of};
+
 use crate::height::Height;
 use crate::judging::judge::Judge;
 use crate::script::Script;
@@ -84,11 +88,21 @@ impl Node {
     }
 
     /// Whether it has a key.
-    pub fn has(&self, key: Height) -> bool {
+    pub fn has(&self, key: Height) -> bool
+        ensures { IsTrue result ↔ Has (number_of key) self.now }
+    {
         self.held
             .get(usize::from(key.number()))
             .copied()
             .unwrap_or(false)
+    }
+
+    /// Whether it is a fellow and hasn't a key.
+    pub fn lacks(&self, key: Height) -> bool
+        ensures lacking { IsTrue result ↔ Lacks (number_of key) self.now }
+        ensures served { (result ≡ false) ↔ IsServed (number_of key) self.now }
+    {
+        self.kind == Kind::Fellow && !self.has(key)
     }
 
     /// Takes an event, wants more where there is room for it, and then takes all that is due.
