@@ -40,6 +40,7 @@ use std::marker::Model;
 /// }
 /// ```
 #[derive(Debug)]
+#[derive(Drop)]
 pub struct Entries<K: Ord, S, V, Context, State> {
     keys: BTreeMap<K, Entry<V, Context, State>>,
     going: BTreeMap<u64, Open<K, S, Context>>,
@@ -56,17 +57,6 @@ impl<K: Ord, S, V, Context, State> Model for Entries<K, S, V, Context, State> {
       going = a.going.entries;
       next = a.numbers;
     } };
-}
-
-impl<K: Ord + Drop, S: Drop, V: Drop, Context: Drop, State: Drop> Drop
-    for Entries<K, S, V, Context, State> {
-    fn drop(self) {
-        let Self {
-            keys: _,
-            going: _,
-            numbers: _,
-        } = self;
-    }
 }
 
 impl<K: Ord + Drop, S: Drop, V: Drop, Context: Drop, State: Drop> Entries<K, S, V, Context, State> {

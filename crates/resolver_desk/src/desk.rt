@@ -28,6 +28,7 @@ use std::num::NonZeroUsize;
 /// recorded desk there is also the book of the calls.
 ///
 /// Contracts see all of it.
+#[derive(Drop)]
 pub struct Desk<K: Ord + Hash, S: Ord, M: Metadata, Q: Predicate<K, S>> {
     capacity: usize,
     ready: VecDeque<Message<K, S, M, Q>>,
@@ -50,20 +51,6 @@ impl<K: Ord + Hash, S: Ord, M: Metadata, Q: Predicate<K, S>> Model for Desk<K, S
     ghost invariant = { λ a. (a.capacity ≤ deque_capacity a.ready)
         × IsKept (names K.cmp S.cmp) Q.keeps
         (desk_of a.capacity a.ready.items a.pending a.is_closed a.book) };
-}
-
-impl<K: Ord + Hash + Drop, S: Ord + Drop, M: Metadata + Drop, Q: Predicate<K, S> + Drop> Drop
-    for Desk<K, S, M, Q> {
-    fn drop(self) {
-        let Self {
-            capacity: _,
-            ready: _,
-            pending: _,
-            is_closed: _,
-            book: _,
-            alloc: _,
-        } = self;
-    }
 }
 
 impl<

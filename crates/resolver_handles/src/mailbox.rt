@@ -26,6 +26,7 @@ pub type Message<K, P, S, Q> = resolver_messages::Message<K, S, Option<NonEmptyV
 ///
 /// Contracts see the share of its sender, or none. Each call of `Resolver` and `TargetedResolver`
 /// puts one message, and waits for the mailbox's lock. Dropping a handle closes nothing.
+#[derive(Drop)]
 pub struct Mailbox<
     K: Ord + Hash,
     P: Ord + Faithful + Drop,
@@ -36,22 +37,6 @@ pub struct Mailbox<
 > {
     alloc: Global,
     sender: Sender<K, S, Option<NonEmptyVec<P>>, Q, N, R>,
-}
-
-impl<
-    K: Ord + Hash + Drop,
-    P: Ord + Faithful + Drop,
-    S: Ord + Drop,
-    Q: Predicate<K, S> + Drop,
-    N: Naming,
-    R: Drop,
-> Drop for Mailbox<K, P, S, Q, N, R> {
-    fn drop(self) {
-        let Self {
-            alloc: _,
-            sender: _,
-        } = self;
-    }
 }
 
 impl<K: Ord + Hash, P: Ord + Faithful + Drop, S: Ord, Q: Predicate<K, S>, N: Naming, R> Model

@@ -25,21 +25,11 @@ pub type Message<K, S, Q> = resolver_messages::Message<K, S, (), Q>;
 /// Contracts see the share of its sender, or none. Each call of the traits `Resolver` and
 /// `TargetedResolver` puts one message, and waits for the mailbox's lock. Dropping a handle closes
 /// nothing.
+#[derive(Drop)]
 pub struct Resolver<K: Ord + Hash, S: Ord, P, Q: Predicate<K, S>, N: Naming, R> {
     alloc: Global,
     sender: Sender<K, S, (), Q, N, R>,
     peers: PhantomData<P>,
-}
-
-impl<K: Ord + Hash + Drop, S: Ord + Drop, P, Q: Predicate<K, S> + Drop, N: Naming, R: Drop> Drop
-    for Resolver<K, S, P, Q, N, R> {
-    fn drop(self) {
-        let Self {
-            alloc: _,
-            sender: _,
-            peers: _,
-        } = self;
-    }
 }
 
 impl<K: Ord + Hash, S: Ord, P, Q: Predicate<K, S>, N: Naming, R> Model

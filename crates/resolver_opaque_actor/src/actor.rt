@@ -69,6 +69,7 @@ impl<K: Ord, V, S: Ord, Q> Model for Actor<K, V, S, Q> {
     ghost invariant = { IsSound K.cmp };
 }
 
+// By hand: docs/PROVING.md says what that saves whoever owns one.
 impl<K: Ord + Drop, V: Drop, S: Ord + Drop, Q: Drop> Drop for Actor<K, V, S, Q> {
     fn drop(self) {
         let Self {

@@ -15,6 +15,7 @@ use std::alloc::Global;
 /// What an actor's effects go to: the source with its looks under way, and the consumer.
 ///
 /// A loop's calls are proved with all that they hold, so those that need no more than this are its own.
+#[derive(Drop)]
 pub(crate) struct Hands<F, C>
 where
     F: Fetcher,
@@ -26,22 +27,6 @@ where
     pub(crate) judging: Judging<C>,
     /// Whether memory was refused outside the actor.
     pub(crate) is_starved: bool,
-}
-
-impl<F, C> Drop for Hands<F, C>
-where
-    F: Fetcher + Drop,
-    C: Consumer + Drop,
-    C::Outcome: Drop,
-{
-    fn drop(self) {
-        let Self {
-            fetcher: _,
-            attempts: _,
-            judging: _,
-            is_starved: _,
-        } = self;
-    }
 }
 
 impl<K, V, S, F, C> Hands<F, C>

@@ -42,6 +42,7 @@ fn poll_mail<
 /// In each turn it looks for one input, in this order: the end, where memory was refused outside the
 /// actor; a value that was fetched; a verdict; a key that waits no longer; a message of the mailbox.
 /// A closed mailbox is the end.
+#[derive(Drop)]
 pub struct Loop<K, V, S, Q, R, W, F, C, T = Unwatched>
 where
     K: Ord + Hash,
@@ -56,26 +57,6 @@ where
     pub(crate) clock: W,
     pub(crate) hands: Hands<F, C>,
     pub(crate) watcher: T,
-}
-
-impl<K, V: Drop, S, Q, R: Drop, W: Drop, F, C, T: Drop> Drop for Loop<K, V, S, Q, R, W, F, C, T>
-where
-    K: Ord + Hash + Drop,
-    S: Ord + Drop,
-    Q: Predicate<K, S> + Drop,
-    F: Fetcher + Drop,
-    C: Consumer + Drop,
-    C::Outcome: Drop,
-{
-    fn drop(self) {
-        let Self {
-            actor: _,
-            mail: _,
-            clock: _,
-            hands: _,
-            watcher: _,
-        } = self;
-    }
 }
 
 impl<K, V, S, Q, R, W, F, C, T> Loop<K, V, S, Q, R, W, F, C, T>

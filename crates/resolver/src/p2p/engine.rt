@@ -52,6 +52,7 @@ use std::marker::Model;
 /// Contracts see it as its core: of each peer machine that it matches it does what the machine
 /// does. `step` and what it is made of take no lock, and touch neither consumer nor producer: what
 /// they are to do comes out as effects.
+#[derive(Drop)]
 pub struct Engine<
     P: Ord + Faithful + Drop,
     D,
@@ -72,32 +73,6 @@ pub struct Engine<
     blocker: B,
     consumer: C,
     producer: O,
-}
-
-impl<
-    P: Ord + Faithful + Drop,
-    D: Drop,
-    B: Drop,
-    K: Ord + Hash + Drop,
-    S: Ord + Drop,
-    C: Drop,
-    O: Drop,
-    Q: Predicate<K, S> + Drop,
-    R: Drop,
-> Drop for Engine<P, D, B, K, S, C, O, Q, R> {
-    fn drop(self) {
-        let Self {
-            rt: _,
-            alloc: _,
-            core: _,
-            shown: _,
-            mail: _,
-            peer_provider: _,
-            blocker: _,
-            consumer: _,
-            producer: _,
-        } = self;
-    }
 }
 
 impl<P: Ord + Faithful + Drop, D, B, K: Ord + Hash, S: Ord, C, O, Q: Predicate<K, S>, R> Model

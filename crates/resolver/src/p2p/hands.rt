@@ -19,6 +19,7 @@ use std::alloc::Global;
 /// the peers with a source of numbers.
 ///
 /// A loop's calls are proved with all that they hold, so those that need no more than this are its own.
+#[derive(Drop)]
 pub(crate) struct Hands<D, B, C, O, X, G>
 where
     C: Consumer,
@@ -33,24 +34,6 @@ where
     pub(crate) answer: Option<Answer>,
     /// Whether memory was refused outside the core.
     pub(crate) is_starved: bool,
-}
-
-impl<D: Drop, B: Drop, C, O: Drop, X: Drop, G: Drop> Drop for Hands<D, B, C, O, X, G>
-where
-    C: Consumer + Drop,
-    C::Outcome: Drop,
-{
-    fn drop(self) {
-        let Self {
-            alloc: _,
-            peers: _,
-            judging: _,
-            serving: _,
-            asking: _,
-            answer: _,
-            is_starved: _,
-        } = self;
-    }
 }
 
 impl<P, D, B, K, S, C, O, X, G> Hands<D, B, C, O, X, G>

@@ -35,6 +35,7 @@ fn is_due(clock: &impl Clock, deadline: Option<u128>) -> bool {
 /// where memory was refused outside the core; a set of peers; a blocked set; a request whose time is
 /// over; a verdict; a message of the mailbox; a key whose time has come; bytes of the producer;
 /// a message of a peer. A closed source of sets, mailbox or network is the end.
+#[derive(Drop)]
 pub struct Loop<P, D, B, K, S, C, O, Q, R, X, Y, W, G, T = Unwatched>
 where
     P: Ord + Faithful + Drop,
@@ -51,43 +52,6 @@ where
     pub(crate) receiver: Y,
     pub(crate) clock: W,
     pub(crate) watcher: T,
-}
-
-impl<
-    P,
-    D: Drop,
-    B: Drop,
-    K,
-    S,
-    C,
-    O: Drop,
-    Q,
-    R: Drop,
-    X: Drop,
-    Y: Drop,
-    W: Drop,
-    G: Drop,
-    T: Drop,
-> Drop for Loop<P, D, B, K, S, C, O, Q, R, X, Y, W, G, T>
-where
-    P: Ord + Faithful + Drop,
-    K: Ord + Hash + Drop,
-    S: Ord + Drop,
-    C: Consumer + Drop,
-    C::Outcome: Drop,
-    Q: Predicate<K, S> + Drop,
-{
-    fn drop(self) {
-        let Self {
-            core: _,
-            shown: _,
-            mail: _,
-            hands: _,
-            receiver: _,
-            clock: _,
-            watcher: _,
-        } = self;
-    }
 }
 
 impl<P, D, B, K, S, C, O, Q, R, X, Y, W, G, T> Loop<P, D, B, K, S, C, O, Q, R, X, Y, W, G, T>

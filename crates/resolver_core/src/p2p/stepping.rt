@@ -58,6 +58,7 @@ impl<K: Ord, P: Ord, S: Ord, Q> Model for Core<K, P, S, Q> {
     ghost invariant = { λ a. IsTiedUnlessFailed (parties K.cmp S.cmp P.cmp) a.status a.parts };
 }
 
+// By hand: docs/PROVING.md says what that saves whoever owns one.
 impl<K: Ord + Drop, P: Ord + Drop, S: Ord + Drop, Q: Drop> Drop for Core<K, P, S, Q> {
     fn drop(self) {
         let Self {

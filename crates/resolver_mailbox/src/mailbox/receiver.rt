@@ -38,6 +38,7 @@ pub struct Receiver<K: Ord + Hash, S: Ord, M: Metadata, Q: Predicate<K, S>, N: N
     pub(super) taken: Taken<K, S, M, Q, N>,
 }
 
+// By hand: docs/PROVING.md says what that saves whoever owns one.
 impl<
     K: Ord + Hash + Drop,
     S: Ord + Drop,

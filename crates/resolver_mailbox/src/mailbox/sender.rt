@@ -70,6 +70,7 @@ pub struct Sender<K: Ord + Hash, S: Ord, M: Metadata, Q: Predicate<K, S>, N: Nam
     pub(super) seat: Seat<K, S, M, Q, N, R>,
 }
 
+// By hand: docs/PROVING.md says what that saves whoever owns one.
 impl<
     K: Ord + Hash + Drop,
     S: Ord + Drop,

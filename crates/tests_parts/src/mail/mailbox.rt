@@ -155,6 +155,7 @@ fn play_in<N: Naming, R: Wait + Copy + Drop>(
         receiver: &mut receiver,
     };
     plays_parts(rt, alloc, &mut mailed, parts);
+    // By hand: the borrow checker doesn't cover these by their scope.
     drop(mailed);
     drop(handles);
     drop(receiver);
