@@ -13,7 +13,7 @@ use Rattle.resolver_types.specs.Subscribers.{attached_all}
 use Rattle.resolver_priority_set.specs.Priorities.{has_item, put}
 use Rattle.resolver_types.specs.Table.{asked_one}
 use Rattle.resolver_types.specs.Table as tables
-use Rattle.resolver_delivery.specs.Entries.{fresh, inserted}
+use Rattle.resolver_delivery.specs.Entries.{fresh, inserted, is_tracked}
 use Rattle.resolver_fetch_requests.specs.Requests.{by_id, is_asked}
 use Rattle.resolver_fetch_scan.specs.Fetcher as fetchers
 use Rattle.resolver_fetch_scan.specs.Fetcher.{Fetcher, unless_over}
@@ -323,6 +323,10 @@ module _ {K S P : Type 0} (a : Parties K S P) (o : IsTotalOrder a.key) (m : Mach
             last_index = ap (λ e. e.last_index) same ∙ is.last_index;
             priority = ap (λ e. e.priority_responses) same ∙ is.priority;
           }
+
+    -- nothing is kept of a key that is new
+    pub new-untracked : not (tables.is_asked (names_of a) e.demand key) ≡ true → is_tracked a.key e.entries key ≡ false
+    new-untracked new = ap is_some (untracked (around-none o m.rows key sound.ordered (absent new)))
 
     -- a key that is new
     pub new-agrees : not (tables.is_asked (names_of a) e.demand key) ≡ true

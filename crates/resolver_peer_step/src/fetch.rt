@@ -64,7 +64,7 @@ impl<K: Ord + Clone + Drop, P: Ord + Clone + Drop, S: Ord + Clone + Drop> Parts<
             return aim(&mut self.fetcher, key, metadata);
         }
         let tracked = key.clone()?;
-        self.entries.insert_state(tracked, Start::at(now))?;
+        self.entries.insert_new(tracked, Start::at(now))?;
         ready(&mut self.fetcher, now, key, metadata)
     }
 }

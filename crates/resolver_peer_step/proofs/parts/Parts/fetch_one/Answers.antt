@@ -2,7 +2,7 @@ use Rattle.std.proofs.Common.{refl, ap, sym, ◌∙◌}
 use Rattle.std.proofs.lemmas.Result.{on_ok_weaker}
 use Rattle.resolver_model_peer.specs.Parties.{parties}
 use Rattle.resolver_peer_step.proofs.Fails.{over}
-use Rattle.resolver_peer_step.proofs.Wanted.{new-agrees, new-not_asked, new-not_waiting, present-agrees}
+use Rattle.resolver_peer_step.proofs.Wanted.{new-agrees, new-not_asked, new-not_waiting, new-untracked, present-agrees}
 use Rattle.resolver_peer_step.proofs.parts.Parts.fetch_one.Goals as goal
 
 pub returns-then-not-is_new-clause-ok : goal.returns-then-not-is_new-clause-ok
@@ -15,6 +15,17 @@ returns-then-not-is_new-clause-ok g c = λ m is.
     (λ aims. present-agrees a g.met.K.Ord.total m is.sound c.args.item.key c.args.self.now _ is (over a c.args.self.now m is c.requires.closed) c.args.now c.args.item.subscribers c.args.item.metadata
     (sym old) wanted aims refl)
     c.aim.ensures.ok
+
+pub insert_new-requires : goal.insert_new-requires
+insert_new-requires g c =
+    let a = parties g.K.Ord.cmp g.S.Ord.cmp g.P.Ord.cmp in
+    let is_new = sym c.if-not-is_new.false ∙ c.in_ok-is_new.ensures.is_new in
+    let new = rw (c.requires.keys_clone _ _ c.in_ok-wanted.ensures.cases) at is_new in
+    let is = c.requires.tied.1 in
+    record {
+      absent = rw (c.requires.keys_clone _ _ c.in_ok-tracked.ensures.cases)
+          (new-untracked a g.met.K.Ord.total c.requires.tied.0 is.sound c.args.item.key c.args.self.now c.args.self.now is (over a c.args.self.now c.requires.tied.0 is c.requires.closed) c.args.now c.args.item.subscribers c.args.item.metadata (sym new));
+    }
 
 pub ready-requires-clause-not_waiting : goal.ready-requires-clause-not_waiting
 ready-requires-clause-not_waiting g c =
@@ -38,7 +49,7 @@ returns-clause-ok g c = λ m is.
     let is_new = sym c.if-not-is_new.false ∙ c.in_ok-is_new.ensures.is_new in
     let new = rw (c.requires.keys_clone _ _ c.in_ok-wanted.ensures.cases) at is_new in
     let wanted = rw (c.requires.keys_clone _ _ c.in_ok-wanted.ensures.cases) at c.in_ok-is_new.ensures.ok in
-    let tracked = rw (c.requires.keys_clone _ _ c.in_ok-tracked.ensures.cases, c.at.ensures) at c.in_ok-insert_state.ensures.ok in
+    let tracked = rw (c.requires.keys_clone _ _ c.in_ok-tracked.ensures.cases, c.at.ensures) at c.in_ok-insert_new.ensures.ok in
     on_ok_weaker c.ready.result
     (λ readies. new-agrees a g.met.K.Ord.total m is.sound c.args.item.key c.args.self.now _ is (over a c.args.self.now m is c.requires.closed) c.args.now c.args.item.subscribers c.args.item.metadata
     (sym new) wanted tracked readies refl)
