@@ -1,6 +1,6 @@
 //! What a scan does to the parts.
 
-ghost use Rattle.std.specs.Prelude.{◌≡◌, ◌<◌, ◌^◌, false, true, not, None, Ok, Err, Some, is_some, IfErr};
+ghost use Rattle.std.specs.Prelude.{◌≡◌, ◌<◌, ◌^◌, false, true, not, None, Ok, Err, Some, is_some, IfErr, OnErr};
 ghost use Rattle.resolver_base.specs.declared.fault.Fault.TheVariants.{OutOfMemory};
 ghost use Rattle.resolver_fetch_scan.specs.Scan.{is_over};
 ghost use Rattle.resolver_model_peer.specs.Parties.{parties};
@@ -76,7 +76,8 @@ impl<K: Span + Drop, P: Ord + Clone + Drop, S: Ord + Drop> Parts<K, P, S> {
     }
 
     /// Takes an answer to what the open scan asked, and tells what it asks now. An answer that the
-    /// scan doesn't expect, or a number out of range, is refused and changes nothing.
+    /// scan doesn't expect, or a number out of range, is refused and changes nothing. What is refused
+    /// counts nothing.
     pub(crate) fn scan_answer(
         &mut self,
         answer: Answer,
@@ -85,12 +86,14 @@ impl<K: Span + Drop, P: Ord + Clone + Drop, S: Ord + Drop> Parts<K, P, S> {
     ) -> Result<(), Fault>
         requires keys_clone { (x y : K) → K.is_clone x y → y ≡ x }
         requires peers_clone { (x y : P) → P.is_clone x y → y ≡ x }
-        ensures { (m : Machine K S P) → Agrees (parties K.cmp S.cmp P.cmp) self.old m
+        ensures takes { (m : Machine K S P) → Agrees (parties K.cmp S.cmp P.cmp) self.old m
             → Answered (parties K.cmp S.cmp P.cmp) (codec K.SIZE K.bytes_of K.read_from) m answer
             effects.old.items effects.new.items self.new result }
+        ensures err { OnErr result (metrics.new ≡ metrics.old) }
     {
         let asked = self.fetcher.scan_answer(answer)?;
+        tell_asked(effects, asked)?;
         count_answer(&mut metrics.requests_sent, answer);
-        tell_asked(effects, asked)
+        Ok(())
     }
 }

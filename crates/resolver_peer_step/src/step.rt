@@ -1,6 +1,6 @@
 //! What an input does to the parts.
 
-ghost use Rattle.std.specs.Prelude.{◌≡◌, ◌<◌, ◌^◌, ℕ, Err, false, is_some};
+ghost use Rattle.std.specs.Prelude.{◌≡◌, ◌<◌, ◌^◌, ℕ, Err, false, is_some, OnErr};
 ghost use Rattle.resolver_base.specs.declared.fault.Fault.TheVariants.{OutOfMemory};
 ghost use Rattle.resolver_model_peer.specs.Parties.{parties};
 ghost use Rattle.resolver_model_peer.specs.Peer.{Happens, Machine, does, happen};
@@ -18,10 +18,8 @@ use resolver_model_peer::inputs::{Event, Input};
 use resolver_types::Predicate;
 
 impl<K: Span + Drop, P: Ord + Clone + Drop, S: Ord + Clone + Drop> Parts<K, P, S> {
-    /// Takes an input, unless it is refused, and counts what comes of it. Where an event is over, a
-    /// scan begins if the wake-up is not later than its moment.
-    ///
-    /// Where memory or numbers are wanting, something may have been counted.
+    /// Takes an input, unless it is refused, and counts what comes of it. What is refused counts
+    /// nothing. Where an event is over, a scan begins if the wake-up is not later than its moment.
     pub fn take<Q: Predicate<K, S> + Drop>(
         &mut self,
         input: Input<K, P, S, Q>,
@@ -32,11 +30,12 @@ impl<K: Span + Drop, P: Ord + Clone + Drop, S: Ord + Clone + Drop> Parts<K, P, S
         requires keys_clone { (x y : K) → K.is_clone x y → y ≡ x }
         requires peers_clone { (x y : P) → P.is_clone x y → y ≡ x }
         requires subscribers_clone { (x y : S) → S.is_clone x y → y ≡ x }
-        ensures { (m : Machine K S P) (moment : ℕ)
+        ensures takes { (m : Machine K S P) (moment : ℕ)
             → Agrees (parties K.cmp S.cmp P.cmp) self.old m
             → Taken (parties K.cmp S.cmp P.cmp) (codec K.SIZE K.bytes_of K.read_from) m
             (fed_of (codec K.SIZE K.bytes_of K.read_from) Q.keeps moment input)
             effects.old.items effects.new.items self.new result }
+        ensures err { OnErr result (metrics.new ≡ metrics.old) }
     {
         match input {
             Input::Happens(happening) => {
@@ -49,8 +48,42 @@ impl<K: Span + Drop, P: Ord + Clone + Drop, S: Ord + Clone + Drop> Parts<K, P, S
         }
     }
 
-    /// Takes an event, and begins the scan that it gives rise to.
+    /// Takes an event, and begins the scan that it gives rise to. What is refused counts nothing.
     fn happen<Q: Predicate<K, S> + Drop>(
+        &mut self,
+        now: u128,
+        event: Event<K, P, S, Q>,
+        effects: &mut Vec<Effect<K, P, S>>,
+        metrics: &mut Metrics,
+    ) -> Result<(), Fault>
+        requires closed { is_some self.old.fetcher.scan ≡ false }
+        requires tied { IsTied (parties K.cmp S.cmp P.cmp) self.old }
+        requires moment { now < 2 ^ 94 }
+        requires keys_clone { (x y : K) → K.is_clone x y → y ≡ x }
+        requires peers_clone { (x y : P) → P.is_clone x y → y ≡ x }
+        requires subscribers_clone { (x y : S) → S.is_clone x y → y ≡ x }
+        ensures goes { (m : Machine K S P) → Agrees (parties K.cmp S.cmp P.cmp) self.old m
+            → Goes (parties K.cmp S.cmp P.cmp) (codec K.SIZE K.bytes_of K.read_from)
+            (happen (parties K.cmp S.cmp P.cmp) m now
+            (event_of (codec K.SIZE K.bytes_of K.read_from) Q.keeps event))
+            effects.old.items effects.new.items self.new result }
+        ensures memory { result ≡ Err OutOfMemory → (m : Machine K S P)
+            → Agrees (parties K.cmp S.cmp P.cmp) self.old m
+            → takes_no_memory (parties K.cmp S.cmp P.cmp) m now
+            (Happens (event_of (codec K.SIZE K.bytes_of K.read_from) Q.keeps event)) ≡ false }
+        ensures err { OnErr result (metrics.new ≡ metrics.old) }
+    {
+        let before = *metrics;
+        let happened = self.advance_and_scan(now, event, effects, metrics);
+        if happened.is_err() {
+            *metrics = before;
+        }
+        happened
+    }
+
+    /// Takes an event, and begins the scan that it gives rise to. Where memory or numbers are
+    /// wanting, something may have been counted.
+    fn advance_and_scan<Q: Predicate<K, S> + Drop>(
         &mut self,
         now: u128,
         event: Event<K, P, S, Q>,

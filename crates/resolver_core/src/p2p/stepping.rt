@@ -123,7 +123,6 @@ impl<K: Span + Drop, P: Ord + Clone + Drop, S: Ord + Clone + Drop, Q: Predicate<
         }
         let ends = is_end(&input);
         let mut effects = Vec::new(self.parts.alloc);
-        let before = self.counted;
         match self.parts.take(input, &mut effects, &mut self.counted) {
             Ok(()) => {
                 if ends {
@@ -132,7 +131,6 @@ impl<K: Span + Drop, P: Ord + Clone + Drop, S: Ord + Clone + Drop, Q: Predicate<
                 Ok(effects)
             }
             Err(fault) => {
-                self.counted = before;
                 if is_final(fault) {
                     self.status = Status::Failed;
                 }

@@ -4,7 +4,7 @@ use Rattle.resolver_peer_step.specs.Said.{codec, event_of}
 use Rattle.resolver_peer_step.proofs.Agreeing.{agrees-later, closed-over}
 use Rattle.resolver_peer_step.proofs.Happening.{closed-behind, happened, refused-behind, wanting-behind}
 use Rattle.resolver_model_peer.proofs.Refusals.{refused-with}
-use Rattle.resolver_peer_step.proofs.parts.Parts.happen.Goals as goal
+use Rattle.resolver_peer_step.proofs.parts.Parts.advance_and_scan.Goals as goal
 
 pub scan-requires-clause-closed : goal.scan-requires-clause-closed
 scan-requires-clause-closed g c =
