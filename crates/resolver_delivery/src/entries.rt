@@ -129,6 +129,15 @@ impl<K: Ord + Drop, S: Drop, V: Drop, Context: Drop, State: Drop> Entries<K, S, 
         self.keys.remove(key)
     }
 
+    /// Drops a key, as `remove` does, and answers what the caller kept with it, if it was tracked.
+    pub fn remove_state(&mut self, key: &K) -> Option<State>
+        ensures after { self.new ≡ removed K.cmp key.now self.old }
+        ensures state { result ≡ state_of K.cmp self.old key.now }
+    {
+        let (_, entry) = self.keys.remove_entry(key)?;
+        Some(entry.state)
+    }
+
     /// Drops all keys, and answers how many there were.
     pub fn drain(&mut self) -> usize
         ensures after { self.new ≡ record self.old { keys = [] } }

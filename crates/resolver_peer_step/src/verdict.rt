@@ -1,6 +1,6 @@
 //! What a verdict does to the parts.
 
-ghost use Rattle.std.specs.Prelude.{◌≡◌, ◌<◌, ◌^◌, ◌++◌, ◌==◌, Err, false, is_none, is_some, IfErr, OnOk};
+ghost use Rattle.std.specs.Prelude.{◌≡◌, ◌<◌, ◌^◌, ◌++◌, ◌∷◌, ◌==◌, [], Err, false, is_none, is_some, IfErr, OnOk};
 ghost use Rattle.std.specs.Map.{lookup};
 ghost use Rattle.resolver_priority_set.specs.Priorities.{has_item};
 ghost use Rattle.resolver_base.specs.declared.fault.Fault.TheVariants.{OutOfMemory};
@@ -9,6 +9,7 @@ ghost use Rattle.resolver_delivery.specs.Entries.{removed};
 ghost use Rattle.resolver_fetch_scan.specs.Fetcher as calls;
 ghost use Rattle.resolver_fetch_scan.specs.Orders.{orders};
 ghost use Rattle.resolver_model.specs.Verdicts.{ruling};
+ghost use Rattle.resolver_model_peer.specs.declared.effects.Effect.TheVariants.{Block};
 ghost use Rattle.resolver_model_peer.specs.Parties.{parties};
 ghost use Rattle.resolver_model_peer.specs.Peer.{Machine, Open, ruled, verdict};
 ghost use Rattle.resolver_peer_step.specs.Counted.{judged};
@@ -118,10 +119,7 @@ impl<K: Ord + Clone + Drop, P: Ord + Clone + Drop, S: Ord + Clone + Drop> Parts<
             Ruling::Serve { accepted } => {
                 let rest = self.demand.remove_delivered(&key, &subscribers)?;
                 let Some(subscribers) = rest else {
-                    count_retired(&mut metrics.fetch, accepted, outcome);
-                    if let Some(start) = self.forget(&key) {
-                        measure_complete(&start, now, outcome, metrics);
-                    }
+                    self.retire(now, &key, accepted, outcome, metrics);
                     return Ok(());
                 };
                 self.count_complete(now, &key, outcome, metrics);
@@ -133,9 +131,8 @@ impl<K: Ord + Clone + Drop, P: Ord + Clone + Drop, S: Ord + Clone + Drop> Parts<
                 self.fetcher.add_retry(key, now)
             }
             Ruling::Retire => {
-                count_retired(&mut metrics.fetch, accepted, outcome);
                 self.demand.remove(&key);
-                self.forget(&key);
+                self.retire(now, &key, accepted, outcome, metrics);
                 Ok(())
             }
         }
@@ -160,8 +157,15 @@ impl<K: Ord + Clone + Drop, P: Ord + Clone + Drop, S: Ord + Clone + Drop> Parts<
         }
     }
 
-    /// Nothing is done for a key any more. Answers when it was fetched first.
-    fn forget(&mut self, key: &K) -> Option<Start>
+    /// Nothing is done any more for a key that nobody wants, and it is counted.
+    fn retire(
+        &mut self,
+        now: u128,
+        key: &K,
+        accepted: bool,
+        outcome: Option<Outcome>,
+        metrics: &mut Metrics,
+    )
         requires closed { is_some self.old.fetcher.scan ≡ false }
         requires not_waiting { has_item K.cmp self.old.fetcher.waiting key.now ≡ false }
         requires not_asked { is_asked K.cmp self.old.fetcher.asked key.now ≡ false }
@@ -170,9 +174,11 @@ impl<K: Ord + Clone + Drop, P: Ord + Clone + Drop, S: Ord + Clone + Drop> Parts<
           fetcher = calls.clear (orders K.cmp P.cmp) key.now self.old.fetcher;
         } }
     {
-        let entry = self.entries.take(key);
+        count_retired(&mut metrics.fetch, accepted, outcome);
         self.fetcher.clear(key);
-        Some(entry?.state)
+        if let Some(start) = self.entries.remove_state(key) {
+            measure_complete(&start, now, outcome, metrics);
+        }
     }
 }
 
@@ -224,19 +230,28 @@ fn account<K: Ord + Drop, P: Ord + Drop, S: Drop>(
     let Some(outcome) = outcome else {
         return Ok(());
     };
+    // In parts, since it would be copied whole at each call.
+    let Source {
+        peer,
+        elapsed,
+        bytes,
+    } = source;
     match outcome {
         Outcome::Resolved(_) => {
             raise(&mut metrics.fetch.success, 1);
-            metrics.resolves.measure(source.elapsed);
-            fetcher.record_response(&source.peer, source.elapsed, source.bytes);
+            metrics.resolves.measure(elapsed);
+            fetcher.record_response(&peer, elapsed, bytes);
+            let source = Source {
+                peer,
+                elapsed,
+                bytes,
+            };
             effects.push(Effect::Credit { response, source })?;
             Ok(())
         }
         Outcome::Invalid => {
             raise(&mut metrics.fetch.failure, 1);
-            let peer = source.peer;
-            effects.push(Effect::Block { response, peer })?;
-            Ok(())
+            complain(response, peer, effects)
         }
         Outcome::Unresolved => {
             raise(&mut metrics.fetch.ambiguous, 1);
@@ -244,4 +259,18 @@ fn account<K: Ord + Drop, P: Ord + Drop, S: Drop>(
         }
         Outcome::Ignored => Ok(()),
     }
+}
+
+/// Tells that the sender of this response is to be blocked.
+fn complain<K: Drop, P: Drop, S: Drop>(
+    response: u64,
+    peer: P,
+    effects: &mut Vec<Effect<K, P, S>>,
+) -> Result<(), Fault>
+    ensures told { OnOk result (effects.new.items
+        ≡ effects.old.items ++ Block response peer ∷ []) }
+    ensures only { IfErr result (λ fault. fault ≡ OutOfMemory) }
+{
+    effects.push(Effect::Block { response, peer })?;
+    Ok(())
 }

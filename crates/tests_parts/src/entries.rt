@@ -8,7 +8,7 @@
 //! | `redeliver K`, `accept K`, `discard K` | the key's response is handed out again, accepted or discarded | the number |
 //! | `verdict N W`, `verdict-below N` | the verdict on delivery N, or none on each below it, from the last on | what is over; how many were open |
 //! | `contains K`, `is-accepted K`, `response K`, `number K`, `entry K`, `open N`, `keys` | | what is there |
-//! | `put-state K N`, `set-state K N`, `state K` | the key is there with a state; it has another one | whether it is new; the state |
+//! | `put-state K N`, `set-state K N`, `state K`, `remove-state K` | the key is there with a state; it has another one; it goes | whether it is new; the state |
 
 ghost use Rattle.std.specs.Prelude.{◌≡◌};
 
@@ -427,6 +427,7 @@ impl<R: Abort> Said<R> for Part<'_, Stated> {
                 self.0.set_state(&key, value(rt, line));
             }
             "state" => print(rt, printed, self.0.state(&value(rt, line))),
+            "remove-state" => print(rt, printed, self.0.remove_state(&value(rt, line))),
             _ => unreadable(rt, line),
         }
     }
@@ -446,6 +447,12 @@ set-state 2 50
 state 1
 > Some(40)
 state 2
+> None
+remove-state 1
+> Some(40)
+remove-state 1
+> None
+state 1
 > None";
     let mut entries: Stated = Entries::new(rt.alloc());
     plays(&rt, rt.alloc(), &mut Part(&mut entries), CASE);

@@ -1,4 +1,5 @@
 use Rattle.std.proofs.Common.{◌∙◌, refl, sym, append-nil}
+use Rattle.std.proofs.lemmas.Result.{on_ok_weaker}
 use Rattle.resolver_model_peer.proofs.Refusals.{refused, refused-as}
 use Rattle.resolver_peer_step.proofs.verdict.account.Goals as goal
 
@@ -23,26 +24,17 @@ returns-in_err-push-in-Resolved-clause-ok g c = refused c.from_residual.result _
 pub returns-in_err-push-in-Resolved-clause-only : goal.returns-in_err-push-in-Resolved-clause-only
 returns-in_err-push-in-Resolved-clause-only g c = refused-as c.from_residual.result _ _ c.from_residual.ensures.1 (λ fault same. same)
 
-pub returns-in_err-push-in-Invalid-clause-told : goal.returns-in_err-push-in-Invalid-clause-told
-returns-in_err-push-in-Invalid-clause-told g c = refused c.from_residual-in_err-push-in-Invalid.result _ _ c.from_residual-in_err-push-in-Invalid.ensures.1
-
-pub returns-in_err-push-in-Invalid-clause-ok : goal.returns-in_err-push-in-Invalid-clause-ok
-returns-in_err-push-in-Invalid-clause-ok g c = refused c.from_residual-in_err-push-in-Invalid.result _ _ c.from_residual-in_err-push-in-Invalid.ensures.1
-
-pub returns-in_err-push-in-Invalid-clause-only : goal.returns-in_err-push-in-Invalid-clause-only
-returns-in_err-push-in-Invalid-clause-only g c = refused-as c.from_residual-in_err-push-in-Invalid.result _ _ c.from_residual-in_err-push-in-Invalid.ensures.1 (λ fault same. same)
-
 pub returns-in_ok-push-in-Resolved-clause-told : goal.returns-in_ok-push-in-Resolved-clause-told
 returns-in_ok-push-in-Resolved-clause-told g c = c.in_ok-push-in-Resolved.ensures.items ∙ rw (c.if-accepted.false, c.in-Some.is, c.in-Resolved.is) refl
 
 pub returns-in_ok-push-in-Resolved-clause-ok : goal.returns-in_ok-push-in-Resolved-clause-ok
 returns-in_ok-push-in-Resolved-clause-ok g c = c.record_response.ensures ∙ rw (c.if-accepted.false, c.in-Some.is, c.in-Resolved.is) refl
 
-pub returns-in_ok-push-in-Invalid-clause-told : goal.returns-in_ok-push-in-Invalid-clause-told
-returns-in_ok-push-in-Invalid-clause-told g c = c.in_ok-push-in-Invalid.ensures.items ∙ rw (c.if-accepted.false, c.in-Some.is, c.in-Invalid.is) refl
+pub returns-in-Invalid-clause-told : goal.returns-in-Invalid-clause-told
+returns-in-Invalid-clause-told g c = rw (c.if-accepted.false, c.in-Some.is, c.in-Invalid.is) c.complain.ensures.told
 
-pub returns-in_ok-push-in-Invalid-clause-ok : goal.returns-in_ok-push-in-Invalid-clause-ok
-returns-in_ok-push-in-Invalid-clause-ok g c = rw (c.if-accepted.false, c.in-Some.is, c.in-Invalid.is) refl
+pub returns-in-Invalid-clause-ok : goal.returns-in-Invalid-clause-ok
+returns-in-Invalid-clause-ok g c = rw (c.if-accepted.false, c.in-Some.is, c.in-Invalid.is) (on_ok_weaker c.complain.result (λ told. refl) c.complain.ensures.told)
 
 pub returns-in-Unresolved-clause-told : goal.returns-in-Unresolved-clause-told
 returns-in-Unresolved-clause-told g c = rw (c.if-accepted.false, c.in-Some.is, c.in-Unresolved.is) (sym (append-nil c.args.effects.now.items))

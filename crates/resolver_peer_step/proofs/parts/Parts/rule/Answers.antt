@@ -8,23 +8,23 @@ use Rattle.resolver_peer_step.proofs.parts.Parts.rule.Goals as goal
 some-is : {X : Type 0} (found : Option X) (x : X) → found ≡ Some x → IsSome found
 some-is found x is = rw is (search rules)
 
-pub forget-requires-clause-not_waiting : goal.forget-requires-clause-not_waiting
-forget-requires-clause-not_waiting g c =
+pub retire-requires-clause-not_waiting : goal.retire-requires-clause-not_waiting
+retire-requires-clause-not_waiting g c =
     let t = c.requires.tied in
     ruled-not_waiting (parties g.K.Ord.cmp g.S.Ord.cmp g.P.Ord.cmp) g.met.K.Ord.total c.args.self.now t.0 t.1 t.3 c.args.delivery c.args.accepted t.2
 
-pub forget-requires-clause-not_asked : goal.forget-requires-clause-not_asked
-forget-requires-clause-not_asked g c =
+pub retire-requires-clause-not_asked : goal.retire-requires-clause-not_asked
+retire-requires-clause-not_asked g c =
     let t = c.requires.tied in
     ruled-not_asked (parties g.K.Ord.cmp g.S.Ord.cmp g.P.Ord.cmp) g.met.K.Ord.total c.args.self.now t.0 t.1 t.3 c.args.delivery c.args.accepted t.2
 
 pub returns-in_default : goal.returns-in_default
 returns-in_default g c = λ said m h of closed.
     last-goes (parties g.K.Ord.cmp g.S.Ord.cmp g.P.Ord.cmp) g.met.K.Ord.total said c.args.self.now m h closed c.args.delivery c.args.accepted of c.args.outcome c.args.now c.in-Serve.accepted c.in-Serve.ensures
-    (sym c.in_default.is ∙ c.in_ok-rest-in-Serve.ensures.rest) c.args.effects.now.items c.forget.new.self
-    (ap (λ (e : Parts g.row.K.Denot g.row.P.Denot g.row.S.Denot). e.demand) c.forget.ensures ∙ c.in_ok-rest-in-Serve.ensures.ok)
-    (ap (λ (e : Parts g.row.K.Denot g.row.P.Denot g.row.S.Denot). e.entries) c.forget.ensures) (ap (λ (e : Parts g.row.K.Denot g.row.P.Denot g.row.S.Denot). e.fetcher) c.forget.ensures)
-    (three-changed c.args.self.now c.forget.new.self _ _ _ c.forget.ensures)
+    (sym c.in_default.is ∙ c.in_ok-rest-in-Serve.ensures.rest) c.args.effects.now.items c.retire.new.self
+    (ap (λ (e : Parts g.row.K.Denot g.row.P.Denot g.row.S.Denot). e.demand) c.retire.ensures ∙ c.in_ok-rest-in-Serve.ensures.ok)
+    (ap (λ (e : Parts g.row.K.Denot g.row.P.Denot g.row.S.Denot). e.entries) c.retire.ensures) (ap (λ (e : Parts g.row.K.Denot g.row.P.Denot g.row.S.Denot). e.fetcher) c.retire.ensures)
+    (three-changed c.args.self.now c.retire.new.self _ _ _ c.retire.ensures)
 
 pub hand_out_again-requires-clause-cached : goal.hand_out_again-requires-clause-cached
 hand_out_again-requires-clause-cached g c =
@@ -46,13 +46,13 @@ add_retry-requires-clause-not_asked g c =
     let t = c.requires.tied in
     ruled-not_asked (parties g.K.Ord.cmp g.S.Ord.cmp g.P.Ord.cmp) g.met.K.Ord.total c.args.self.now t.0 t.1 t.3 c.args.delivery c.args.accepted t.2
 
-pub forget-requires-in-Retire-clause-not_waiting : goal.forget-requires-in-Retire-clause-not_waiting
-forget-requires-in-Retire-clause-not_waiting g c =
+pub retire-requires-in-Retire-clause-not_waiting : goal.retire-requires-in-Retire-clause-not_waiting
+retire-requires-in-Retire-clause-not_waiting g c =
     let t = c.requires.tied in
     ruled-not_waiting (parties g.K.Ord.cmp g.S.Ord.cmp g.P.Ord.cmp) g.met.K.Ord.total c.args.self.now t.0 t.1 t.3 c.args.delivery c.args.accepted t.2
 
-pub forget-requires-in-Retire-clause-not_asked : goal.forget-requires-in-Retire-clause-not_asked
-forget-requires-in-Retire-clause-not_asked g c =
+pub retire-requires-in-Retire-clause-not_asked : goal.retire-requires-in-Retire-clause-not_asked
+retire-requires-in-Retire-clause-not_asked g c =
     let t = c.requires.tied in
     ruled-not_asked (parties g.K.Ord.cmp g.S.Ord.cmp g.P.Ord.cmp) g.met.K.Ord.total c.args.self.now t.0 t.1 t.3 c.args.delivery c.args.accepted t.2
 
@@ -71,7 +71,7 @@ returns-in-Retry g c = λ said m h of closed.
 pub returns-in-Retire : goal.returns-in-Retire
 returns-in-Retire g c = λ said m h of closed.
     retires-goes (parties g.K.Ord.cmp g.S.Ord.cmp g.P.Ord.cmp) g.met.K.Ord.total said c.args.self.now m h closed c.args.delivery c.args.accepted of c.args.outcome c.args.now c.in-Retire.ensures
-    c.args.effects.now.items c.forget-in-Retire.new.self
-    (ap (λ (e : Parts g.row.K.Denot g.row.P.Denot g.row.S.Denot). e.demand) c.forget-in-Retire.ensures ∙ c.remove.ensures.after)
-    (ap (λ (e : Parts g.row.K.Denot g.row.P.Denot g.row.S.Denot). e.entries) c.forget-in-Retire.ensures) (ap (λ (e : Parts g.row.K.Denot g.row.P.Denot g.row.S.Denot). e.fetcher) c.forget-in-Retire.ensures)
-    (three-changed c.args.self.now c.forget-in-Retire.new.self _ _ _ c.forget-in-Retire.ensures)
+    c.args.effects.now.items c.retire-in-Retire.new.self
+    (ap (λ (e : Parts g.row.K.Denot g.row.P.Denot g.row.S.Denot). e.demand) c.retire-in-Retire.ensures ∙ c.remove.ensures.after)
+    (ap (λ (e : Parts g.row.K.Denot g.row.P.Denot g.row.S.Denot). e.entries) c.retire-in-Retire.ensures) (ap (λ (e : Parts g.row.K.Denot g.row.P.Denot g.row.S.Denot). e.fetcher) c.retire-in-Retire.ensures)
+    (three-changed c.args.self.now c.retire-in-Retire.new.self _ _ _ c.retire-in-Retire.ensures)
