@@ -15,6 +15,7 @@ ghost use Rattle.resolver_base.specs.declared.fault.Fault.TheVariants.{OutOfMemo
 use crate::completion::{Aborted, Completion};
 use crate::entry::{Entry, Open, Response};
 use resolver_base::{Fault, Numbers};
+use resolver_sequence::Sequence;
 use resolver_types::{Delivery, Outcome};
 use std::alloc::{AllocError, Global};
 use std::collections::BTreeMap;
@@ -43,7 +44,7 @@ use std::marker::Model;
 #[derive(Drop)]
 pub struct Entries<K: Ord, S, V, Context, State> {
     keys: BTreeMap<K, Entry<V, Context, State>>,
-    going: BTreeMap<u64, Open<K, S, Context>>,
+    going: Sequence<Open<K, S, Context>>,
     numbers: Numbers,
 }
 
@@ -54,7 +55,7 @@ impl<K: Ord, S, V, Context, State> Model for Entries<K, S, V, Context, State> {
 
     ghost view = { λ a. record {
       keys = a.keys.entries;
-      going = a.going.entries;
+      going = a.going;
       next = a.numbers;
     } };
 }
@@ -69,7 +70,7 @@ impl<K: Ord + Drop, S: Drop, V: Drop, Context: Drop, State: Drop> Entries<K, S, 
     {
         Entries {
             keys: BTreeMap::new(alloc),
-            going: BTreeMap::new(alloc),
+            going: Sequence::new(alloc),
             numbers: Numbers::new(),
         }
     }
@@ -314,7 +315,7 @@ impl<K: Ord + Drop, S: Drop, V: Drop, Context: Drop, State: Drop> Entries<K, S, 
     pub fn open(&self, number: u64) -> Option<&Open<K, S, Context>>
         ensures { option_copied result ≡ lookup (is_at (nat_cmp number)) self.now.going }
     {
-        self.going.get(&number)
+        self.going.get(number)
     }
 }
 
@@ -322,7 +323,7 @@ impl<K: Ord + Drop, S: Drop, V: Drop, Context: Drop, State: Drop> Entries<K, S, 
 /// memory is refused, nothing changes.
 fn begin_new<K: Ord, S: Drop, V: Drop, Context: Drop, State>(
     keys: &mut BTreeMap<K, Entry<V, Context, State>>,
-    going: &mut BTreeMap<u64, Open<K, S, Context>>,
+    going: &mut Sequence<Open<K, S, Context>>,
     number: u64,
     begun: Open<K, S, Context>,
     response: Response<V, Context>,
@@ -334,14 +335,14 @@ where
         (get K.cmp keys.old begun.delivery.key)
         (λ e. numbered number (with_response (Some response) e)) keys.old.entries) }
     ensures opened { OnOk result
-        (going.new.entries ≡ insert_entry nat_cmp going.old.entries number begun) }
+        (going.new ≡ insert_entry nat_cmp going.old number begun) }
     ensures err_keys { OnErr result (keys.new.entries ≡ keys.old.entries) }
-    ensures err_going { OnErr result (going.new.entries ≡ going.old.entries) }
+    ensures err_going { OnErr result (going.new ≡ going.old) }
 {
     let Some(entry) = keys.get_mut(&begun.delivery.key) else {
         unreachable!()
     };
-    put_in(going, number, begun)?;
+    going.insert(number, begun)?;
     entry.number = Some(number);
     entry.response = Some(response);
     Ok(())
@@ -351,7 +352,7 @@ where
 /// nothing changes.
 fn begin<K: Ord, S: Drop, V: Drop, Context: Drop, State>(
     keys: &mut BTreeMap<K, Entry<V, Context, State>>,
-    going: &mut BTreeMap<u64, Open<K, S, Context>>,
+    going: &mut Sequence<Open<K, S, Context>>,
     number: u64,
     begun: Open<K, S, Context>,
 ) -> Result<(), AllocError>
@@ -361,28 +362,15 @@ where
     ensures held { OnOk result (keys.new.entries ≡ changed_at (is_at (K.cmp begun.delivery.key))
         (get K.cmp keys.old begun.delivery.key) (numbered number) keys.old.entries) }
     ensures opened { OnOk result
-        (going.new.entries ≡ insert_entry nat_cmp going.old.entries number begun) }
+        (going.new ≡ insert_entry nat_cmp going.old number begun) }
     ensures err_keys { OnErr result (keys.new.entries ≡ keys.old.entries) }
-    ensures err_going { OnErr result (going.new.entries ≡ going.old.entries) }
+    ensures err_going { OnErr result (going.new ≡ going.old) }
 {
     let Some(entry) = keys.get_mut(&begun.delivery.key) else {
         unreachable!()
     };
-    put_in(going, number, begun)?;
+    going.insert(number, begun)?;
     entry.number = Some(number);
-    Ok(())
-}
-
-/// Puts a value into a map. Where memory is refused, nothing changes.
-fn put_in<K: Ord + Drop, X: Drop>(
-    map: &mut BTreeMap<K, X>,
-    key: K,
-    value: X,
-) -> Result<(), AllocError>
-    ensures ok { OnOk result (map.new.entries ≡ insert_entry K.cmp map.old.entries key value) }
-    ensures err { OnErr result (map.new.entries ≡ map.old.entries) }
-{
-    map.insert(key, value)?;
     Ok(())
 }
 
@@ -456,7 +444,7 @@ impl<K: Ord + Drop, S: Drop, V: Drop, Context: Drop, State: Drop> Entries<K, S, 
     ) -> Result<Completion<K, S, Context>, Aborted>
         ensures { (result, self.new) ≡ completed K.cmp self.old number verdict }
     {
-        let Some(open) = self.going.remove(&number) else {
+        let Some(open) = self.going.remove(number) else {
             return Err(Aborted {});
         };
         let canceled = !end(&mut self.keys, &open.delivery.key, number);

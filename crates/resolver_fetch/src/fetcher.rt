@@ -523,9 +523,11 @@ fn free_each<K: Ord + Drop, P: Ord + Drop, F: Fn(&K) -> bool>(
     if !peers.is_limited() {
         return;
     }
-    for (_, request) in requests.iter() {
-        if !keep(&request.key) {
-            peers.freed(&request.peer);
+    for slot in requests.slots() {
+        if let Some(request) = &slot.value {
+            if !keep(&request.key) {
+                peers.freed(&request.peer);
+            }
         }
     }
 }

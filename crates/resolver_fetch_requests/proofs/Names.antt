@@ -1,5 +1,5 @@
 -- Requests by their ids, and their ids by the keys that are asked for.
-use Rattle.std.proofs.Common.{◌≡◌, ◌≢◌, refl, ap, subst, ◌∙◌, sym, ℕ, ◌≤◌, Bool, true, false, List, [], ◌∷◌, length, filter, Option, None, Some, cond, is_some, find, ◌==◌, arith}
+use Rattle.std.proofs.Common.{◌≡◌, ◌≢◌, refl, ap, ◌∙◌, sym, ℕ, ◌≤◌, Bool, true, false, List, [], ◌∷◌, length, filter, Option, None, Some, cond, is_some, find, ◌==◌, arith}
 use Rattle.std.proofs.lemmas.Bool.{eqb-true, eqb-false}
 use Rattle.std.proofs.lemmas.Grind.{common_steps}
 use Rattle.std.proofs.lemmas.Bool.Decides.{nat_tests}
@@ -8,9 +8,9 @@ use Rattle.std.specs.Cmp.{IsTotalOrder, Equal-is}
 use Rattle.std.specs.List.{list_any}
 use Rattle.std.specs.List.Sorted.{IsStrictlySortedBy}
 use Rattle.std.specs.Map.{keys_of, lookup}
-use Rattle.std.specs.Map.Calls.{RetainsPairs}
 use Rattle.std.proofs.lemmas.Map.Entries.{option_filter}
 use Rattle.std.proofs.lemmas.Map.Keys.{sorted_head, sorted_tail}
+use Rattle.std.proofs.lemmas.List.{length-map}
 use Rattle.std.proofs.lemmas.Option.{same_Some}
 use Rattle.std.specs.BTreeMap.{is_at}
 use Rattle.std.specs.Ordering.{is_eq, nat_cmp}
@@ -234,22 +234,11 @@ module _ {K P : Type 0} {by_key : K → K → Ordering} (o : IsTotalOrder by_key
       with_request None there = absurd (held-for key id name there)
       with_request (Some r) there = rw (filter-one key id r name there) (omega arith)
 
-one-fewer : {K P : Type 0} (by_key : K → K → Ordering) (key : K) (e : ℕ × Request K P) (w : Request K P) (b : Bool) (rest es : List (ℕ × Request K P)) → w ≡ e.1
-    → length (ids_of by_key rest key) ≤ length (ids_of by_key es key) → length (ids_of by_key (cond b ((e.0, w) ∷ rest) rest) key) ≤ length (ids_of by_key (e ∷ es) key)
-one-fewer by_key key e w true rest es same later =
-    let here : is_eq (by_key key w.key) ≡ is_eq (by_key key e.1.key) = ap (λ (r : Request _ _). is_eq (by_key key r.key)) same in
-    grind (arith, common_steps, here, later)
-one-fewer by_key key e w false rest es same later = grind (arith, common_steps, later)
+module _ {K P : Type 0} where
+  -- of fewer requests fewer are for a key
+  pub ids-counted : (by_key : K → K → Ordering) (key : K) (few many : List (ℕ × Request K P)) → length (filter (is_for by_key key) few) ≤ length (filter (is_for by_key key) many) → length (ids_of by_key few key) ≤ length (ids_of by_key many key)
+  ids-counted by_key key few many fewer = omega (arith, fewer, length-map (filter (is_for by_key key) few) (λ (r : ℕ × Request K P). r.0), length-map (filter (is_for by_key key) many) (λ (r : ℕ × Request K P). r.0))
 
-module _ {K P F : Type 0} (T : F → ℕ → Request K P → Bool → Request K P → F → Type 0) where
-  -- where some requests are kept, as they were, no key is asked for more often
-  pub fewer-retained : (by_key : K → K → Ordering) → ((f : F) (k : ℕ) (v : Request K P) (b : Bool) (w : Request K P) (g : F) → T f k v b w g → w ≡ v)
-      → (key : K) (f : F) (es kept : List (ℕ × Request K P)) → RetainsPairs T f es kept → length (ids_of by_key kept key) ≤ length (ids_of by_key es key)
-  fewer-retained by_key same key f [] kept run = rw run (omega arith)
-  fewer-retained by_key same key f (e ∷ es) kept run =
-      subst (λ (ks : List (ℕ × Request K P)). length (ids_of by_key ks key) ≤ length (ids_of by_key (e ∷ es) key)) (sym run.6)
-      (one-fewer by_key key e run.1 run.0 run.3 es (same f e.0 e.1 run.0 run.1 run.2 run.4) (fewer-retained by_key same key run.2 es run.3 run.5))
-
-  pub none-retained : (f : F) (es kept : List (ℕ × Request K P)) → es ≡ [] → RetainsPairs T f es kept → kept ≡ []
-  none-retained f [] kept none run = run
-  none-retained f (e ∷ es) kept none run = absurd cc
+  pub none-left : (old new : List (ℕ × Request K P)) → old ≡ [] → length (filter (λ r. true) new) ≤ length (filter (λ r. true) old) → new ≡ []
+  none-left old [] none fewer = refl
+  none-left old (r ∷ rs) none fewer = absurd (omega (arith, rw none at fewer))

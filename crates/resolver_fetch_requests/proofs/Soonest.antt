@@ -155,6 +155,10 @@ module _ {K P : Type 0} where
   soonest-none [] are = refl
   soonest-none (x ∷ xs) are = let here = are x.0 in let there = at-head x xs in absurd (grind (arith, nat_tests, common_steps, here, there))
 
+  pub soonest-nowhere : (asked : List (ℕ × Request K P)) → slice_get asked 0 ≡ None → soonest asked ≡ None
+  soonest-nowhere [] none = refl
+  soonest-nowhere (x ∷ xs) none = absurd (let wrong = none in cc)
+
   -- what the first request's id takes out, where its time is over
   taken-with : (asked : List (ℕ × Request K P)) (now id deadline : ℕ) (first : Option (ℕ × Request K P))
       → ◌≡◌ {A = Option (ℕ × ℕ)} (Some (id, deadline)) (option_map (λ r. (r.0, r.1.deadline)) first)

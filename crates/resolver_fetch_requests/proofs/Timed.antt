@@ -6,8 +6,7 @@ use Rattle.std.proofs.lemmas.Cmp.{nat_cmp_total, tied_itself}
 use Rattle.std.specs.List.{AllByRecursion}
 use Rattle.std.specs.List.Sorted.{IsStrictlySortedBy}
 use Rattle.std.specs.Map.{keys_of}
-use Rattle.std.specs.Map.Calls.{RetainsPairs}
-use Rattle.std.proofs.lemmas.Map.Keys.{sorted_head, sorted_tail}
+use Rattle.std.proofs.lemmas.Map.Keys.{sorted_head}
 use Rattle.std.specs.BTreeMap.{is_at}
 use Rattle.std.specs.BTreeSet.{insert_key}
 use Rattle.std.specs.Set.{remove_key}
@@ -19,7 +18,7 @@ use Rattle.resolver_fetch_requests.specs.declared.requests.request.Request.{Requ
 use Rattle.resolver_fetch_requests.specs.declared.requests.deadlines.Deadlines.{Deadlines}
 use Rattle.resolver_fetch_requests.specs.Deadlines.{AreListed, AreTimed, IsPart, times_of, with_time, without_time}
 use Rattle.resolver_fetch_requests.specs.Requests.{request_of}
-use Rattle.resolver_fetch_requests.proofs.Soonest.{at-head, behind, by_deadline, past-head, request-at}
+use Rattle.resolver_fetch_requests.proofs.Soonest.{at-head, behind, by_deadline, request-at}
 
 -- the same times
 pub timed-same : (times others : ℕ → Option ℕ) (deadlines : Deadlines) → ((q : ℕ) → others q ≡ times q) → AreTimed times deadlines → AreTimed others deadlines
@@ -124,21 +123,3 @@ module _ {K P : Type 0} where
       let gone : request_of rest x.0 ≡ None = none-behind x.0 rest (sorted_head nat_cmp x.0 (keys_of rest) sorted) in
       let before = are q in
       grind (arith, nat_tests, common_steps, none, put, gone, before)
-
-  -- what a test that changes nothing keeps is found as before
-  pub kept-found : {F : Type 0} (T : F → ℕ → Request K P → Bool → Request K P → F → Type 0)
-      → ((f : F) (k : ℕ) (v : Request K P) (b : Bool) (w : Request K P) (g : F) → T f k v b w g → w ≡ v)
-      → (f : F) (es kept : List (ℕ × Request K P)) → IsStrictlySortedBy nat_cmp (keys_of es) → RetainsPairs T f es kept
-      → (q : ℕ) (r : Request K P) → request_of kept q ≡ Some r → request_of es q ≡ Some r
-  kept-found T same f [] kept sorted run q r there = absurd (let none : None ≡ Some r = sym (ap (λ (es : List (ℕ × Request K P)). request_of es q) run) ∙ there in cc)
-  kept-found T same f (e ∷ es) kept sorted (b, w, g, rest, t, more, is) q r there =
-      let value : w ≡ e.1 = same f e.0 e.1 b w g t in
-      let later : request_of rest q ≡ Some r → request_of es q ≡ Some r = kept-found T same g es rest (sorted_tail nat_cmp e.0 (keys_of es) sorted) more q r in
-      let apart : request_of es q ≡ Some r → request_of (e ∷ es) q ≡ Some r = λ at.
-      past-head e es q (λ x. absurd (omega (arith, x, behind e.0 es (sorted_head nat_cmp e.0 (keys_of es) sorted) q r at))) ∙ at in
-      let here : request_of (cond b ((e.0, w) ∷ rest) rest) q ≡ Some r = rw is at there in
-      pick b here later apart value where
-        pick : (b : Bool) → request_of (cond b ((e.0, w) ∷ rest) rest) q ≡ Some r → (request_of rest q ≡ Some r → request_of es q ≡ Some r)
-            → (request_of es q ≡ Some r → request_of (e ∷ es) q ≡ Some r) → w ≡ e.1 → request_of (e ∷ es) q ≡ Some r
-        pick true here later apart value = grind (arith, nat_tests, common_steps, here, later, apart, value)
-        pick false here later apart value = apart (later here)

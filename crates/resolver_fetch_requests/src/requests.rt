@@ -6,21 +6,21 @@ pub mod request;
 ghost use Rattle.std.specs.Prelude.{◌≡◌, ◌≤◌, ◌<◌, ◌^◌, ℕ, Bool, false, None, Some, [], filter, length, IfErr, IfSome, OnErr, OnOk};
 ghost use Rattle.std.specs.BTreeMap.{insert_entry};
 ghost use Rattle.std.specs.Fn.{FnReturnsAt};
-ghost use Rattle.std.specs.Map.Iter.{ShowsInOrder, deref_pair};
 ghost use Rattle.std.specs.Option.{option_copied, option_map};
 ghost use Rattle.std.specs.Ordering.{nat_cmp};
 ghost use Rattle.resolver_base.specs.Answering.{AnswersBy};
 ghost use Rattle.resolver_base.specs.declared.fault.Fault.TheVariants.{OutOfMemory};
 ghost use Rattle.resolver_fetch_requests.specs.declared.requests.request.Request.{Request};
 ghost use Rattle.resolver_fetch_requests.specs.Ids.{is_held, next_id};
+ghost use Rattle.resolver_sequence.specs.Sequence.{entries_of};
 ghost use Rattle.resolver_fetch_requests.specs.Requests.{IsTaken, ids_of, is_asked, request_for, request_of, soonest, taken_matching, taken_overdue, without_request};
 
 use deadlines::Deadlines;
 pub use request::{ID, Request};
 use resolver_base::Fault;
+use resolver_sequence::sequence::{Sequence, Slot};
 use std::alloc::Global;
-use std::collections::BTreeMap;
-use std::collections::btree_map::Iter;
+use std::collections::{BTreeMap, VecDeque};
 use std::marker::Model;
 
 /// The requests without an answer, by their ids. Contracts see them as a list in that order.
@@ -28,7 +28,7 @@ use std::marker::Model;
 /// A call on one request takes time logarithmic in their number.
 #[derive(Drop)]
 pub struct Requests<K: Ord, P> {
-    by_id: BTreeMap<ID, Request<K, P>>,
+    by_id: Sequence<Request<K, P>>,
     deadlines: Deadlines,
     /// The same ids, by the keys that are asked for.
     by_key: BTreeMap<K, ID>,
@@ -42,9 +42,9 @@ impl<K: Ord, P> Model for Requests<K, P> {
 
     ghost Value = { List (ℕ × Request K P) };
 
-    ghost view = { λ a. a.by_id.entries };
+    ghost view = { λ a. a.by_id };
 
-    ghost invariant = { λ a. AreKept K.cmp a.by_id.entries a.deadlines a.by_key.entries };
+    ghost invariant = { λ a. AreKept K.cmp a.by_id a.deadlines a.by_key.entries };
 }
 
 impl<K: Ord + Drop, P: Drop> Requests<K, P> {
@@ -53,7 +53,7 @@ impl<K: Ord + Drop, P: Drop> Requests<K, P> {
         ensures { result ≡ [] }
     {
         Requests {
-            by_id: BTreeMap::new(alloc),
+            by_id: Sequence::new(alloc),
             deadlines: Deadlines::new(),
             by_key: BTreeMap::new(alloc),
             alloc,
@@ -72,7 +72,7 @@ impl<K: Ord + Drop, P: Drop> Requests<K, P> {
     pub fn get(&self, id: ID) -> Option<&Request<K, P>>
         ensures { option_copied result ≡ request_of self.now id }
     {
-        self.by_id.get(&id)
+        self.by_id.get(id)
     }
 
     /// Whether a request is for this key.
@@ -89,15 +89,16 @@ impl<K: Ord + Drop, P: Drop> Requests<K, P> {
         ensures once { length (ids_of K.cmp self.now key.now) ≤ 1 }
     {
         let id = self.by_key.get(key)?;
-        let request = self.by_id.get(id)?;
+        let request = self.by_id.get(*id)?;
         Some((*id, request))
     }
 
     /// Puts a request at its place. Where memory is refused, nothing changes.
     ///
-    /// The key is cloned; clones are to equal their sources. While ids and deadlines go up, no list
-    /// of the deadlines is kept. The first that doesn't go up has those of all requests listed, in
-    /// their number times its logarithm, and until no request is left each has its deadline listed.
+    /// The key is cloned; clones are to equal their sources. An id that isn't the greatest takes time
+    /// linear in the requests. While ids and deadlines go up, no list of the deadlines is kept. The
+    /// first that doesn't go up has those of all requests listed, in their number times its
+    /// logarithm, and until no request is left each has its deadline listed.
     pub fn insert(&mut self, id: ID, request: Request<K, P>) -> Result<(), Fault>
     where
         K: Clone,
@@ -117,7 +118,7 @@ impl<K: Ord + Drop, P: Drop> Requests<K, P> {
         }
         if let Err(refused) = self.by_id.insert(id, request) {
             self.deadlines.remove(id, deadline);
-            self.by_key.remove(&refused.value.1.key);
+            self.by_key.remove(&refused.value.key);
             return Err(Fault::OutOfMemory);
         }
         Ok(())
@@ -128,7 +129,7 @@ impl<K: Ord + Drop, P: Drop> Requests<K, P> {
         ensures value { result ≡ request_of self.old id }
         ensures after { self.new ≡ without_request id self.old }
     {
-        let request = self.by_id.remove(&id)?;
+        let request = self.by_id.remove(id)?;
         self.deadlines.remove(id, request.deadline);
         self.by_key.remove(&request.key);
         Some(request)
@@ -144,23 +145,21 @@ impl<K: Ord + Drop, P: Drop> Requests<K, P> {
         ensures none { self.old ≡ [] → self.new ≡ [] }
     {
         self.by_id.retain(
-            |_, request| -> bool
+            |request| -> bool
                 requires { F.IsAlwaysCallable keep }
-                ensures answer { FnReturnsAt F.Fn keep request.old.key result }
-                ensures same { request.new ≡ request.old }
+                ensures { FnReturnsAt F.Fn keep request.now.key result }
             { keeps(&keep, &request.key) },
         );
         let by_id = &self.by_id;
         self.deadlines.retain(by_id);
-        self.by_key.retain(|_, id| by_id.contains_key(&*id));
+        self.by_key.retain(|_, id| by_id.contains(*id));
     }
 
-    /// The requests with their ids, in the order of the ids.
-    pub fn iter(&self) -> Iter<'_, ID, Request<K, P>>
-        ensures rest { result ≡ self.now }
-        ensures runs { ShowsInOrder (deref_pair {K = ℕ} {X = Request K P}) }
+    /// The requests with their ids, in the order of the ids, and ids of some that were taken out.
+    pub fn slots(&self) -> &VecDeque<Slot<Request<K, P>>>
+        ensures { entries_of result.now.items ≡ self.now }
     {
-        self.by_id.iter()
+        self.by_id.slots()
     }
 
     /// The moment at which the time of a request is over next, if there is a request.
@@ -193,7 +192,7 @@ impl<K: Ord + Drop, P: Drop> Requests<K, P> {
         let mut id = last;
         for _tried in 0..self.by_id.len() {
             id = id.wrapping_add(1);
-            if !self.by_id.contains_key(&id) {
+            if !self.by_id.contains(id) {
                 return id;
             }
         }
@@ -217,7 +216,7 @@ impl<K: Ord + Drop, P: Ord + Drop> Requests<K, P> {
         ensures taken { (result, self.new) ≡ taken_matching P.cmp self.old id peer.now }
         ensures out { IfSome result (IsTaken self.old self.new) }
     {
-        let request = self.by_id.get(&id)?;
+        let request = self.by_id.get(id)?;
         if peer.cmp(&request.peer).is_eq() {
             self.remove(id)
         } else {

@@ -57,6 +57,8 @@ mod score;
 #[cfg(test)]
 mod sender;
 #[cfg(test)]
+mod sequence;
+#[cfg(test)]
 mod span;
 #[cfg(test)]
 mod subscribers;

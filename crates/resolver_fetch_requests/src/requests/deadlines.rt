@@ -11,8 +11,9 @@ ghost use Rattle.resolver_fetch_requests.specs.Requests.{soonest};
 
 use crate::requests::request::{ID, Request};
 use resolver_base::Fault;
+use resolver_sequence::Sequence;
 use std::alloc::Global;
-use std::collections::{BTreeMap, BTreeSet};
+use std::collections::BTreeSet;
 
 /// How it is known whose time is over first.
 ///
@@ -36,15 +37,18 @@ impl Deadlines {
     }
 
     /// The request whose time is over first, and when.
-    pub(super) fn first<K, P>(&self, requests: &BTreeMap<ID, Request<K, P>>) -> Option<(ID, u128)>
-        requires ids { IsStrictlySortedBy nat_cmp (keys_of requests.now.entries) }
-        requires timed { AreTimed (times_of requests.now.entries) self.now }
-        ensures { result ≡ option_map (λ r. (r.0, r.1.deadline)) (soonest requests.now.entries) }
+    pub(super) fn first<K: Drop, P: Drop>(
+        &self,
+        requests: &Sequence<Request<K, P>>,
+    ) -> Option<(ID, u128)>
+        requires ids { IsStrictlySortedBy nat_cmp (keys_of requests.now) }
+        requires timed { AreTimed (times_of requests.now) self.now }
+        ensures { result ≡ option_map (λ r. (r.0, r.1.deadline)) (soonest requests.now) }
     {
         match self {
             Deadlines::InOrder { .. } => {
-                let (id, request) = requests.first_key_value()?;
-                Some((*id, request.deadline))
+                let (id, request) = requests.first()?;
+                Some((id, request.deadline))
             }
             Deadlines::Listed(pairs) => {
                 let (deadline, id) = pairs.first()?;
@@ -57,17 +61,17 @@ impl Deadlines {
     /// changes.
     ///
     /// The first that doesn't come in order has those of all requests listed.
-    pub(super) fn put<K, P>(
+    pub(super) fn put<K: Drop, P: Drop>(
         &mut self,
         alloc: Global,
-        requests: &BTreeMap<ID, Request<K, P>>,
+        requests: &Sequence<Request<K, P>>,
         id: ID,
         deadline: u128,
     ) -> Result<(), Fault>
-        requires timed { AreTimed (times_of requests.now.entries) self.old }
-        requires new_id { times_of requests.now.entries id ≡ None }
+        requires timed { AreTimed (times_of requests.now) self.old }
+        requires new_id { times_of requests.now id ≡ None }
         ensures ok { OnOk result
-            (AreTimed (with_time (times_of requests.now.entries) id deadline) self.new) }
+            (AreTimed (with_time (times_of requests.now) id deadline) self.new) }
         ensures err { OnErr result (self.new ≡ self.old) }
         ensures only { IfErr result (λ fault. fault ≡ OutOfMemory) }
     {
@@ -89,10 +93,15 @@ impl Deadlines {
     }
 
     /// Whether the deadlines come in the order of the ids, with this one as the last.
-    fn precede<K, P>(&self, requests: &BTreeMap<ID, Request<K, P>>, id: ID, deadline: u128) -> bool
-        requires { AreTimed (times_of requests.now.entries) self.now }
+    fn precede<K: Drop, P: Drop>(
+        &self,
+        requests: &Sequence<Request<K, P>>,
+        id: ID,
+        deadline: u128,
+    ) -> bool
+        requires { AreTimed (times_of requests.now) self.now }
         ensures { IsTrue result
-            → AreInOrder (with_time (times_of requests.now.entries) id deadline) id deadline }
+            → AreInOrder (with_time (times_of requests.now) id deadline) id deadline }
     {
         if requests.is_empty() {
             return true;
@@ -114,28 +123,30 @@ impl Deadlines {
     }
 
     /// Drops the deadlines of the requests that aren't held any more.
-    pub(super) fn retain<K, P>(&mut self, held: &BTreeMap<ID, Request<K, P>>)
+    pub(super) fn retain<K: Drop, P: Drop>(&mut self, held: &Sequence<Request<K, P>>)
         ensures { (times : ℕ → Option ℕ) → AreTimed times self.old
-            → IsPart (times_of held.now.entries) times
-            → AreTimed (times_of held.now.entries) self.new }
+            → IsPart (times_of held.now) times
+            → AreTimed (times_of held.now) self.new }
     {
         if let Deadlines::Listed(pairs) = self {
-            pairs.retain(|pair| held.contains_key(&pair.1));
+            pairs.retain(|pair| held.contains(pair.1));
         }
     }
 }
 
 /// The deadlines of these requests with their ids, in order.
-fn pairs_of<K, P>(
+fn pairs_of<K: Drop, P: Drop>(
     alloc: Global,
-    requests: &BTreeMap<ID, Request<K, P>>,
+    requests: &Sequence<Request<K, P>>,
 ) -> Result<BTreeSet<(u128, ID)>, Fault>
-    ensures pairs { IfOk result (λ pairs. AreListed (times_of requests.now.entries) pairs.keys) }
+    ensures pairs { IfOk result (λ pairs. AreListed (times_of requests.now) pairs.keys) }
     ensures only { IfErr result (λ fault. fault ≡ OutOfMemory) }
 {
     let mut pairs = BTreeSet::new(alloc);
-    for (id, request) in requests {
-        pairs.insert((request.deadline, *id))?;
+    for slot in requests.slots() {
+        if let Some(request) = &slot.value {
+            pairs.insert((request.deadline, slot.number))?;
+        }
     }
     Ok(pairs)
 }

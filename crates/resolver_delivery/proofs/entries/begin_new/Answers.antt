@@ -5,8 +5,8 @@ use Rattle.std.proofs.lemmas.Map.Steps.{set_value_same}
 use Rattle.resolver_delivery.specs.Entries.{changed_at, numbered, with_response}
 use Rattle.resolver_delivery.proofs.entries.begin_new.Goals as goal
 
-pub returns-in_err-put_in-clause-err_keys : goal.returns-in_err-put_in-clause-err_keys
-returns-in_err-put_in-clause-err_keys g c =
+pub returns-in_err-insert-clause-err_keys : goal.returns-in_err-insert-clause-err_keys
+returns-in_err-insert-clause-err_keys g c =
     let there : lookup (is_at (g.K.Ord.cmp c.args.begun.delivery.key)) c.args.keys.now.entries ≡ Some c.in-Some.entry.now = search rules in
     let same : (c.get_mut.follows.lender c.in-Some.entry.now).entries ≡ c.args.keys.now.entries =
     (c.get_mut.follows.holds c.in-Some.entry.now).0

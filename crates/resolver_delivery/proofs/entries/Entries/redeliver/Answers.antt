@@ -21,8 +21,8 @@ begun-again cmp delivery d r keys going next number context found is same held o
 
 pub returns-clause-ok : goal.returns-clause-ok
 returns-clause-ok g c =
-    begun-again g.K.Ord.cmp c.args.delivery (record { keys = c.self.inside.keys.entries; going = c.self.inside.going.entries; next = c.self.inside.numbers })
-    c.in-Some.response.now c.begin.new.keys.entries c.begin.new.going.entries c.take.new.self c.in_ok-number.number c.in_ok-context.context
+    begun-again g.K.Ord.cmp c.args.delivery (record { keys = c.self.inside.keys.entries; going = c.self.inside.going; next = c.self.inside.numbers })
+    c.in-Some.response.now c.begin.new.keys.entries c.begin.new.going c.take.new.self c.in_ok-number.number c.in_ok-context.context
     (ap (λ d. response_of g.K.Ord.cmp d c.args.delivery.key) c.self.view_is ∙ sym c.in-Some.ensures)
     (search rules) (c.requires.contexts_clone _ _ c.in_ok-context.ensures.cases) c.in_ok-begin.ensures.held c.in_ok-begin.ensures.opened (search rules)
     ∙ ap (redelivered g.K.Ord.cmp c.args.delivery) c.self.view_is

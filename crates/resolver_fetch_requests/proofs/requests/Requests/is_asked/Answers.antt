@@ -4,5 +4,5 @@ use Rattle.resolver_fetch_requests.proofs.requests.Requests.is_asked.Goals as go
 
 pub returns : goal.returns
 returns g c =
-    let is = asked-named g.met.K.Ord.total c.self.inside.by_id.entries c.self.inside.by_key.entries c.self.invariant.named c.self.invariant.ids c.args.key.now in
+    let is = asked-named g.met.K.Ord.total c.self.inside.by_id c.self.inside.by_key.entries c.self.invariant.named c.self.invariant.ids c.args.key.now in
     search (rules, is)

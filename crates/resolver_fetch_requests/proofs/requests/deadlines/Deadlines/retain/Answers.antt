@@ -8,7 +8,7 @@ use Rattle.resolver_fetch_requests.proofs.requests.deadlines.Deadlines.retain.Go
 
 pub returns-in-Listed : goal.returns-in-Listed
 returns-in-Listed g c = λ times timed part.
-    let held = c.args.held.now.entries in
+    let held = c.args.held.now in
     let ids : c.retain.new.self.keys ≡ retained (λ id. is_some (request_of held id)) c.in-Listed.pairs.keys =
     filter_same _ _ _ (λ x b f' k. search rules) _ _ c.retain.ensures.filtered in
     rw ids (listed-part (λ id. is_some (request_of held id)) (times_of held) times c.in-Listed.pairs.keys (has-time held) part (rw c.in-Listed.is at timed))
