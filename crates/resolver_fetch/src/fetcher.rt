@@ -42,6 +42,7 @@ use resolver_fetch_waiting::pending::Pending;
 use resolver_fetch_waiting::retries::count_retry;
 use resolver_priority_set::PrioritySet;
 use resolver_sampling::score::{DURATION_MAX, elapsed_since};
+use resolver_sequence::sequence::Slot;
 use resolver_types::NonEmptyVec;
 use std::alloc::Global;
 use std::collections::BTreeMap;
@@ -524,7 +525,7 @@ fn free_each<K: Ord + Drop, P: Ord + Drop, F: Fn(&K) -> bool>(
         return;
     }
     for slot in requests.slots() {
-        if let Some(request) = &slot.value {
+        if let Slot::Held { value: request, .. } = slot {
             if !keep(&request.key) {
                 peers.freed(&request.peer);
             }

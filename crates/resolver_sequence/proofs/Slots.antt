@@ -17,7 +17,8 @@ use Rattle.std.specs.BTreeMap.{insert_entry, is_at}
 use Rattle.std.specs.Ordering.{is_eq, is_lt, nat_cmp, ordering_index}
 use Rattle.std.specs.declared.cmp.Ordering.TheVariants.{Less, Equal, Greater}
 use Rattle.resolver_sequence.specs.declared.sequence.Slot.{Slot}
-use Rattle.resolver_sequence.specs.Sequence.{AreKept, IsAt, IsBetween, IsKeptBy, IsPlaced, begins_empty, entries_of, numbers_of, value_at, with_value}
+use Rattle.resolver_sequence.specs.declared.sequence.Slot.TheVariants.{Held, Taken}
+use Rattle.resolver_sequence.specs.Sequence.{AreKept, IsAt, IsBetween, IsKeptBy, IsPlaced, begins_empty, entries_of, number_of, numbers_of, slot_of, value_at, value_of, with_value}
 
 less-lt : (m n : ℕ) → nat_cmp m n ≡ Less → m < n
 less-lt m n less = grind (arith, nat_tests, common_steps, less)
@@ -70,7 +71,7 @@ module _ {T : Type 0} where
   -- a number below those of slots is below those that they hold something under
   pub entries-below : (n : ℕ) (slots : List (Slot T)) → IsBelow n (numbers_of slots) → IsBelow n (keys_of (entries_of slots))
   entries-below n [] all = tt
-  entries-below n (slot ∷ slots) all = joined-below n slot.number slot.value (entries_of slots) all.0 (entries-below n slots all.1)
+  entries-below n (slot ∷ slots) all = joined-below n (number_of slot) (value_of slot) (entries_of slots) all.0 (entries-below n slots all.1)
 
   joined-sorted : (k : ℕ) (v : Option T) (es : List (ℕ × T)) → IsBelow k (keys_of es) → IsStrictlySortedBy nat_cmp (keys_of es) → IsStrictlySortedBy nat_cmp (keys_of (joined k v es))
   unfolding IsStrictlySortedBy
@@ -81,7 +82,7 @@ module _ {T : Type 0} where
   pub entries-sorted : (slots : List (Slot T)) → IsStrictlySortedBy nat_cmp (numbers_of slots) → IsStrictlySortedBy nat_cmp (keys_of (entries_of slots))
   unfolding IsStrictlySortedBy
   entries-sorted [] rising = tt
-  entries-sorted (slot ∷ slots) rising = joined-sorted slot.number slot.value (entries_of slots) (entries-below slot.number slots rising.0) (entries-sorted slots rising.1)
+  entries-sorted (slot ∷ slots) rising = joined-sorted (number_of slot) (value_of slot) (entries_of slots) (entries-below (number_of slot) slots rising.0) (entries-sorted slots rising.1)
 
   lookup-past : (n k : ℕ) (v : Option T) (es : List (ℕ × T)) → is_eq (nat_cmp n k) ≡ false → lookup (is_at (nat_cmp n)) (joined k v es) ≡ lookup (is_at (nat_cmp n)) es
   lookup-past n k None es differs = refl
@@ -106,19 +107,19 @@ module _ {T : Type 0} where
   unfolding IsStrictlySortedBy
   found [] n at rising is = absurd is
   found (slot ∷ slots) n zero rising is =
-      subst (λ k. lookup (is_at (nat_cmp k)) (joined slot.number slot.value (entries_of slots)) ≡ slot.value) is
-      (lookup-here slot.number slot.value (entries_of slots) (lookup-none slot.number (entries_of slots) (entries-below slot.number slots rising.0)))
+      subst (λ k. lookup (is_at (nat_cmp k)) (joined (number_of slot) (value_of slot) (entries_of slots)) ≡ value_of slot) is
+      (lookup-here (number_of slot) (value_of slot) (entries_of slots) (lookup-none (number_of slot) (entries_of slots) (entries-below (number_of slot) slots rising.0)))
   found (slot ∷ slots) n (suc at) rising is =
-      lookup-past n slot.number slot.value (entries_of slots) (apart slot.number n (at-above slot.number n at slots rising.0 is)) ∙ found slots n at rising.1 is
+      lookup-past n (number_of slot) (value_of slot) (entries_of slots) (apart (number_of slot) n (at-above (number_of slot) n at slots rising.0 is)) ∙ found slots n at rising.1 is
 
   -- there is none under a number that stands nowhere
   pub missed : (slots : List (Slot T)) (n at : ℕ) → IsStrictlySortedBy nat_cmp (numbers_of slots) → IsBetween slots n at → lookup (is_at (nat_cmp n)) (entries_of slots) ≡ None
   unfolding IsStrictlySortedBy
   missed [] n at rising is = refl
   missed (slot ∷ slots) n zero rising is =
-      lookup-none n (entries_of (slot ∷ slots)) (entries-below n (slot ∷ slots) (lt-less n slot.number is, below-more n slot.number (numbers_of slots) is rising.0))
+      lookup-none n (entries_of (slot ∷ slots)) (entries-below n (slot ∷ slots) (lt-less n (number_of slot) is, below-more n (number_of slot) (numbers_of slots) is rising.0))
   missed (slot ∷ slots) n (suc at) rising is =
-      lookup-past n slot.number slot.value (entries_of slots) (apart slot.number n is.0) ∙ missed slots n at rising.1 is.1
+      lookup-past n (number_of slot) (value_of slot) (entries_of slots) (apart (number_of slot) n is.0) ∙ missed slots n at rising.1 is.1
 
   insert-first : (n : ℕ) (x : T) (es : List (ℕ × T)) → IsBelow n (keys_of es) → insert_entry nat_cmp es n x ≡ (n, x) ∷ es
   insert-first n x [] all = refl
@@ -137,22 +138,22 @@ module _ {T : Type 0} where
   unfolding IsStrictlySortedBy
   entries-filled [] n at x rising is = absurd is
   entries-filled (slot ∷ slots) n zero x rising is =
-      subst (λ k. (slot.number, x) ∷ entries_of slots ≡ insert_entry nat_cmp (joined slot.number slot.value (entries_of slots)) k x) is
-      (sym (insert-here slot.number x slot.value (entries_of slots) (entries-below slot.number slots rising.0)))
+      subst (λ k. (number_of slot, x) ∷ entries_of slots ≡ insert_entry nat_cmp (joined (number_of slot) (value_of slot) (entries_of slots)) k x) is
+      (sym (insert-here (number_of slot) x (value_of slot) (entries_of slots) (entries-below (number_of slot) slots rising.0)))
   entries-filled (slot ∷ slots) n (suc at) x rising is =
-      ap (joined slot.number slot.value) (entries-filled slots n at x rising.1 is)
-      ∙ sym (insert-past n slot.number x slot.value (entries_of slots) (at-above slot.number n at slots rising.0 is))
+      ap (joined (number_of slot) (value_of slot)) (entries-filled slots n at x rising.1 is)
+      ∙ sym (insert-past n (number_of slot) x (value_of slot) (entries_of slots) (at-above (number_of slot) n at slots rising.0 is))
 
   -- a slot that is put where its number belongs
   pub entries-put : (slots : List (Slot T)) (n at : ℕ) (x : T) → IsStrictlySortedBy nat_cmp (numbers_of slots) → IsBetween slots n at
-      → entries_of (insert slots at (record { number = n; value = Some x })) ≡ insert_entry nat_cmp (entries_of slots) n x
+      → entries_of (insert slots at (Held n x)) ≡ insert_entry nat_cmp (entries_of slots) n x
   unfolding IsStrictlySortedBy
   entries-put [] n at x rising is = rw is refl
   entries-put (slot ∷ slots) n zero x rising is =
-      sym (insert-first n x (entries_of (slot ∷ slots)) (entries-below n (slot ∷ slots) (lt-less n slot.number is, below-more n slot.number (numbers_of slots) is rising.0)))
+      sym (insert-first n x (entries_of (slot ∷ slots)) (entries-below n (slot ∷ slots) (lt-less n (number_of slot) is, below-more n (number_of slot) (numbers_of slots) is rising.0)))
   entries-put (slot ∷ slots) n (suc at) x rising is =
-      ap (joined slot.number slot.value) (entries-put slots n at x rising.1 is.1)
-      ∙ sym (insert-past n slot.number x slot.value (entries_of slots) is.0)
+      ap (joined (number_of slot) (value_of slot)) (entries-put slots n at x rising.1 is.1)
+      ∙ sym (insert-past n (number_of slot) x (value_of slot) (entries_of slots) is.0)
 
   -- nothing is taken where there is nothing
   pub remove-none : (n : ℕ) (es : List (ℕ × T)) → lookup (is_at (nat_cmp n)) es ≡ None → remove_entry (is_at (nat_cmp n)) es ≡ es
@@ -176,35 +177,36 @@ module _ {T : Type 0} where
   unfolding IsStrictlySortedBy
   entries-emptied [] n at rising is = absurd is
   entries-emptied (slot ∷ slots) n zero rising is =
-      subst (λ k. entries_of slots ≡ remove_entry (is_at (nat_cmp k)) (joined slot.number slot.value (entries_of slots))) is
-      (sym (remove-here slot.number slot.value (entries_of slots) (lookup-none slot.number (entries_of slots) (entries-below slot.number slots rising.0))))
+      subst (λ k. entries_of slots ≡ remove_entry (is_at (nat_cmp k)) (joined (number_of slot) (value_of slot) (entries_of slots))) is
+      (sym (remove-here (number_of slot) (value_of slot) (entries_of slots) (lookup-none (number_of slot) (entries_of slots) (entries-below (number_of slot) slots rising.0))))
   entries-emptied (slot ∷ slots) n (suc at) rising is =
-      ap (joined slot.number slot.value) (entries-emptied slots n at rising.1 is)
-      ∙ sym (remove-past n slot.number slot.value (entries_of slots) (apart slot.number n (at-above slot.number n at slots rising.0 is)))
+      ap (joined (number_of slot) (value_of slot)) (entries-emptied slots n at rising.1 is)
+      ∙ sym (remove-past n (number_of slot) (value_of slot) (entries_of slots) (apart (number_of slot) n (at-above (number_of slot) n at slots rising.0 is)))
 
   pub numbers-same : (slots : List (Slot T)) (at : ℕ) (v : Option T) → numbers_of (with_value slots at v) ≡ numbers_of slots
   numbers-same [] at v = refl
-  numbers-same (slot ∷ slots) zero v = refl
-  numbers-same (slot ∷ slots) (suc at) v = ap (λ ns. slot.number ∷ ns) (numbers-same slots at v)
+  numbers-same (slot ∷ slots) zero None = refl
+  numbers-same (slot ∷ slots) zero (Some x) = refl
+  numbers-same (slot ∷ slots) (suc at) v = ap (λ ns. number_of slot ∷ ns) (numbers-same slots at v)
 
-  below-put : (m n at : ℕ) (x : T) (slots : List (Slot T)) → m < n → IsBelow m (numbers_of slots) → IsBelow m (numbers_of (insert slots at (record { number = n; value = Some x })))
+  below-put : (m n at : ℕ) (x : T) (slots : List (Slot T)) → m < n → IsBelow m (numbers_of slots) → IsBelow m (numbers_of (insert slots at (Held n x)))
   below-put m n zero x slots below all = (lt-less m n below, all)
   below-put m n (suc at) x [] below all = (lt-less m n below, tt)
   below-put m n (suc at) x (slot ∷ slots) below all = (all.0, below-put m n at x slots below all.1)
 
   pub put-sorted : (slots : List (Slot T)) (n at : ℕ) (x : T) → IsStrictlySortedBy nat_cmp (numbers_of slots) → IsBetween slots n at
-      → IsStrictlySortedBy nat_cmp (numbers_of (insert slots at (record { number = n; value = Some x })))
+      → IsStrictlySortedBy nat_cmp (numbers_of (insert slots at (Held n x)))
   unfolding IsStrictlySortedBy
   put-sorted [] n at x rising is = rw is (tt, tt)
-  put-sorted (slot ∷ slots) n zero x rising is = ((lt-less n slot.number is, below-more n slot.number (numbers_of slots) is rising.0), rising)
-  put-sorted (slot ∷ slots) n (suc at) x rising is = (below-put slot.number n at x slots is.0 rising.0, put-sorted slots n at x rising.1 is.1)
+  put-sorted (slot ∷ slots) n zero x rising is = ((lt-less n (number_of slot) is, below-more n (number_of slot) (numbers_of slots) is rising.0), rising)
+  put-sorted (slot ∷ slots) n (suc at) x rising is = (below-put (number_of slot) n at x slots is.0 rising.0, put-sorted slots n at x rising.1 is.1)
 
   pub begins-filled : (slots : List (Slot T)) (at : ℕ) (x : T) → begins_empty slots ≡ false → begins_empty (with_value slots at (Some x)) ≡ false
   begins-filled [] at x full = refl
   begins-filled (slot ∷ slots) zero x full = refl
   begins-filled (slot ∷ slots) (suc at) x full = full
 
-  pub begins-put : (slots : List (Slot T)) (n at : ℕ) (x : T) → begins_empty slots ≡ false → begins_empty (insert slots at (record { number = n; value = Some x })) ≡ false
+  pub begins-put : (slots : List (Slot T)) (n at : ℕ) (x : T) → begins_empty slots ≡ false → begins_empty (insert slots at (Held n x)) ≡ false
   begins-put [] n zero x full = refl
   begins-put [] n (suc at) x full = refl
   begins-put (slot ∷ slots) n zero x full = refl
@@ -218,22 +220,22 @@ module _ {T : Type 0} where
   pub count-filled : (slots : List (Slot T)) (n at : ℕ) (x : T) → IsAt slots n at → value_at slots at ≡ None → length (entries_of (with_value slots at (Some x))) ≡ length (entries_of slots) + 1
   count-filled [] n at x is none = absurd is
   count-filled (slot ∷ slots) n zero x is none = rw none (omega arith)
-  count-filled (slot ∷ slots) n (suc at) x is none = joined-length slot.number slot.value _ _ 1 (count-filled slots n at x is none)
+  count-filled (slot ∷ slots) n (suc at) x is none = joined-length (number_of slot) (value_of slot) _ _ 1 (count-filled slots n at x is none)
 
   pub count-changed : (slots : List (Slot T)) (n at : ℕ) (x y : T) → IsAt slots n at → value_at slots at ≡ Some y → length (entries_of (with_value slots at (Some x))) ≡ length (entries_of slots) + 0
   count-changed [] n at x y is some = absurd is
   count-changed (slot ∷ slots) n zero x y is some = rw some (omega arith)
-  count-changed (slot ∷ slots) n (suc at) x y is some = joined-length slot.number slot.value _ _ 0 (count-changed slots n at x y is some)
+  count-changed (slot ∷ slots) n (suc at) x y is some = joined-length (number_of slot) (value_of slot) _ _ 0 (count-changed slots n at x y is some)
 
   pub count-emptied : (slots : List (Slot T)) (n at : ℕ) (y : T) → IsAt slots n at → value_at slots at ≡ Some y → length (entries_of slots) ≡ length (entries_of (with_value slots at None)) + 1
   count-emptied [] n at y is some = absurd is
   count-emptied (slot ∷ slots) n zero y is some = rw some (omega arith)
-  count-emptied (slot ∷ slots) n (suc at) y is some = joined-length slot.number slot.value _ _ 1 (count-emptied slots n at y is some)
+  count-emptied (slot ∷ slots) n (suc at) y is some = joined-length (number_of slot) (value_of slot) _ _ 1 (count-emptied slots n at y is some)
 
-  pub count-put : (slots : List (Slot T)) (n at : ℕ) (x : T) → length (entries_of (insert slots at (record { number = n; value = Some x }))) ≡ length (entries_of slots) + 1
+  pub count-put : (slots : List (Slot T)) (n at : ℕ) (x : T) → length (entries_of (insert slots at (Held n x))) ≡ length (entries_of slots) + 1
   count-put slots n zero x = omega arith
   count-put [] n (suc at) x = refl
-  count-put (slot ∷ slots) n (suc at) x = joined-length slot.number slot.value _ _ 1 (count-put slots n at x)
+  count-put (slot ∷ slots) n (suc at) x = joined-length (number_of slot) (value_of slot) _ _ 1 (count-put slots n at x)
 
   pub kept-none : (slots : List (Slot T)) → slots ≡ [] → AreKept slots 0
   unfolding IsStrictlySortedBy
@@ -241,30 +243,30 @@ module _ {T : Type 0} where
 
   pub entries-fewer : (slots : List (Slot T)) → length (entries_of slots) ≤ length slots
   entries-fewer [] = omega arith
-  entries-fewer (slot ∷ slots) = by slot.value (entries-fewer slots)
+  entries-fewer (slot ∷ slots) = by (value_of slot) (entries-fewer slots)
     where
-      by : (v : Option T) → length (entries_of slots) ≤ length slots → length (joined slot.number v (entries_of slots)) ≤ length (slot ∷ slots)
+      by : (v : Option T) → length (entries_of slots) ≤ length slots → length (joined (number_of slot) v (entries_of slots)) ≤ length (slot ∷ slots)
       by None fewer = omega (arith, fewer)
       by (Some x) fewer = omega (arith, fewer)
 
-  pub value-here : (slots : List (Slot T)) (at : ℕ) (slot : Slot T) → at < length slots → slot ≡ slice_index_or slots at slot → slot.value ≡ value_at slots at
+  pub value-here : (slots : List (Slot T)) (at : ℕ) (slot : Slot T) → at < length slots → slot ≡ slice_index_or slots at slot → value_of slot ≡ value_at slots at
   value-here [] at slot within is = absurd (omega (arith, within))
-  value-here (first ∷ slots) zero slot within is = ap (λ (s : Slot T). s.value) is
+  value-here (first ∷ slots) zero slot within is = ap value_of is
   value-here (first ∷ slots) (suc at) slot within is = value-here slots at slot (omega (arith, within)) is
 
   abbrev valued : Option T → Slot T → Slot T
-  valued v slot = record { number = slot.number; value = v }
+  valued v slot = slot_of (number_of slot) v
 
   -- a write of a slot's value
   pub set-here : (slots : List (Slot T)) (at : ℕ) (slot : Slot T) (v : Option T) → at < length slots → slot ≡ slice_index_or slots at slot
-      → slice_set slots at (record { number = slot.number; value = v }) ≡ with_value slots at v
+      → slice_set slots at (slot_of (number_of slot) v) ≡ with_value slots at v
   set-here [] at slot v within is = absurd (omega (arith, within))
   set-here (first ∷ slots) zero slot v within is = ap (λ (s : Slot T). valued v s ∷ slots) is
   set-here (first ∷ slots) (suc at) slot v within is = ap (λ l. first ∷ l) (set-here slots at slot v (omega (arith, within)) is)
 
-  pub at-here : (slots : List (Slot T)) (n at : ℕ) (slot : Slot T) → at < length slots → slot ≡ slice_index_or slots at slot → slot.number ≡ n → IsAt slots n at
+  pub at-here : (slots : List (Slot T)) (n at : ℕ) (slot : Slot T) → at < length slots → slot ≡ slice_index_or slots at slot → number_of slot ≡ n → IsAt slots n at
   at-here [] n at slot within is named = absurd (omega (arith, within))
-  at-here (first ∷ slots) n zero slot within is named = sym (ap (λ (s : Slot T). s.number) is) ∙ named
+  at-here (first ∷ slots) n zero slot within is named = sym (ap number_of is) ∙ named
   at-here (first ∷ slots) n (suc at) slot within is named = at-here slots n at slot (omega (arith, within)) is named
 
   pub at-within : (slots : List (Slot T)) (n at : ℕ) → IsAt slots n at → at < length slots
@@ -278,43 +280,43 @@ module _ {T : Type 0} where
   between-within (slot ∷ slots) n (suc at) is = omega (arith, between-within slots n at is.1)
 
   -- a number above the last one
-  pub past : (slots : List (Slot T)) (n k : ℕ) (last : Slot T) → IsStrictlySortedBy nat_cmp (numbers_of slots) → k + 1 ≡ length slots → last ≡ slice_index_or slots k last → last.number < n → IsBetween slots n (length slots)
+  pub past : (slots : List (Slot T)) (n k : ℕ) (last : Slot T) → IsStrictlySortedBy nat_cmp (numbers_of slots) → k + 1 ≡ length slots → last ≡ slice_index_or slots k last → number_of last < n → IsBetween slots n (length slots)
   unfolding IsStrictlySortedBy
   past [] n k last rising end is below = refl
-  past (slot ∷ []) n zero last rising end is below = (subst (λ (s : Slot T). s.number < n) is below, refl)
+  past (slot ∷ []) n zero last rising end is below = (subst (λ (s : Slot T). number_of s < n) is below, refl)
   past (slot ∷ []) n (suc k) last rising end is below = absurd (omega (arith, end))
   past (slot ∷ next ∷ slots) n zero last rising end is below = absurd (omega (arith, end))
   past (slot ∷ next ∷ slots) n (suc k) last rising end is below =
       let rest = past (next ∷ slots) n k last rising.1 (omega (arith, end)) is below in
-      (omega (arith, less-lt slot.number next.number rising.0.0, rest.0), rest)
+      (omega (arith, less-lt (number_of slot) (number_of next) rising.0.0, rest.0), rest)
 
   -- what a binary search says
-  pub at-searched : (slots : List (Slot T)) (n at : ℕ) → at < length slots → HoldsAt (λ s. nat_cmp s.number n ≡ Equal) slots at → IsAt slots n at
+  pub at-searched : (slots : List (Slot T)) (n at : ℕ) → at < length slots → HoldsAt (λ s. nat_cmp (number_of s) n ≡ Equal) slots at → IsAt slots n at
   at-searched [] n at within is = absurd (omega (arith, within))
-  at-searched (slot ∷ slots) n zero within is = equal-same slot.number n (is slot)
+  at-searched (slot ∷ slots) n zero within is = equal-same (number_of slot) n (is slot)
   at-searched (slot ∷ slots) n (suc at) within is = at-searched slots n at (omega (arith, within)) is
 
-  pub between-searched : (slots : List (Slot T)) (n at : ℕ) → at ≤ length slots → AllWithin (λ s. nat_cmp s.number n ≡ Less) slots 0 at → AllWithin (λ s. nat_cmp s.number n ≡ Greater) slots at (length slots) → IsBetween slots n at
+  pub between-searched : (slots : List (Slot T)) (n at : ℕ) → at ≤ length slots → AllWithin (λ s. nat_cmp (number_of s) n ≡ Less) slots 0 at → AllWithin (λ s. nat_cmp (number_of s) n ≡ Greater) slots at (length slots) → IsBetween slots n at
   between-searched [] n at within below above = omega (arith, within)
-  between-searched (slot ∷ slots) n zero within below above = greater-lt slot.number n (above zero slot (omega arith) (omega arith))
+  between-searched (slot ∷ slots) n zero within below above = greater-lt (number_of slot) n (above zero slot (omega arith) (omega arith))
   between-searched (slot ∷ slots) n (suc at) within below above = (
-    less-lt slot.number n (below zero slot (omega arith) (omega arith)),
+    less-lt (number_of slot) n (below zero slot (omega arith) (omega arith)),
     between-searched slots n at (omega (arith, within)) (λ k d low high. below (suc k) d (omega arith) (omega (arith, high))) (λ k d low high. above (suc k) d (omega (arith, low)) (omega (arith, high))),
   )
 
-  in-order : (slots : List (Slot T)) → IsStrictlySortedBy nat_cmp (numbers_of slots) → (k : ℕ) (d : Slot T) → suc k < length slots → is_lt (nat_cmp (slice_index_or slots (suc k) d).number (slice_index_or slots k d).number) ≡ false
+  in-order : (slots : List (Slot T)) → IsStrictlySortedBy nat_cmp (numbers_of slots) → (k : ℕ) (d : Slot T) → suc k < length slots → is_lt (nat_cmp (number_of (slice_index_or slots (suc k) d)) (number_of (slice_index_or slots k d))) ≡ false
   unfolding IsStrictlySortedBy
   in-order [] rising k d within = absurd (omega (arith, within))
   in-order (slot ∷ []) rising k d within = absurd (omega (arith, within))
-  in-order (slot ∷ next ∷ slots) rising zero d within = ap is_lt (lt-greater slot.number next.number (less-lt slot.number next.number rising.0.0))
+  in-order (slot ∷ next ∷ slots) rising zero d within = ap is_lt (lt-greater (number_of slot) (number_of next) (less-lt (number_of slot) (number_of next) rising.0.0))
   in-order (slot ∷ next ∷ slots) rising (suc k) d within = in-order (next ∷ slots) rising.1 k d (omega (arith, within))
 
-  pub searchable : (slots : List (Slot T)) (n : ℕ) → IsStrictlySortedBy nat_cmp (numbers_of slots) → IsNonDecreasingBy (λ s. ordering_index (nat_cmp s.number n)) slots
-  searchable slots n rising = searchable_from_sorted nat_cmp_total (λ (s : Slot T). s.number) slots n (λ k d low high.
+  pub searchable : (slots : List (Slot T)) (n : ℕ) → IsStrictlySortedBy nat_cmp (numbers_of slots) → IsNonDecreasingBy (λ s. ordering_index (nat_cmp (number_of s) n)) slots
+  searchable slots n rising = searchable_from_sorted nat_cmp_total number_of slots n (λ k d low high.
       let one : suc k ≡ k + 1 = omega arith in
-      subst (λ i. is_lt (nat_cmp (slice_index_or slots i d).number (slice_index_or slots k d).number) ≡ false) one (in-order slots rising k d (omega (arith, high))))
+      subst (λ i. is_lt (nat_cmp (number_of (slice_index_or slots i d)) (number_of (slice_index_or slots k d))) ≡ false) one (in-order slots rising k d (omega (arith, high))))
 
-  pub placed : (slots : List (Slot T)) (n : ℕ) (r : Result ℕ ℕ) → IsStrictlySortedBy nat_cmp (numbers_of slots) → IsSearchInRange r (length slots) → IsBinarySearchResult (λ s. nat_cmp s.number n) slots r → IsPlaced slots n r
+  pub placed : (slots : List (Slot T)) (n : ℕ) (r : Result ℕ ℕ) → IsStrictlySortedBy nat_cmp (numbers_of slots) → IsSearchInRange r (length slots) → IsBinarySearchResult (λ s. nat_cmp (number_of s) n) slots r → IsPlaced slots n r
   placed slots n (Ok at) rising within is = at-searched slots n at within is
   placed slots n (Err at) rising within is =
       let parted = is (searchable slots n rising) in
@@ -322,31 +324,31 @@ module _ {T : Type 0} where
 
   -- whether a slot has a value
   abbrev pub is_full : Slot T → Bool
-  is_full slot = is_some slot.value
+  is_full slot = is_some (value_of slot)
 
   pub full-entries : (slots : List (Slot T)) → entries_of (filter is_full slots) ≡ entries_of slots
   full-entries [] = refl
-  full-entries (slot ∷ slots) = by slot.value refl (full-entries slots)
+  full-entries (slot ∷ slots) = by (value_of slot) refl (full-entries slots)
     where
-      by : (v : Option T) → slot.value ≡ v → entries_of (filter is_full slots) ≡ entries_of slots
-          → entries_of (cond (is_some v) (slot ∷ filter is_full slots) (filter is_full slots)) ≡ joined slot.number v (entries_of slots)
+      by : (v : Option T) → value_of slot ≡ v → entries_of (filter is_full slots) ≡ entries_of slots
+          → entries_of (cond (is_some v) (slot ∷ filter is_full slots) (filter is_full slots)) ≡ joined (number_of slot) v (entries_of slots)
       by None is same = same
-      by (Some x) is same = rw is (ap (λ l. (slot.number, x) ∷ l) same)
+      by (Some x) is same = rw is (ap (λ l. (number_of slot, x) ∷ l) same)
 
   below-filtered : (m : ℕ) (test : Slot T → Bool) (slots : List (Slot T)) → IsBelow m (numbers_of slots) → IsBelow m (numbers_of (filter test slots))
   below-filtered m test [] all = tt
   below-filtered m test (slot ∷ slots) all = by (test slot) all.0 (below-filtered m test slots all.1)
     where
-      by : (b : Bool) → nat_cmp m slot.number ≡ Less → IsBelow m (numbers_of (filter test slots)) → IsBelow m (numbers_of (cond b (slot ∷ filter test slots) (filter test slots)))
+      by : (b : Bool) → nat_cmp m (number_of slot) ≡ Less → IsBelow m (numbers_of (filter test slots)) → IsBelow m (numbers_of (cond b (slot ∷ filter test slots) (filter test slots)))
       by true less rest = (less, rest)
       by false less rest = rest
 
   pub filtered-sorted : (test : Slot T → Bool) (slots : List (Slot T)) → IsStrictlySortedBy nat_cmp (numbers_of slots) → IsStrictlySortedBy nat_cmp (numbers_of (filter test slots))
   unfolding IsStrictlySortedBy
   filtered-sorted test [] rising = tt
-  filtered-sorted test (slot ∷ slots) rising = by (test slot) (below-filtered slot.number test slots rising.0) (filtered-sorted test slots rising.1)
+  filtered-sorted test (slot ∷ slots) rising = by (test slot) (below-filtered (number_of slot) test slots rising.0) (filtered-sorted test slots rising.1)
     where
-      by : (b : Bool) → IsBelow slot.number (numbers_of (filter test slots)) → IsStrictlySortedBy nat_cmp (numbers_of (filter test slots)) → IsStrictlySortedBy nat_cmp (numbers_of (cond b (slot ∷ filter test slots) (filter test slots)))
+      by : (b : Bool) → IsBelow (number_of slot) (numbers_of (filter test slots)) → IsStrictlySortedBy nat_cmp (numbers_of (filter test slots)) → IsStrictlySortedBy nat_cmp (numbers_of (cond b (slot ∷ filter test slots) (filter test slots)))
       by true below rest = (below, rest)
       by false below rest = rest
 
@@ -359,7 +361,7 @@ module _ {T : Type 0} where
   begins-full (slot ∷ slots) = by (is_full slot) refl (begins-full slots)
     where
       by : (b : Bool) → is_full slot ≡ b → begins_empty (filter is_full slots) ≡ false → begins_empty (cond b (slot ∷ filter is_full slots) (filter is_full slots)) ≡ false
-      by true full rest = some-not-none slot.value full
+      by true full rest = some-not-none (value_of slot) full
       by false empty rest = rest
 
   none-is : (v : Option T) → is_none v ≡ true → v ≡ None
@@ -371,7 +373,7 @@ module _ {T : Type 0} where
       → IsStrictlySortedBy nat_cmp (numbers_of slots) → (entries_of rest ≡ entries_of slots) × IsStrictlySortedBy nat_cmp (numbers_of rest)
   unfolding IsStrictlySortedBy
   past-empty [] slots rest is empty one rising = (ap entries_of (sym is), rw (← is) rising)
-  past-empty (slot ∷ []) slots rest is empty one rising = (rw is (sym (ap (λ v. joined slot.number v (entries_of rest)) (none-is slot.value (rw is at empty)))), (rw is at rising).1)
+  past-empty (slot ∷ []) slots rest is empty one rising = (rw is (sym (ap (λ v. joined (number_of slot) v (entries_of rest)) (none-is (value_of slot) (rw is at empty)))), (rw is at rising).1)
   past-empty (slot ∷ next ∷ more) slots rest is empty one rising = absurd (omega (arith, one))
 
   pub few : (slots : List (Slot T)) (count bound : ℕ) → AreKept slots count → length slots < bound → count < bound
@@ -388,7 +390,7 @@ module _ {T : Type 0} where
       by None none = ap (λ i. i + 1) kept.counted ∙ sym (count-filled slots n at x is none)
       by (Some y) some = ap (λ i. i + 0) kept.counted ∙ sym (count-changed slots n at x y is some)
 
-  pub kept-put : (slots : List (Slot T)) (count n at : ℕ) (x : T) → AreKept slots count → IsBetween slots n at → AreKept (insert slots at (record { number = n; value = Some x })) (count + 1)
+  pub kept-put : (slots : List (Slot T)) (count n at : ℕ) (x : T) → AreKept slots count → IsBetween slots n at → AreKept (insert slots at (Held n x)) (count + 1)
   kept-put slots count n at x kept is = record {
     rising = put-sorted slots n at x kept.rising is;
     counted = ap (λ i. i + 1) kept.counted ∙ sym (count-put slots n at x);
@@ -407,7 +409,8 @@ module _ {T : Type 0} where
   -- a slot that is given the value that it has
   pub same-value : (slots : List (Slot T)) (at : ℕ) → with_value slots at (value_at slots at) ≡ slots
   same-value [] at = refl
-  same-value (slot ∷ slots) zero = refl
+  same-value (Held n x ∷ slots) zero = refl
+  same-value (Taken n ∷ slots) zero = refl
   same-value (slot ∷ slots) (suc at) = ap (λ l. slot ∷ l) (same-value slots at)
 
   pub with-same : (slots : List (Slot T)) (at : ℕ) (v : Option T) → v ≡ value_at slots at → with_value slots at v ≡ slots
@@ -448,7 +451,7 @@ kept-in-turn g keep R I step (b ∷ bs) (slot ∷ slots) p q i turns =
 module _ {F T : Type 0} (g : Shared F (Bor T × Unit {0}) Bool) (keep : F) where
   -- an empty slot isn't kept
   kept-full : (slot : Slot T) → IsKeptBy g keep slot true → is_full slot ≡ true
-  kept-full slot is = by slot.value is
+  kept-full slot is = by (value_of slot) is
     where
       by : (v : Option T) → MatchOption v (true ≡ false) (λ value. FnReturnsAt g keep value true) → is_some v ≡ true
       by None no_value = absurd (let wrong = no_value in cc)
@@ -465,15 +468,15 @@ module _ {F T : Type 0} (g : Shared F (Bor T × Unit {0}) Bool) (keep : F) where
 
   full-counted : (slots : List (Slot T)) → AllFull slots → length slots ≡ length (entries_of slots)
   full-counted [] full = refl
-  full-counted (slot ∷ slots) full = by slot.value full.0 (full-counted slots full.1)
+  full-counted (slot ∷ slots) full = by (value_of slot) full.0 (full-counted slots full.1)
     where
-      by : (v : Option T) → is_some v ≡ true → length slots ≡ length (entries_of slots) → length (slot ∷ slots) ≡ length (joined slot.number v (entries_of slots))
+      by : (v : Option T) → is_some v ≡ true → length slots ≡ length (entries_of slots) → length (slot ∷ slots) ≡ length (joined (number_of slot) v (entries_of slots))
       by None some same = absurd (let wrong = some in cc)
       by (Some x) some same = ap suc same
 
   full-begins : (slots : List (Slot T)) → AllFull slots → begins_empty slots ≡ false
   full-begins [] full = refl
-  full-begins (slot ∷ slots) full = some-not-none slot.value full.0
+  full-begins (slot ∷ slots) full = some-not-none (value_of slot) full.0
 
   left-below : (m : ℕ) (bs : List Bool) (slots : List (Slot T)) → IsBelow m (numbers_of slots) → IsBelow m (numbers_of (items_where_true bs slots))
   left-below m [] slots all = tt
@@ -485,7 +488,7 @@ module _ {F T : Type 0} (g : Shared F (Bor T × Unit {0}) Bool) (keep : F) where
   unfolding IsStrictlySortedBy
   left-sorted [] slots rising = tt
   left-sorted (b ∷ bs) [] rising = tt
-  left-sorted (true ∷ bs) (slot ∷ slots) rising = (left-below slot.number bs slots rising.0, left-sorted bs slots rising.1)
+  left-sorted (true ∷ bs) (slot ∷ slots) rising = (left-below (number_of slot) bs slots rising.0, left-sorted bs slots rising.1)
   left-sorted (false ∷ bs) (slot ∷ slots) rising = left-sorted bs slots rising.1
 
   pub kept-left : (bs : List Bool) (slots : List (Slot T)) (count : ℕ) → AreKept slots count → AreKeptBy g keep bs slots → AreKept (items_where_true bs slots) (length (items_where_true bs slots))
@@ -498,16 +501,16 @@ module _ {F T : Type 0} (g : Shared F (Bor T × Unit {0}) Bool) (keep : F) where
   entries-left test pure [] [] same are = refl
   entries-left test pure [] (slot ∷ slots) same are = absurd (omega (arith, same))
   entries-left test pure (b ∷ bs) [] same are = absurd (omega (arith, same))
-  entries-left test pure (true ∷ bs) (slot ∷ slots) same are = by slot.value refl are.0 (entries-left test pure bs slots (omega (arith, same)) are.1)
+  entries-left test pure (true ∷ bs) (slot ∷ slots) same are = by (value_of slot) refl are.0 (entries-left test pure bs slots (omega (arith, same)) are.1)
     where
-      by : (v : Option T) → slot.value ≡ v → MatchOption v (true ≡ false) (λ value. FnReturnsAt g keep value true) → entries_of (items_where_true bs slots) ≡ filter (λ e. test e.1) (entries_of slots)
-          → entries_of (slot ∷ items_where_true bs slots) ≡ filter (λ e. test e.1) (joined slot.number v (entries_of slots))
+      by : (v : Option T) → value_of slot ≡ v → MatchOption v (true ≡ false) (λ value. FnReturnsAt g keep value true) → entries_of (items_where_true bs slots) ≡ filter (λ e. test e.1) (entries_of slots)
+          → entries_of (slot ∷ items_where_true bs slots) ≡ filter (λ e. test e.1) (joined (number_of slot) v (entries_of slots))
       by None is no_value rest = absurd (let wrong = no_value in cc)
-      by (Some x) is says rest = rw (is, ← pure.by x true says) (ap (λ l. (slot.number, x) ∷ l) rest)
-  entries-left test pure (false ∷ bs) (slot ∷ slots) same are = by slot.value are.0 (entries-left test pure bs slots (omega (arith, same)) are.1)
+      by (Some x) is says rest = rw (is, ← pure.by x true says) (ap (λ l. (number_of slot, x) ∷ l) rest)
+  entries-left test pure (false ∷ bs) (slot ∷ slots) same are = by (value_of slot) are.0 (entries-left test pure bs slots (omega (arith, same)) are.1)
     where
       by : (v : Option T) → MatchOption v (false ≡ false) (λ value. FnReturnsAt g keep value false) → entries_of (items_where_true bs slots) ≡ filter (λ e. test e.1) (entries_of slots)
-          → entries_of (items_where_true bs slots) ≡ filter (λ e. test e.1) (joined slot.number v (entries_of slots))
+          → entries_of (items_where_true bs slots) ≡ filter (λ e. test e.1) (joined (number_of slot) v (entries_of slots))
       by None says rest = rest
       by (Some x) says rest = rw (← pure.by x false says) rest
 
@@ -530,14 +533,14 @@ module _ {F T : Type 0} (g : Shared F (Bor T × Unit {0}) Bool) (keep : F) where
   pub fewer-left : (test : ℕ × T → Bool) (bs : List Bool) (slots : List (Slot T)) → length (filter test (entries_of (items_where_true bs slots))) ≤ length (filter test (entries_of slots))
   fewer-left test [] slots = omega arith
   fewer-left test (b ∷ bs) [] = omega arith
-  fewer-left test (true ∷ bs) (slot ∷ slots) = filter-joined test slot.number slot.value _ _ (fewer-left test bs slots)
-  fewer-left test (false ∷ bs) (slot ∷ slots) = omega (arith, fewer-left test bs slots, filter-more test slot.number slot.value (entries_of slots))
+  fewer-left test (true ∷ bs) (slot ∷ slots) = filter-joined test (number_of slot) (value_of slot) _ _ (fewer-left test bs slots)
+  fewer-left test (false ∷ bs) (slot ∷ slots) = omega (arith, fewer-left test bs slots, filter-more test (number_of slot) (value_of slot) (entries_of slots))
 
   pub found-left : (n : ℕ) (x : T) (bs : List Bool) (slots : List (Slot T)) → IsStrictlySortedBy nat_cmp (numbers_of slots) → lookup (is_at (nat_cmp n)) (entries_of (items_where_true bs slots)) ≡ Some x → lookup (is_at (nat_cmp n)) (entries_of slots) ≡ Some x
   unfolding IsStrictlySortedBy
   found-left n x [] slots rising some = absurd (let wrong = some in cc)
   found-left n x (b ∷ bs) [] rising some = absurd (let wrong = some in cc)
-  found-left n x (true ∷ bs) (slot ∷ slots) rising some = found-joined n slot.number x slot.value _ _ (found-left n x bs slots rising.1) some
+  found-left n x (true ∷ bs) (slot ∷ slots) rising some = found-joined n (number_of slot) x (value_of slot) _ _ (found-left n x bs slots rising.1) some
   found-left n x (false ∷ bs) (slot ∷ slots) rising some =
       let rest = found-left n x bs slots rising.1 some in
-      lookup-past n slot.number slot.value (entries_of slots) (above-apart n slot.number (entries_of slots) (entries-below slot.number slots rising.0) (λ none. let wrong = sym rest ∙ none in cc)) ∙ rest
+      lookup-past n (number_of slot) (value_of slot) (entries_of slots) (above-apart n (number_of slot) (entries_of slots) (entries-below (number_of slot) slots rising.0) (λ none. let wrong = sym rest ∙ none in cc)) ∙ rest

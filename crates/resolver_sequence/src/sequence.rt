@@ -7,11 +7,13 @@ ghost use Rattle.std.specs.Map.{keys_of, lookup, remove_entry};
 ghost use Rattle.std.specs.Option.{option_copied, option_map};
 ghost use Rattle.std.specs.Ordering.{nat_cmp};
 ghost use Rattle.resolver_base.specs.Answering.{AnswersBy};
-ghost use Rattle.resolver_sequence.specs.Sequence.{AreKept, IsKeptBy, IsPlaced, begins_empty, entries_of, numbers_of, value_at, with_value};
+ghost use Rattle.resolver_sequence.specs.declared.sequence.Slot.TheVariants.{Held};
+ghost use Rattle.resolver_sequence.specs.Sequence.{AreKept, IsKeptBy, IsPlaced, begins_empty, entries_of, number_of, numbers_of, slot_of, value_at, value_of, with_value};
 
 use std::alloc::{AllocFailed, Global};
 use std::collections::VecDeque;
 use std::marker::Model;
+use std::mem;
 
 /// Values under numbers, in their order, for numbers that mostly go up and are taken in about that order, as the ids of
 /// requests are.
@@ -28,11 +30,59 @@ pub struct Sequence<T> {
     held: usize,
 }
 
-/// A number, and its value until that is taken.
+/// A number with its value, and alone once that is taken.
 #[derive(Debug, Drop)]
-pub struct Slot<T> {
-    pub number: u64,
-    pub value: Option<T>,
+pub enum Slot<T> {
+    Held { number: u64, value: T },
+    Taken { number: u64 },
+}
+
+impl<T> Slot<T> {
+    /// The number.
+    fn number(&self) -> u64
+        ensures { result ≡ number_of self.now }
+    {
+        match self {
+            Slot::Held { number, .. } | Slot::Taken { number } => *number,
+        }
+    }
+
+    /// The value, unless it was taken.
+    fn value(&self) -> Option<&T>
+        ensures { option_copied result ≡ value_of self.now }
+    {
+        match self {
+            Slot::Held { value, .. } => Some(value),
+            Slot::Taken { .. } => None,
+        }
+    }
+
+    /// Puts a value in place of the one that is there.
+    fn replace(&mut self, value: T) -> Option<T>
+        ensures had { result ≡ value_of self.old }
+        ensures after { self.new ≡ slot_of (number_of self.old) (Some value) }
+    {
+        let number = self.number();
+        mem::replace(self, Slot::Held { number, value }).into_value()
+    }
+
+    /// Takes the value out.
+    fn take(&mut self) -> Option<T>
+        ensures had { result ≡ value_of self.old }
+        ensures after { self.new ≡ slot_of (number_of self.old) None }
+    {
+        let number = self.number();
+        mem::replace(self, Slot::Taken { number }).into_value()
+    }
+
+    fn into_value(self) -> Option<T>
+        ensures { result ≡ value_of self }
+    {
+        match self {
+            Slot::Held { value, .. } => Some(value),
+            Slot::Taken { .. } => None,
+        }
+    }
 }
 
 impl<T> Model for Sequence<T> {
@@ -78,7 +128,7 @@ impl<T: Drop> Sequence<T> {
         ensures { option_copied result ≡ lookup (is_at (nat_cmp number)) self.now }
     {
         match place(&self.slots, number) {
-            Ok(at) => self.slots[at].value.as_ref(),
+            Ok(at) => self.slots[at].value(),
             Err(_) => None,
         }
     }
@@ -95,8 +145,8 @@ impl<T: Drop> Sequence<T> {
         ensures { option_map (λ e. (e.0, e.1.now)) result ≡ slice_get self.now 0 }
     {
         let slot = self.slots.front()?;
-        let value = slot.value.as_ref()?;
-        Some((slot.number, value))
+        let value = slot.value()?;
+        Some((slot.number(), value))
     }
 
     /// The numbers in their order, each with its value, and some whose value was taken.
@@ -183,19 +233,21 @@ fn place<T>(slots: &VecDeque<Slot<T>>, number: u64) -> Result<usize, usize>
     requires { IsStrictlySortedBy nat_cmp (numbers_of slots.now.items) }
     ensures { IsPlaced slots.now.items number result }
 {
-    let (Some(first), Some(last)) = (slots.front(), slots.back()) else {
+    let Some(first) = slots.front() else {
         return Err(0);
     };
-    if last.number < number {
-        return Err(slots.len());
-    }
-    let at = number.wrapping_sub(first.number) as usize;
+    let at = number.wrapping_sub(first.number()) as usize;
     if let Some(slot) = slots.get(at) {
-        if slot.number == number {
+        if slot.number() == number {
             return Ok(at);
         }
     }
-    slots.binary_search_by_key(&number, |slot| slot.number)
+    if let Some(last) = slots.back() {
+        if last.number() < number {
+            return Err(slots.len());
+        }
+    }
+    slots.binary_search_by_key(&number, |slot| slot.number())
 }
 
 /// Gives the slot at a place a value, and answers by how many there are more then: one, if it was empty.
@@ -204,7 +256,7 @@ fn fill<T: Drop>(slots: &mut VecDeque<Slot<T>>, at: usize, value: T) -> usize
     ensures more { result ≡ (if is_none (value_at slots.old.items at) then 1 else 0) }
     ensures after { slots.new.items ≡ with_value slots.old.items at (Some value) }
 {
-    match slots[at].value.replace(value) {
+    match slots[at].replace(value) {
         Some(_) => 0,
         None => 1,
     }
@@ -216,7 +268,7 @@ fn empty<T: Drop>(slots: &mut VecDeque<Slot<T>>, at: usize) -> Option<T>
     ensures had { result ≡ value_at slots.old.items at }
     ensures after { slots.new.items ≡ with_value slots.old.items at None }
 {
-    slots[at].value.take()
+    slots[at].take()
 }
 
 /// Puts a slot with a value at a place, before the one that stands there. Where memory is refused, the value is
@@ -229,16 +281,13 @@ fn put<T: Drop>(
 ) -> Result<(), AllocFailed<T>>
     requires { at ≤ length slots.old.items }
     ensures ok { OnOk result (slots.new.items
-        ≡ insert slots.old.items at (record { number = number; value = Some value })) }
+        ≡ insert slots.old.items at (Held number value)) }
     ensures err { OnErr result (slots.new.items ≡ slots.old.items) }
     ensures value_returned { IfErr result (λ refused. refused.value ≡ value) }
 {
-    let slot = Slot {
-        number,
-        value: Some(value),
-    };
+    let slot = Slot::Held { number, value };
     if let Err(refused) = slots.insert(at, slot) {
-        let Some(value) = refused.value.value else {
+        let Slot::Held { value, .. } = refused.value else {
             unreachable!()
         };
         return Err(AllocFailed { value });
@@ -263,7 +312,7 @@ fn begins_empty<T>(slots: &VecDeque<Slot<T>>) -> bool
     ensures { result ≡ begins_empty slots.now.items }
 {
     match slots.front() {
-        Some(slot) => slot.value.is_none(),
+        Some(slot) => slot.value().is_none(),
         None => false,
     }
 }
@@ -277,7 +326,7 @@ fn squeeze<T: Drop>(slots: &mut VecDeque<Slot<T>>, held: usize)
     ensures full { begins_empty slots.new.items ≡ false }
 {
     if slots.len() / 2 > held {
-        slots.retain(|slot| slot.value.is_some());
+        slots.retain(|slot| slot.value().is_some());
     }
 }
 
@@ -286,7 +335,7 @@ fn is_kept<T, F: Fn(&T) -> bool>(keep: &F, slot: &Slot<T>) -> bool
     requires { F.IsAlwaysCallable keep.now }
     ensures { IsKeptBy F.Fn keep.now slot.now result }
 {
-    match &slot.value {
+    match slot.value() {
         Some(value) => keep(value),
         None => false,
     }

@@ -11,7 +11,7 @@ ghost use Rattle.resolver_fetch_requests.specs.Requests.{soonest};
 
 use crate::requests::request::{ID, Request};
 use resolver_base::Fault;
-use resolver_sequence::Sequence;
+use resolver_sequence::sequence::{Sequence, Slot};
 use std::alloc::Global;
 use std::collections::BTreeSet;
 
@@ -144,8 +144,12 @@ fn pairs_of<K: Drop, P: Drop>(
 {
     let mut pairs = BTreeSet::new(alloc);
     for slot in requests.slots() {
-        if let Some(request) = &slot.value {
-            pairs.insert((request.deadline, slot.number))?;
+        if let Slot::Held {
+            number,
+            value: request,
+        } = slot
+        {
+            pairs.insert((request.deadline, *number))?;
         }
     }
     Ok(pairs)

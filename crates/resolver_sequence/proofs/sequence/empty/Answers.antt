@@ -1,13 +1,12 @@
-use Rattle.std.proofs.Common.{◌∙◌, ap}
-use Rattle.resolver_sequence.specs.Sequence.{with_value}
+use Rattle.std.proofs.Common.{◌∙◌, ap, None, slice_set}
 use Rattle.resolver_sequence.proofs.Slots.{set-here, value-here}
 use Rattle.resolver_sequence.proofs.sequence.empty.Goals as goal
 
 pub returns-clause-had : goal.returns-clause-had
 returns-clause-had g c =
-    c.take.ensures.value ∙ value-here c.args.slots.now.items c.args.at c.index_mut.result.now c.requires c.index_mut.ensures.value
+    c.take.ensures.had ∙ value-here c.args.slots.now.items c.args.at c.index_mut.result.now c.requires c.index_mut.ensures.value
 
 pub returns-clause-after : goal.returns-clause-after
 returns-clause-after g c =
-    set-here c.args.slots.now.items c.args.at c.index_mut.result.now c.take.new.self c.requires c.index_mut.ensures.value
-    ∙ ap (with_value c.args.slots.now.items c.args.at) c.take.ensures.after
+    ap (slice_set c.args.slots.now.items c.args.at) c.take.ensures.after
+    ∙ set-here c.args.slots.now.items c.args.at c.index_mut.result.now None c.requires c.index_mut.ensures.value

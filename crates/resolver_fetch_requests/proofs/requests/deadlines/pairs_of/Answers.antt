@@ -1,4 +1,4 @@
-use Rattle.std.proofs.Common.{◌≡◌, ◌∙◌, ◌∷◌, [], ap, option_map, rules, arith}
+use Rattle.std.proofs.Common.{◌≡◌, ◌∙◌, ◌∷◌, [], ap, rules, arith}
 use Rattle.std.proofs.lemmas.Grind.{common_steps}
 use Rattle.std.proofs.lemmas.Map.Keys.{sorted_tail}
 use Rattle.std.specs.List.{cons_option}
@@ -9,7 +9,7 @@ use Rattle.resolver_fetch_requests.specs.Deadlines.{times_of}
 use Rattle.resolver_fetch_requests.proofs.Soonest.{nil}
 use Rattle.resolver_fetch_requests.proofs.Timed.{all-put}
 use Rattle.resolver_fetch_requests.proofs.requests.deadlines.pairs_of.Goals as goal
-use Rattle.resolver_sequence.specs.Sequence.{entries_of}
+use Rattle.resolver_sequence.specs.Sequence.{entries_of, entry_in}
 
 pub loop-slot-init : goal.loop-slot-init
 loop-slot-init g c =
@@ -19,21 +19,19 @@ loop-slot-init g c =
 
 pub loop-slot-preserved-in_ok-insert : goal.loop-slot-preserved-in_ok-insert
 loop-slot-preserved-in_ok-insert g c =
-    let slot = c.in-Some.slot.now in
     let rest = entries_of (deque_iter_rest c.next.new.self) in
-    let left : entries_of (deque_iter_rest c.loop-slot.slot-iterator) ≡ (slot.number, c.in-Some-value.request) ∷ rest =
-    ap entries_of c.in-Some.ensures.steps ∙ ap (λ v. cons_option (option_map (λ r. (slot.number, r)) v) rest) c.in-Some-value.is in
+    let left : entries_of (deque_iter_rest c.loop-slot.slot-iterator) ≡ (c.in-Held.number, c.in-Held.request) ∷ rest =
+    ap entries_of c.in-Some.ensures.steps ∙ ap (λ slot. cons_option (entry_in slot) rest) c.in-Held.is in
     let so_far = rw left at c.loop-slot.invariant in (
-      sorted_tail nat_cmp slot.number (keys_of rest) so_far.0,
-      rw c.in_ok-insert.ensures.keys (all-put (times_of c.args.requests.now) c.loop-slot.pairs.keys (slot.number, c.in-Some-value.request) rest so_far.0 so_far.1),
+      sorted_tail nat_cmp c.in-Held.number (keys_of rest) so_far.0,
+      rw c.in_ok-insert.ensures.keys (all-put (times_of c.args.requests.now) c.loop-slot.pairs.keys (c.in-Held.number, c.in-Held.request) rest so_far.0 so_far.1),
     )
 
 pub loop-slot-preserved : goal.loop-slot-preserved
 loop-slot-preserved g c =
-    let slot = c.in-Some.slot.now in
     let rest = entries_of (deque_iter_rest c.next.new.self) in
     let left : entries_of (deque_iter_rest c.loop-slot.slot-iterator) ≡ rest =
-    ap entries_of c.in-Some.ensures.steps ∙ ap (λ v. cons_option (option_map (λ r. (slot.number, r)) v) rest) c.in_default.is in
+    ap entries_of c.in-Some.ensures.steps ∙ ap (λ slot. cons_option (entry_in slot) rest) c.in_default.is in
     rw left at c.loop-slot.invariant
 
 pub returns-clause-pairs : goal.returns-clause-pairs

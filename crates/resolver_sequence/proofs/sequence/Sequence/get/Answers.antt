@@ -14,7 +14,7 @@ pub returns-in-Ok : goal.returns-in-Ok
 returns-in-Ok g c =
     let slots = c.self.inside.slots in
     let within = at-within slots.items c.args.number c.in-Ok.at c.in-Ok.ensures in
-    c.as_ref.ensures.value ∙ value-here slots.items c.in-Ok.at c.index.result.now within c.index.ensures
+    c.value.ensures ∙ value-here slots.items c.in-Ok.at c.index.result.now within c.index.ensures
     ∙ sym (found slots.items c.args.number c.in-Ok.at c.self.invariant.rising c.in-Ok.ensures) ∙ ap (lookup (is_at (nat_cmp c.args.number))) c.self.view_is
 
 pub returns-in-Err : goal.returns-in-Err
