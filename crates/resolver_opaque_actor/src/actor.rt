@@ -47,6 +47,7 @@ use std::marker::{Model, PhantomData};
 ///     Ok(())
 /// }
 /// ```
+#[derive(Drop)]
 pub struct Actor<K: Ord, V, S: Ord, Q> {
     demand: Tracker<K, S>,
     stages: Stages<K, S, V>,
@@ -67,20 +68,6 @@ impl<K: Ord, V, S: Ord, Q> Model for Actor<K, V, S, Q> {
     ghost view = { machine_of };
 
     ghost invariant = { IsSound K.cmp };
-}
-
-// By hand: docs/PROVING.md says what that saves whoever owns one.
-impl<K: Ord + Drop, V: Drop, S: Ord + Drop, Q: Drop> Drop for Actor<K, V, S, Q> {
-    fn drop(self) {
-        let Self {
-            demand: _,
-            stages: _,
-            delay: _,
-            status: _,
-            alloc: _,
-            predicate: _,
-        } = self;
-    }
 }
 
 impl<K: Ord + Clone, V: Clone, S: Ord + Clone, Q: Predicate<K, S> + Drop> Actor<K, V, S, Q> {
