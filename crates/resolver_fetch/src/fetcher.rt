@@ -392,7 +392,9 @@ impl<K: Ord + Drop, P: Ord + Drop> Fetcher<K, P> {
         requires not_asked { is_asked K.cmp self.old.asked key.now ≡ false }
         ensures { self.new ≡ calls.clear (orders K.cmp P.cmp) key.now self.old }
     {
-        self.targets.remove(key);
+        if !self.targets.is_empty() {
+            self.targets.remove(key);
+        }
         self.retries.remove(key);
     }
 

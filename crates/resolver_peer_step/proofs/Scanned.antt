@@ -1,5 +1,5 @@
 -- What a scan does to the parts, from its beginning and from an answer.
-use Rattle.std.proofs.Common.{◌≡◌, ◌≢◌, refl, ap, sym, ◌∙◌, subst, ℕ, ◌≤◌, false, true, List, [], ◌++◌, map, Option, None, Some, Result, Ok, Err, append-nil, arith}
+use Rattle.std.proofs.Common.{◌≡◌, ◌≢◌, refl, ap, sym, ◌∙◌, subst, ℕ, ◌≤◌, false, true, List, [], ◌∷◌, ◌++◌, length, map, Option, None, Some, Result, Ok, Err, append-nil, arith}
 use Rattle.std.proofs.lemmas.Bool.Decides.{nat_tests}
 use Rattle.std.specs.Option.{option_map, option_to_list}
 use Rattle.std.specs.Prelude.{is_err, nat_le}
@@ -15,7 +15,9 @@ use Rattle.resolver_fetch_scan.specs.Fetcher as fetchers
 use Rattle.resolver_fetch_scan.specs.Fetcher.{AsksNewId, Fetcher, unless_over}
 use Rattle.resolver_fetch_scan.specs.Scan.{Scan, Turn, begins, goes_on_with, next, question_of, takes, takes_for}
 use Rattle.resolver_fetch_scan.specs.Snapshot.{Snapshot}
+use Rattle.resolver_fetch_scan.specs.Waiting as waits
 use Rattle.resolver_fetch_scan.specs.Waiting.{Waiting}
+use Rattle.resolver_fetch_scan.specs.declared.place.Place.{Place}
 use Rattle.resolver_model_peer.specs.Parties.{Parties, orders_of}
 use Rattle.resolver_model_peer.specs.Peer.{Effect, Machine, asking, is_due, scanned, snapshot, turned, wake_up}
 use Rattle.resolver_model_peer.specs.Peer as machines
@@ -37,6 +39,14 @@ due-now due now wakes is early = ap (λ wakes. is_due now wakes) (sym is) ∙ at
   where
     at : nat_le due now ≡ true
     at = grind (arith, nat_tests)
+
+-- no wake-up where no key waits
+pub none-wakes : {K P : Type 0} (f : Fetcher K P) → length f.waiting ≡ 0 → fetchers.pending_deadline f ≡ None
+none-wakes {K = K} f none = at f.waiting none
+  where
+    at : (waiting : List (Place × K)) → length waiting ≡ 0 → waits.wake_up (λ w. w.0.due) waiting f.waiter ≡ None
+    at [] none = refl
+    at (w ∷ ws) none = absurd (omega (arith, none))
 
 module _ {K S P : Type 0} (a : Parties K S P) (o : IsTotalOrder a.key) where
   -- the wake-up of the parts is the machine's

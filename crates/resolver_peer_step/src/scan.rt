@@ -65,6 +65,10 @@ impl<K: Span + Drop, P: Ord + Clone + Drop, S: Ord + Drop> Parts<K, P, S> {
             → is_due now (wake_up (parties K.cmp S.cmp P.cmp) m) ≡ true }
         ensures only { IfErr result (λ fault. fault ≡ OutOfMemory) }
     {
+        // Most events find that no key waits, which costs less to see than when one is due.
+        if self.fetcher.len_pending() == 0 {
+            return Ok(());
+        }
         let Some(due) = self.pending_deadline() else {
             return Ok(());
         };

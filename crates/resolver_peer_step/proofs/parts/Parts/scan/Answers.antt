@@ -1,9 +1,17 @@
-use Rattle.std.proofs.Common.{refl}
+use Rattle.std.proofs.Common.{◌≡◌, ◌∙◌, refl, sym, length, None, rules}
 use Rattle.resolver_model_peer.specs.Parties.{parties}
+use Rattle.resolver_model_peer.specs.Peer.{wake_up}
 use Rattle.resolver_peer_step.specs.Said.{codec}
 use Rattle.resolver_peer_step.proofs.Agreeing.{goes-last}
-use Rattle.resolver_peer_step.proofs.Scanned.{begun, due-now}
+use Rattle.resolver_peer_step.proofs.Scanned.{begun, due-now, none-wakes, wakes-same}
 use Rattle.resolver_peer_step.proofs.parts.Parts.scan.Goals as goal
+
+pub returns-then-len_pending-eq0-clause-goes : goal.returns-then-len_pending-eq0-clause-goes
+returns-then-len_pending-eq0-clause-goes g c = λ m is over.
+    let a = parties g.K.Ord.cmp g.S.Ord.cmp g.P.Ord.cmp in
+    let none : length c.args.self.now.fetcher.waiting ≡ 0 = search rules in
+    let wakes : wake_up a m ≡ None = sym (wakes-same a g.met.K.Ord.total c.args.self.now m is) ∙ none-wakes c.args.self.now.fetcher none in
+    search rules
 
 pub returns-clause-goes : goal.returns-clause-goes
 returns-clause-goes g c = λ m is over.
